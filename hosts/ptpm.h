@@ -1,7 +1,7 @@
-/* PTP management (IEEE 1588-2019, clause 15) for a host in C. An agent: the data sets of one clock, and what becomes of each
-   management message that comes in at its ports. And a session of a manager: one request at a time to one clock. Such an agent
-   carries it out once, however often it is sent. And a survey: one GET to every clock, or to one, and the first answer of each
-   port. The library opens no socket, reads no clock and starts no thread. Link libptpm.a or libptpm.so. Both need only the C
+/* PTP management (IEEE 1588-2019, clause 15) for a host in C. An agent has the data sets of one clock, and judges each management
+   message that comes in at its ports. A session of a manager has one request at a time to one clock. An agent carries it out once,
+   however often it is sent. A survey is one GET to every clock, or to one, and keeps the first answer of each port. The library opens
+   no socket, reads no clock and starts no thread. Link libptpm.a or libptpm.so. Both need only the C
    library, and call malloc, realloc and free of the host; libptpm_memory.a calls none of these (ptpm_memory.h). This file is C99,
    C11, C17 and C++17, for gcc and clang.
 
@@ -23,7 +23,7 @@
      2,200. The calls ptpm_clock_image_of, ptpm_clock_saved and ptpm_rollout_open take 1,600 each. The images and the restore of a
      session take 1,100, and so do ptpm_asker_ask and ptpm_asker_wake. The calls ptpm_clock_handle and ptpm_clock_observe take 800.
      As C it takes more (docs/embedding.md, "On any other processor"). Beyond that a call takes the stack of the host's malloc,
-     realloc, free, memcpy, memmove and memset. Only the sort of ptpm_rollout_open calls itself.
+     realloc, free, memcpy, memmove and memset. No call calls itself.
 
    A call that only reads takes a const handle, and leaves it as it is. If several errors apply, the first is returned. Only
    ptpm_clock_start may return PTPM_NO_MEMORY in its place. Every other call asks for memory only if no other error applies. */
@@ -190,7 +190,7 @@ struct ptpm_observed_clock {
 };
 
 /* What a host observes of a port. Only a manager's command enters or leaves state 3, DISABLED. An enabled port is not observed in
-   it, and a disabled port stays in it. A number that is no state counts as 3. */
+   it, and a disabled port stays in it. Any other number counts as 3. */
 struct ptpm_observed_port {
     PTPM_AT_EIGHT int64_t peer_delay;   /* in nanoseconds times 2^16 */
     uint8_t state;                      /* portState, PTPM_STATE_INITIALIZING to PTPM_STATE_SLAVE */
@@ -253,7 +253,7 @@ enum {
 struct ptpm_taken {
     PTPM_AT_EIGHT uint64_t count;       /* how many messages were written */
     uint64_t waiting;                   /* how many more wait until the clock is saved (ptpm_clock_next) */
-    struct ptpm_changed changed;        /* the members that have another value than before */
+    struct ptpm_changed changed;        /* the members that have a different value than before */
 };
 
 /* What a device is asked (ptpm_clock_ask): to carry out a SET or a COMMAND, or for the value of a GET. All zeros if it is nothing. */
@@ -303,7 +303,7 @@ struct ptpm_session_settings {
     uint16_t target_ports;              /* how many ports the managed clock has at most, 1 to 255 */
     uint16_t first;                     /* the sequenceId of the first request */
     uint8_t clock[8];                   /* clockIdentity of the manager, not all ones */
-    uint8_t target[8];                  /* clockIdentity of the managed clock, another one, and neither all ones nor all zeros */
+    uint8_t target[8];                  /* clockIdentity of the managed clock: not the manager's, and neither all ones nor all zeros */
     uint8_t domain;
     uint8_t hops;                       /* startingBoundaryHops of each request */
     uint8_t attempts;                   /* how often a request may be sent before it is given up */
@@ -315,10 +315,10 @@ enum { PTPM_GET = 0, PTPM_SET = 1, PTPM_COMMAND = 3 };
 /* A survey of a manager: what it asks and its answers, at one pointer. All zeros hold no survey. */
 struct ptpm_survey { void *at; PTPM_TO_EIGHT bool live; bool restored; };
 
-/* One manager, and the GET that it sends to every port of every clock, or of one. A clock answers one that is for every clock
-   whatever numbers it took from this manager before. A late answer to an earlier GET with the same number and id is taken for this
-   survey's: use a number with nothing in flight. No session has the same portIdentity. With port 0, which is no port's, a survey has
-   PTPM_SURVEY_PORT, so that is true if no session has that one. */
+/* One manager, and the GET that it sends to every port of every clock, or of one. A clock answers a GET for every clock
+   whatever numbers it took from this manager before. A late answer to an earlier GET with the same number and id counts for this
+   survey: use a number with nothing in flight. No session may have the same portIdentity. With port 0 that is PTPM_SURVEY_PORT, which
+   no session should have. */
 struct ptpm_survey_settings {
     uint16_t port;                      /* portNumber of the manager; 0 for PTPM_SURVEY_PORT */
     uint16_t number;                    /* sequenceId */
@@ -334,7 +334,7 @@ struct ptpm_asker { void *at; PTPM_TO_EIGHT bool live; bool restored; };
 /* The session of an asker, and how long it waits. Times are in milliseconds, from any moment on, and never go back. */
 struct ptpm_asker_settings {
     struct ptpm_session_settings session;   /* `first` is drawn, for a session without a file. `domain` is not read */
-    uint16_t nobody;                    /* a portNumber of the manager's clock at which nobody manages, from 61440 on; not the manager's */
+    uint16_t nobody;                    /* the port of its anonymous reads, at which nobody manages: from 61440 on, and not the manager's */
     uint32_t timeout;                   /* how long an answer is waited for before a request is sent again */
     uint32_t wait;                      /* how long a new session waits: longer than any copy of a message is on its way */
 };
@@ -421,8 +421,8 @@ enum {
    zeros hold none. */
 struct ptpm_rollout { void *at; PTPM_TO_EIGHT bool live; bool restored; };
 
-/* How it goes on: it stops where a step fails, goes on at other clocks, or is given up, which sends nothing. Or it only sees to what an
-   earlier run left of its steps, for one that is to be rolled back. */
+/* How it goes on: it stops where a step fails, goes on at other clocks, or is given up, which sends nothing. PTPM_SETTLE_ALONE only
+   completes the step that an earlier run left without an answer, before a rollback. */
 enum { PTPM_STOP_AT_FAILURE = 0, PTPM_KEEP_GOING = 1, PTPM_GIVE_UP = 2, PTPM_SETTLE_ALONE = 3 };
 
 /* What an action came to. A member that its kind lacks is not read. */
@@ -561,13 +561,13 @@ enum { PTPM_MOST_ANSWERS = 16384, PTPM_SURVEY_PORT = 65534 };
 
 /* What calls return. 0 says that the call was done. 1 to 31 say what became of a datagram or of a request. From 32 on the call was
    refused (ptpm_is_refusal). 48 to 63 say why nothing starts, or an observation is refused. 64 to 101 say which member is out of
-   its range. 104 to 110 say why a restore is refused. 112 says that a request can't be given up. 113 to 117 say why words are no
+   its range. 104 to 110 say why a restore is refused. 112 says that a request can't be given up. 113 to 117 say why words are not a
    dataField. 118 and 119 say that something is not saved. 120 says that a handle holds no asker. 121 and 122 say
    that what a device says is not taken. 123 and 124 say that a change of the device is under way, or none. 126 to 132 say why a
    record of a journal, or an event of a rollout, is not taken.
 
    Each kind of call has a type for its answers. With -Wenum-compare gcc, g++ and clang++ warn if an answer is compared with a
-   name of another kind. A name that several kinds of calls return is a plain number, and compares with each type. Each type has
+   name of a different kind. A name that several kinds of calls return is a plain number, and compares with each type. Each type has
    it again with the kind in front, such as PTPM_HANDLE_NO_CLOCK for PTPM_NO_CLOCK, so that -Wswitch and debuggers know it. A
    uint32_t holds any answer. */
 
@@ -577,10 +577,10 @@ enum { PTPM_MOST_ANSWERS = 16384, PTPM_SURVEY_PORT = 65534 };
 /* A datagram is of another domain. */
 #define PTPM_OTHER_DOMAIN 1
 
-/* Why a session or a survey ignores a datagram; another domain, and what is no management message, too. */
+/* Why a session or a survey ignores a datagram. It also ignores other domains, and what is not a management message. */
 #define PTPM_NOT_A_REPLY 10             /* its action is neither RESPONSE nor ACKNOWLEDGE */
 #define PTPM_OTHER_TARGET 11            /* its targetPortIdentity is not that of the manager */
-#define PTPM_OTHER_SOURCE 12            /* it is of another clock, or of another port than is asked */
+#define PTPM_OTHER_SOURCE 12            /* it is of another clock, or of a different port than is asked */
 #define PTPM_OTHER_NUMBER 14            /* its sequenceId is not that of the request */
 #define PTPM_OTHER_CONTENT 15           /* it has another managementId, or its action answers no request of this action */
 
@@ -592,7 +592,7 @@ enum { PTPM_MOST_ANSWERS = 16384, PTPM_SURVEY_PORT = 65534 };
 #define PTPM_BAD_ACTION 20              /* its actionField is over 4 */
 #define PTPM_BAD_TLV_TYPE 21            /* its tlvType is not MANAGEMENT, nor MANAGEMENT_ERROR_STATUS in an answer */
 #define PTPM_BAD_TLV_LENGTH 22          /* its lengthField is odd or too small, or its TLV ends before or after the message */
-#define PTPM_BAD_TEXT 23                /* the displayData of its error status is no PTPText */
+#define PTPM_BAD_TEXT 23                /* the displayData of its error status is not a PTPText */
 
 /* Why nothing changed. */
 #define PTPM_NO_CLOCK 32                /* the handle holds none */
@@ -605,10 +605,10 @@ enum { PTPM_MOST_ANSWERS = 16384, PTPM_SURVEY_PORT = 65534 };
 #define PTPM_NO_ASKER 120               /* the handle holds none */
 #define PTPM_NO_JOURNAL 126             /* the handle holds none */
 #define PTPM_NO_ROLLOUT 130             /* the handle holds none */
-#define PTPM_OTHER_SIZES 47             /* a struct of the caller has another size than the library's */
+#define PTPM_OTHER_SIZES 47             /* a struct of the caller has a different size than the library's */
 #define PTPM_GRANDMASTER_DIFFERS 50     /* a clock is its own grandmaster, with another priority or quality */
 #define PTPM_TOO_MANY_MANAGERS 51       /* over sixteen */
-#define PTPM_MANAGER_TWICE 52           /* or nobody of an asker is its manager */
+#define PTPM_MANAGER_TWICE 52           /* or `nobody` of an asker is its manager's port */
 #define PTPM_IDENTITY_IS_ZERO 56        /* the clock's identity is all zeros */
 #define PTPM_UNSAVED 118                /* a clock was changed and not saved, and this comes only after a save */
 #define PTPM_UNDER_WAY 123              /* a change of the device is under way, and this comes only after ptpm_clock_decide */
@@ -627,8 +627,9 @@ enum { PTPM_MOST_ANSWERS = 16384, PTPM_SURVEY_PORT = 65534 };
 /* The starts. A session is refused with PTPM_MANAGER_IS_EVERY, PTPM_TARGET_IS_EVERY, PTPM_SAME_CLOCK, PTPM_NO_PORTS,
    PTPM_TOO_MANY_PORTS, PTPM_TARGET_IS_ZERO or PTPM_NO_MEMORY, in this order. A survey of every clock is refused with the first
    or the last of these. A survey of one clock is refused with any of them except the two about ports. An asker is refused as a session
-   is, and with PTPM_MANAGER_TWICE before PTPM_NO_MEMORY if `nobody` is the manager's port. A clock is refused with all others, PTPM_IDENTITY_IS_ZERO last, and with PTPM_NO_PORTS, PTPM_TOO_MANY_PORTS and PTPM_NO_MEMORY. PTPM_OTHER_SIZES
-   comes before all of them, and only for ptpm_clock_start_sized and the like. */
+   is, and with PTPM_MANAGER_TWICE before PTPM_NO_MEMORY if `nobody` is the manager's port. A clock is refused with all others,
+   PTPM_IDENTITY_IS_ZERO last, and with PTPM_NO_PORTS, PTPM_TOO_MANY_PORTS and PTPM_NO_MEMORY. PTPM_OTHER_SIZES comes before all of
+   them, and only for ptpm_clock_start_sized and the like. */
 __extension__ enum PTPM_FOUR_OCTETS(ptpm_started) {
     PTPM_STARTED = 0,
     PTPM_START_NO_MEMORY = PTPM_NO_MEMORY,
@@ -692,7 +693,7 @@ __extension__ enum PTPM_FOUR_OCTETS(ptpm_handled) {
     PTPM_HANDLE_NO_ROOM = PTPM_NO_ROOM, /* for fewer than ptpm_clock_most_sent messages */
     PTPM_HANDLE_NO_MEMORY = PTPM_NO_MEMORY,
     PTPM_HANDLE_UNSAVED = PTPM_UNSAVED,
-    PTPM_BAD_SAY = 121,                 /* it is of another kind, has an error that no device gives, or gives what is no dataField */
+    PTPM_BAD_SAY = 121,                 /* it is of a different kind, has an error that no device gives, or gives what can't be a dataField */
     PTPM_HANDLE_UNDER_WAY = PTPM_UNDER_WAY, /* ptpm_clock_take */
     PTPM_NOTHING_UNDER_WAY = 124        /* ptpm_clock_decide */
 };
@@ -860,8 +861,8 @@ __extension__ enum PTPM_FOUR_OCTETS(ptpm_restored) {
     PTPM_OTHER_VERSION = 105,           /* an image of another version */
     PTPM_OTHER_KIND = 106,              /* an image of something else: of a session for a clock's, of a clock for a session's */
     PTPM_DAMAGED = 107,                 /* octets are missing, further ones follow, or one has a value that no image has */
-    PTPM_OTHER_CLOCK = 108,             /* of a clock of another identity */
-    PTPM_OTHER_PORTS = 109,             /* of a clock with another number of ports */
+    PTPM_OTHER_CLOCK = 108,             /* of a clock of a different identity */
+    PTPM_OTHER_PORTS = 109,             /* of a clock with a different number of ports */
     PTPM_OTHER_SESSION = 110            /* another manager or clock, another number of ports, or another first number */
 };
 
@@ -869,11 +870,11 @@ __extension__ enum PTPM_FOUR_OCTETS(ptpm_restored) {
 __extension__ enum PTPM_FOUR_OCTETS(ptpm_parsed) {
     PTPM_PARSED = 0,
     PTPM_PARSE_NO_ROOM = PTPM_NO_ROOM,  /* for fewer octets than the dataField has */
-    PTPM_NOT_WORDS = 113,               /* there are octets and the last is no zero, a word is no UTF-8, or there are over 20 words */
+    PTPM_NOT_WORDS = 113,               /* there are octets and the last is not a zero, a word is not UTF-8, or there are over 20 words */
     PTPM_UNKNOWN_ID = 114,              /* this profile lacks the id */
     PTPM_WORD_COUNT = 115,              /* more or fewer words than a name and a value for each member */
     PTPM_OTHER_NAME = 116,              /* a word is not the name of the member that comes next */
-    PTPM_NO_VALUE = 117                 /* a word is no value of the member, or no SET has the member */
+    PTPM_NO_VALUE = 117                 /* a word is not a value of the member, or no SET has the member */
 };
 
 /* ptpm_asker_restore. */
@@ -915,7 +916,7 @@ __extension__ enum PTPM_FOUR_OCTETS(ptpm_journaled) {
     PTPM_JOURNAL_NO_ROOM = PTPM_NO_ROOM,
     PTPM_JOURNAL_NO_MEMORY = PTPM_NO_MEMORY,
     PTPM_JOURNAL_OTHER_VERSION = PTPM_OTHER_VERSION,    /* ptpm_journal_next */
-    PTPM_JOURNAL_DAMAGED = PTPM_DAMAGED,                /* ptpm_journal_next: these octets are no record that may come here */
+    PTPM_JOURNAL_DAMAGED = PTPM_DAMAGED,                /* ptpm_journal_next: these octets are not a record that may come here */
     PTPM_JOURNAL_NO_JOURNAL = PTPM_NO_JOURNAL,
     PTPM_NO_RECORD = 127,               /* ptpm_journal_add: it has no such kind, outcome or ending, or too many octets */
     PTPM_NOT_ALLOWED = 128,             /* ptpm_journal_add: no run makes this record here */
@@ -962,7 +963,7 @@ PTPM_IS_WIDE(ptpm_set_here);
 #undef PTPM_FOUR_OCTETS
 
 /* Whether a call with this answer was refused. It then changed nothing, except that a start leaves nothing in its handle.
-   PTPM_REFUSED is no such answer: it says that the clock which was asked refused the request.
+   PTPM_REFUSED is not one: it says that the clock which was asked refused the request.
    Takes:   what a call with one of these types returned. */
 static inline bool ptpm_is_refusal(uint32_t answer) { return answer >= 32; }
 
@@ -1109,8 +1110,8 @@ void ptpm_limit_range(struct ptpm_limit *limit, int32_t least, int32_t most);
    the request names. A request for every port names each. An id without a limit is free.
    Takes:   limit_count limits; and what ptpm_clock_ask wrote.
    Returns: PTPM_ERROR_NOT_SETABLE for a SET, and PTPM_ERROR_NOT_SUPPORTED for a COMMAND, if such a limit has no value. Otherwise
-            PTPM_ERROR_WRONG_VALUE if such a limit lacks the value of a SET. Otherwise 0. The first octet is no value of
-            NULL_PTP_MANAGEMENT, USER_DESCRIPTION and UTC_PROPERTIES, so a SET of these is not refused with PTPM_ERROR_WRONG_VALUE. */
+            PTPM_ERROR_WRONG_VALUE if such a limit lacks the value of a SET. Otherwise 0. A SET of NULL_PTP_MANAGEMENT,
+            USER_DESCRIPTION or UTC_PROPERTIES has no value in its first octet, so it never gets PTPM_ERROR_WRONG_VALUE. */
 uint16_t ptpm_limits_say(const struct ptpm_limit *limits, size_t limit_count, const struct ptpm_question *asked);
 
 /* Carries out a SET or a COMMAND of the device's owner, as one of a manager with every right. It is for a command line of the device,
@@ -1168,8 +1169,8 @@ size_t ptpm_clock_transit(const struct ptpm_clock *clock, uint16_t port, const u
    out at once. If that changed the clock, or something was unsaved before, its messages wait in the clock. That includes a repeat,
    and all else the same manager sends. Anyone else is answered at once, by what was saved last and observed since.
    A save is: ptpm_clock_image_of, the image stored, and ptpm_clock_saved. Then ptpm_clock_next gives the messages that waited when
-   the image was made. What came later goes on waiting for the next image, unless it changed nothing. A save that fails is no event:
-   the next image has all of it.
+   the image was made. What came later goes on waiting for the next image, unless it changed nothing. After a save that fails nothing
+   has to be undone: the next image has all of it.
    A clock that was just restored is saved. Any other clock is not: it takes no datagram before ptpm_clock_saved. Call it right after
    the start or the restore.
    ptpm_clock_take returns PTPM_UNSAVED in three cases, and nothing changes. The first is any datagram before the first save of a
@@ -1222,8 +1223,8 @@ uint32_t ptpm_clock_unsaved(const struct ptpm_clock *clock);
    Returns: PTPM_RESTORED; or why not, and then the handle holds what it held. The first of these that holds: PTPM_TOO_MANY_MANAGERS,
             PTPM_MANAGER_TWICE, PTPM_IDENTITY_IS_ZERO, PTPM_NOT_AN_IMAGE, PTPM_OTHER_VERSION, PTPM_OTHER_KIND, PTPM_DAMAGED,
             PTPM_OTHER_CLOCK, PTPM_OTHER_PORTS and PTPM_NO_MEMORY. A change under way at a port over port_count is PTPM_DAMAGED
-            too. A restore that is refused is no reason to start a fresh clock. It would carry out requests again that were
-            carried out before.
+            too. Do not start a fresh clock after a refused restore: it would carry out requests again that were carried
+            out before.
    Writes:  *gone: the number of requests of the image whose managers are not among those that are given. They are forgotten. If
             the call is refused it is 0.
    Memory:  the clock, until it is stopped, as much as for a start.
@@ -1232,8 +1233,9 @@ enum ptpm_restored ptpm_clock_restore(struct ptpm_clock *clock, const uint8_t id
                                       const struct ptpm_manager_settings *managers, size_t manager_count,
                                       const uint8_t *image, size_t size, size_t *gone);
 
-/* Returns the most messages that one datagram makes at this clock. A queue of the host has to be that long. It is 2 * port_count - 1: a copy for each other port, and an answer of each port. It is more if a kept reply has more
-   answers, and then as many. Only an image that another program has made can bring such a reply.
+/* Returns the most messages that one datagram makes at this clock. A queue of the host has to be that long. It is 2 * port_count - 1:
+   a copy for each other port, and an answer of each port. If a kept reply has more answers, it is their number. Only an image that
+   another program has made can bring such a reply.
    Returns: the number, at most PTPM_MOST_SENT; 0 if the handle holds no clock. */
 size_t ptpm_clock_most_sent(const struct ptpm_clock *clock);
 
@@ -1322,8 +1324,8 @@ enum ptpm_saved ptpm_session_image(const struct ptpm_session *session, uint8_t *
    stays open, with all its attempts: send it again.
    Takes:   size octets, and the settings of the session. Its manager, managed clock, number of ports and first number must be
             those of the image. Domain, hops and attempts are those of the image.
-   Returns: PTPM_RESTORED; or why not, and then the handle holds what it held. A restore that is refused is no reason to start a
-            fresh session. The clock would then treat its requests as old, or as others.
+   Returns: PTPM_RESTORED; or why not, and then the handle holds what it held. Do not start a fresh
+            session after a refused restore: the clock would treat its requests as old, or as others.
    Memory:  the session, until it is stopped, and a copy of the dataField of its request.
    Caller:  stops the session. */
 enum ptpm_restored ptpm_session_restore(struct ptpm_session *session, const struct ptpm_session_settings *settings,
@@ -1368,9 +1370,10 @@ static inline enum ptpm_started ptpm_survey_start_sized(struct ptpm_survey *hand
 
 /* Starts a survey of one clock, without answers, instead of what the handle holds, which is freed first. Every port of the
    clock is asked, and another clock's answer is ignored (PTPM_OTHER_SOURCE). A clock treats such a GET from one of its managers
-   as a numbered request, like one of a session. And a session of the same manager may treat an answer as its own. So the manager
-   here is none of them, and has no session. It is another port of the same identity, and with port 0 it is PTPM_SURVEY_PORT.
-   Takes:   the identity of the clock: another one than the manager's, and neither all ones nor all zeros.
+   as a numbered request, like one of a session. And a session of the same manager may treat an answer as its own. So the
+   survey's manager is not one of the clock's, and has no session. It is another port of the same identity: with port 0
+   PTPM_SURVEY_PORT.
+   Takes:   the identity of the clock: a different one than the manager's, and neither all ones nor all zeros.
    Returns: PTPM_STARTED; or why not, and then the handle holds nothing.
    Memory:  the survey, until it is stopped.
    Caller:  stops the survey. */
@@ -1650,7 +1653,7 @@ static inline size_t ptpm_newest_image(const uint8_t *octets, size_t place, size
    sourcePortIdentity, sequenceId, targetPortIdentity, actionField and managementId, and there is a place to record it. So a
    message that circulates is forwarded once. One that keeps coming is forwarded once in each such time.
    Takes:   the message, of size octets; a time; and for how long it is recorded, in the unit of that time. Both are the host's.
-   Returns: whether it is to be forwarded; false too for what is no management message, read or not (ptpm_clock_transit).
+   Returns: whether it is to be forwarded; false too for what is not a management message, read or not (ptpm_clock_transit).
    Writes:  one of the places of *table, if it returns true. */
 bool ptpm_passed_on_is_first(struct ptpm_passed_on *table, const uint8_t *message, size_t size, uint64_t now, uint64_t time);
 
@@ -1746,7 +1749,7 @@ bool ptpm_port_identity_parse(const char *text, size_t size, uint8_t clock[8], u
 enum { PTPM_MOST_FIELD_TEXT = 5034 };
 
 /* Gives the members of a dataField as text, one per line: its name in the standard (15.5.3), a space and its value, such as
-   "priority1 128". How each kind of value is written is in docs/ptpm.md. There is only one line if the octets are no dataField
+   "priority1 128". How each kind of value is written is in docs/ptpm.md. There is only one line if the octets are not a dataField
    of the id, or it has no member. That is "value" and the octets in hexadecimal, or "value -" for none. The id may be one of
    ptpm_other_id_at too.
    Takes:   the managementId; a dataField of size octets; and room octets, for which PTPM_MOST_FIELD_TEXT is enough.

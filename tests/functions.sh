@@ -153,3 +153,9 @@ unsettled() {
 
 # What a site has that is open, or else its findings: of what `ptpm site` prints, without the description of a clock.
 undecided() { sed -n '/^\(findings\|open\): [1-9]/,$p' | sed '/^not judged: /d; s/ "clock"$//' | short; }
+
+# hosted WORDS..: ptpm monitor with these words, and the answers of a host on standard input.
+hosted() { cat > host && ptpm monitor "$@" < host; }
+
+# told: of what ptpm monitor says to a host, of the text of a look the findings alone.
+told() { short | grep -aE '^(monitor|look|listen|watch|open|expect|own|show|print)( |$)|^[-+=0-9{]|^20[0-9-]*T|^findings|"finding"|^left out|^PTP'; }

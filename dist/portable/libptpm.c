@@ -1085,25 +1085,16 @@ static u8 f145(address a0);
 static void f146(address a0);
 static u8 f147(address a0);
 static u8 f148(address a0);
-static void f149(address a0, address a1, u64 a2);
-static void f150(address a0, u64 a1, u64 a2, u32 a3, address a4);
-static void f151(address a0, u64 a1, address a2);
-static void f152(address a0, u64 a1, address a2);
-static void f153(address a0, u64 a1, address a2);
-static void f154(address a0, u64 a1, u64 a2, address a3);
-static u64 f155(address a0, u64 a1, u64 a2, u64 a3, u64 a4);
-static void f156(address a0, address a1, u64 a2, u64 a3, u64 a4, u8 a5, u32 a6, u64 a7, u64 a8, address a9);
-static u8 f157(address a0);
-static u8 f158(address a0);
-static u8 f159(address a0);
-static void f160(address a0);
-static u32 f161(address a0, address a1);
-static void f162(address a0, address a1);
-static void f163(address a0, address a1, address a2, address a3, u64 a4);
-static void f164(address a0, address a1, address a2, address a3);
-static void f165(address a0, address a1, u8 a2, u16 a3, u16 a4, address a5, u64 a6);
-static void f166(address a0, address a1, u16 a2, address a3, u64 a4);
-static void f167(address a0, address a1, u16 a2, address a3, u64 a4);
+static u8 f149(address a0);
+static u8 f150(address a0);
+static void f151(address a0);
+static u32 f152(address a0, address a1);
+static void f153(address a0, address a1);
+static void f154(address a0, address a1, address a2, address a3, u64 a4);
+static void f155(address a0, address a1, address a2, address a3);
+static void f156(address a0, address a1, u8 a2, u16 a3, u16 a4, address a5, u64 a6);
+static void f157(address a0, address a1, u16 a2, address a3, u64 a4);
+static void f158(address a0, address a1, u16 a2, address a3, u64 a4);
 u64 portable_ptpm_answer_name(u32 a0, address a1, u64 a2);
 u32 portable_ptpm_asker_ask(address a0, u64 a1, u64 a2, u8 a3, u16 a4, u16 a5, address a6, u64 a7, u8 a8, address a9);
 u32 portable_ptpm_asker_earlier(address a0, u8 a1, address a2);
@@ -26057,34 +26048,34 @@ L18:;
 }
 
 static void f116(address a0, u64 a1) {
-    u64 v2, v3, v4, v7, v8, v10, v12, v14, v16, v17, v18, v20, v22, v24, v50, v64;
-    u64 v65, v66, v68, v72, v74, v77, v81, v85, v87, v90, v92, v99, v102, v105, v125, v129;
-    u64 v141, v142, v145, v151, v163, v167, v190, v192, v194, v196, v199, v201, v204, v209, v212, v214;
-    u64 v215, v217, v219, v220, v222, v237, v246, v251, v252, v256, v258, v259, v261, v267, v269, v272;
-    u64 v274, v282, v284, v294, v296, v298, v300, v303, v305, v308, v313, v316, v318, v319, v321, v323;
-    u64 v324, v326, v344, v348, v370, v374, v386, v388, v391, v397, v412, v416;
-    u8 v5, v6, v9, v26, v52, v53, v54, v67, v69, v70, v78, v80, v82, v83, v91, v93;
-    u8 v96, v97, v98, v100, v101, v103, v104, v107, v114, v115, v120, v126, v127, v143, v147, v150;
-    u8 v152, v158, v164, v165, v185, v187, v188, v197, v200, v202, v207, v208, v210, v211, v213, v223;
-    u8 v224, v231, v238, v244, v249, v250, v253, v254, v260, v262, v265, v266, v268, v270, v273, v285;
-    u8 v289, v291, v292, v301, v304, v306, v311, v312, v314, v315, v317, v327, v328, v335, v339, v345;
-    u8 v346, v360, v361, v365, v371, v372, v389, v392, v395, v396, v398, v400, v406, v413, v414;
-    u16 v11, v13, v15, v19, v21, v23, v25, v48, v51, v79, v106, v108, v153, v171, v172, v173;
-    u16 v186, v198, v271, v290, v302, v399, v401, v407;
-    address v27, v28, v29, v30, v31, v32, v33, v34, v35, v36, v37, v38, v39, v40, v41, v42;
-    address v43, v44, v45, v46, v47, v49, v55, v56, v57, v58, v59, v60, v61, v62, v63, v71;
-    address v73, v75, v76, v84, v86, v88, v89, v94, v95, v109, v110, v111, v112, v113, v116, v117;
-    address v118, v119, v121, v122, v123, v124, v128, v130, v131, v132, v133, v134, v135, v136, v137, v138;
-    address v139, v140, v144, v146, v148, v149, v154, v155, v156, v157, v159, v160, v161, v162, v166, v168;
-    address v169, v170, v174, v175, v176, v177, v178, v179, v180, v181, v182, v183, v184, v189, v191, v193;
-    address v195, v203, v205, v206, v216, v218, v221, v225, v226, v227, v228, v229, v230, v232, v233, v234;
-    address v235, v236, v239, v240, v241, v242, v243, v245, v247, v248, v255, v257, v263, v264, v275, v276;
-    address v277, v278, v279, v280, v281, v283, v286, v287, v288, v293, v295, v297, v299, v307, v309, v310;
-    address v320, v322, v325, v329, v330, v331, v332, v333, v334, v336, v337, v338, v340, v341, v342, v343;
-    address v347, v349, v350, v351, v352, v353, v354, v355, v356, v357, v358, v359, v362, v363, v364, v366;
-    address v367, v368, v369, v373, v375, v376, v377, v378, v379, v380, v381, v382, v383, v384, v385, v387;
-    address v390, v393, v394, v402, v403, v404, v405, v408, v409, v410, v411, v415, v417, v418, v419, v420;
-    address v421, v422, v423, v424, v425, v426, v427, v428, v429, v430, v431;
+    u64 v2, v3, v4, v5, v6, v8, v10, v12, v14, v15, v16, v18, v20, v22, v48, v61;
+    u64 v62, v63, v65, v69, v71, v74, v78, v82, v85, v87, v90, v92, v100, v101, v121, v125;
+    u64 v137, v138, v141, v147, v159, v163, v186, v188, v190, v192, v195, v197, v200, v205, v208, v210;
+    u64 v211, v213, v215, v216, v218, v233, v242, v247, v248, v252, v254, v255, v257, v263, v265, v268;
+    u64 v270, v278, v280, v290, v292, v294, v296, v299, v301, v304, v309, v312, v314, v315, v317, v319;
+    u64 v320, v322, v340, v344, v366, v370, v382, v384, v387, v393, v408, v412;
+    u8 v7, v24, v50, v51, v52, v64, v66, v67, v75, v77, v79, v83, v91, v93, v96, v97;
+    u8 v98, v99, v103, v110, v111, v116, v122, v123, v139, v143, v146, v148, v154, v160, v161, v181;
+    u8 v183, v184, v193, v196, v198, v203, v204, v206, v207, v209, v219, v220, v227, v234, v240, v245;
+    u8 v246, v249, v250, v256, v258, v261, v262, v264, v266, v269, v281, v285, v287, v288, v297, v300;
+    u8 v302, v307, v308, v310, v311, v313, v323, v324, v331, v335, v341, v342, v356, v357, v361, v367;
+    u8 v368, v385, v388, v391, v392, v394, v396, v402, v409, v410;
+    u16 v9, v11, v13, v17, v19, v21, v23, v46, v49, v76, v80, v81, v102, v104, v149, v167;
+    u16 v168, v169, v182, v194, v267, v286, v298, v395, v397, v403;
+    address v25, v26, v27, v28, v29, v30, v31, v32, v33, v34, v35, v36, v37, v38, v39, v40;
+    address v41, v42, v43, v44, v45, v47, v53, v54, v55, v56, v57, v58, v59, v60, v68, v70;
+    address v72, v73, v84, v86, v88, v89, v94, v95, v105, v106, v107, v108, v109, v112, v113, v114;
+    address v115, v117, v118, v119, v120, v124, v126, v127, v128, v129, v130, v131, v132, v133, v134, v135;
+    address v136, v140, v142, v144, v145, v150, v151, v152, v153, v155, v156, v157, v158, v162, v164, v165;
+    address v166, v170, v171, v172, v173, v174, v175, v176, v177, v178, v179, v180, v185, v187, v189, v191;
+    address v199, v201, v202, v212, v214, v217, v221, v222, v223, v224, v225, v226, v228, v229, v230, v231;
+    address v232, v235, v236, v237, v238, v239, v241, v243, v244, v251, v253, v259, v260, v271, v272, v273;
+    address v274, v275, v276, v277, v279, v282, v283, v284, v289, v291, v293, v295, v303, v305, v306, v316;
+    address v318, v321, v325, v326, v327, v328, v329, v330, v332, v333, v334, v336, v337, v338, v339, v343;
+    address v345, v346, v347, v348, v349, v350, v351, v352, v353, v354, v355, v358, v359, v360, v362, v363;
+    address v364, v365, v369, v371, v372, v373, v374, v375, v376, v377, v378, v379, v380, v381, v383, v386;
+    address v389, v390, v398, v399, v400, v401, v404, v405, v406, v407, v411, v413, v414, v415, v416, v417;
+    address v418, v419, v420, v421, v422, v423, v424, v425, v426, v427;
     u64 block0[4];
     u64 block1[2];
     u64 block2[4];
@@ -26105,878 +26096,871 @@ static void f116(address a0, u64 a1) {
     u64 block17[2];
     u64 block18[4];
     u64 block19[4];
-    v27 = ADDRESS(block0);
-    v28 = ADDRESS(block1);
-    v29 = ADDRESS(block2);
-    v30 = ADDRESS(block3);
-    v31 = ADDRESS(block4);
-    v32 = ADDRESS(block5);
-    v33 = ADDRESS(block6);
-    v34 = ADDRESS(block7);
-    v35 = ADDRESS(block8);
-    v36 = ADDRESS(block9);
-    v37 = ADDRESS(block10);
-    v38 = ADDRESS(block11);
-    v39 = ADDRESS(block12);
-    v40 = ADDRESS(block13);
-    v41 = ADDRESS(block14);
-    v42 = ADDRESS(block15);
-    v43 = ADDRESS(block16);
-    v44 = ADDRESS(block17);
-    v45 = ADDRESS(block18);
-    v46 = ADDRESS(block19);
-    v47 = a0 + 168u * 1u;
-    v48 = load16(v47);
-    v49 = a0 + 152u * 1u;
-    v50 = load64(v49);
-    v51 = (u16)(v50);
-    v52 = v48 < v51;
-    v53 = load8(a0);
-    if (v52) { goto L1; }
-    else { goto L23; }
+    v25 = ADDRESS(block0);
+    v26 = ADDRESS(block1);
+    v27 = ADDRESS(block2);
+    v28 = ADDRESS(block3);
+    v29 = ADDRESS(block4);
+    v30 = ADDRESS(block5);
+    v31 = ADDRESS(block6);
+    v32 = ADDRESS(block7);
+    v33 = ADDRESS(block8);
+    v34 = ADDRESS(block9);
+    v35 = ADDRESS(block10);
+    v36 = ADDRESS(block11);
+    v37 = ADDRESS(block12);
+    v38 = ADDRESS(block13);
+    v39 = ADDRESS(block14);
+    v40 = ADDRESS(block15);
+    v41 = ADDRESS(block16);
+    v42 = ADDRESS(block17);
+    v43 = ADDRESS(block18);
+    v44 = ADDRESS(block19);
+    v45 = a0 + 168u * 1u;
+    v46 = load16(v45);
+    v47 = a0 + 152u * 1u;
+    v48 = load64(v47);
+    v49 = (u16)(v48);
+    v50 = v46 < v49;
+    v51 = load8(a0);
+    if (v50) { goto L1; }
+    else { goto L21; }
 L1:;
-    v54 = v53 == 3u;
-    v55 = a0 + 104u * 1u;
-    v56 = a0 + 96u * 1u;
-    v57 = a0 + 144u * 1u;
-    v58 = a0 + 8u * 1u;
-    v59 = v46 + 16u * 1u;
-    v60 = v46 + 18u * 1u;
-    v61 = a0 + 72u * 1u;
-    v62 = a0 + 64u * 1u;
-    v63 = a0 + 128u * 1u;
-    v64 = (u64)v48;
-    v2 = v64; goto L2;
+    v52 = v51 == 3u;
+    v53 = a0 + 104u * 1u;
+    v54 = a0 + 96u * 1u;
+    v55 = a0 + 144u * 1u;
+    v56 = a0 + 8u * 1u;
+    v57 = v44 + 16u * 1u;
+    v58 = v44 + 18u * 1u;
+    v59 = a0 + 64u * 1u;
+    v60 = a0 + 72u * 1u;
+    v61 = (u64)v46;
+    v2 = v61; goto L2;
 L2:;
-    if (v54) { goto L3; }
-    else { v7 = v64; goto L22; }
+    if (v52) { goto L3; }
+    else { v5 = v61; goto L20; }
 L3:;
-    v65 = load64(v55);
-    v66 = (u64)((u64)v65 & (u64)65535u);
-    v67 = v66 == 0u;
-    if (v67) { goto L20; }
+    v62 = load64(v53);
+    v63 = (u64)((u64)v62 & (u64)65535u);
+    v64 = v63 == 0u;
+    if (v64) { goto L18; }
     else { goto L4; }
 L4:;
-    v68 = (u64)((u64)v2 << (4u & 63u));
-    v69 = v50 > v2;
+    v65 = (u64)((u64)v2 << (4u & 63u));
+    v66 = v48 > v2;
     v3 = 0u; goto L5;
 L5:;
-    v70 = v65 > v3;
-    if (v70) { goto L6; }
+    v67 = v62 > v3;
+    if (v67) { goto L6; }
     else { goto L7; }
 L6:;
-    if (v69) { goto L8; }
+    if (v66) { goto L8; }
     else { goto L10; }
 L7:;
-    if (v69) { goto L10; }
+    if (v66) { goto L10; }
     else { goto L9; }
 L8:;
-    v71 = load_address(v56);
-    v72 = (u64)((u64)v3 << (6u & 63u));
-    v73 = v71 + v72 * 1u;
+    v68 = load_address(v54);
+    v69 = (u64)((u64)v3 << (6u & 63u));
+    v70 = v68 + v69 * 1u;
+    v71 = load64(v70);
+    v72 = load_address(v55);
+    v73 = v72 + v65 * 1u;
     v74 = load64(v73);
-    v75 = load_address(v57);
-    v76 = v75 + v68 * 1u;
-    v77 = load64(v76);
-    v78 = v74 == v77;
-    if (v78) { goto L9; }
+    v75 = v71 == v74;
+    if (v75) { goto L9; }
     else { goto L10; }
 L9:;
-    memory_set(v46, 0u, 32u);
-    store8(v46, 2u);
-    store16(v59, 1u);
-    v79 = (u16)(v3);
-    store16(v60, v79);
-    v80 = f98(v58, v46);
-    if (v80) { v7 = v2; goto L22; }
+    memory_set(v44, 0u, 32u);
+    store8(v44, 2u);
+    store16(v57, 1u);
+    v76 = (u16)(v3);
+    store16(v58, v76);
+    v77 = f98(v56, v44);
+    if (v77) { v5 = v2; goto L20; }
     else { goto L10; }
 L10:;
-    v81 = (u64)((u64)v3 + (u64)1u);
-    v82 = v81 == v66;
-    if (v82) { v4 = 0u; v5 = 0u; goto L11; }
-    else { v3 = v81; goto L5; }
+    v78 = (u64)((u64)v3 + (u64)1u);
+    v79 = v78 == v63;
+    if (v79) { v4 = v63; goto L11; }
+    else { v3 = v78; goto L5; }
 L11:;
-    v83 = v65 > v4;
+    v80 = (u16)(v4);
+    v81 = (u16)((u32)v80 + (u32)65535u);
+    v82 = (u64)v81;
+    v83 = v62 > v82;
     if (v83) { goto L12; }
     else { goto L13; }
 L12:;
-    if (v69) { goto L14; }
-    else { v6 = v5; goto L18; }
+    if (v66) { goto L14; }
+    else { goto L17; }
 L13:;
-    if (v69) { v6 = v5; goto L18; }
+    if (v66) { goto L17; }
     else { goto L15; }
 L14:;
-    v84 = load_address(v56);
-    v85 = (u64)((u64)v4 << (6u & 63u));
+    v84 = load_address(v54);
+    v85 = (u64)((u64)v82 << (6u & 63u));
     v86 = v84 + v85 * 1u;
     v87 = load64(v86);
-    v88 = load_address(v57);
-    v89 = v88 + v68 * 1u;
+    v88 = load_address(v55);
+    v89 = v88 + v65 * 1u;
     v90 = load64(v89);
     v91 = v87 == v90;
     if (v91) { goto L15; }
-    else { v6 = v5; goto L18; }
+    else { goto L17; }
 L15:;
-    v92 = load64(v61);
-    v93 = v92 > v4;
+    v92 = load64(v60);
+    v93 = v92 > v82;
     if (v93) { goto L16; }
-    else { v6 = v5; goto L18; }
+    else { goto L17; }
 L16:;
-    v94 = load_address(v62);
-    v95 = v94 + v4 * 1u;
+    v94 = load_address(v59);
+    v95 = v94 + v82 * 1u;
     v96 = load8(v95);
     v97 = (u8)((u32)v96 + (u32)254u);
     v98 = v97 < 3u;
-    if (v98) { goto L17; }
-    else { v6 = v5; goto L18; }
+    if (v98) { v5 = v2; goto L20; }
+    else { goto L17; }
 L17:;
-    v99 = load64(v63);
-    v100 = v99 > v4;
-    v101 = (u8)v100;
-    v6 = v101; goto L18;
+    v99 = v81 == 0u;
+    v100 = (u64)((u64)v4 + (u64)UINT64_C(18446744073709551615));
+    if (v99) { goto L18; }
+    else { v4 = v100; goto L11; }
 L18:;
-    v102 = (u64)((u64)v4 + (u64)1u);
-    v103 = v102 == v66;
-    if (v103) { goto L19; }
-    else { v4 = v102; v5 = v6; goto L11; }
+    v101 = (u64)((u64)v2 + (u64)1u);
+    v102 = (u16)(v101);
+    v103 = v102 == v49;
+    if (v103) { goto L21; }
+    else { v2 = v101; goto L2; }
 L19:;
-    v104 = v6 == 0u;
-    if (v104) { goto L20; }
-    else { v7 = v2; goto L22; }
-L20:;
-    v105 = (u64)((u64)v2 + (u64)1u);
-    v106 = (u16)(v105);
-    v107 = v106 == v51;
-    if (v107) { goto L23; }
-    else { v2 = v105; goto L2; }
-L21:;
     return;
-L22:;
-    v108 = (u16)(v7);
-    v109 = a0 + 172u * 1u;
-    store16(v109, 1u);
-    v110 = a0 + 174u * 1u;
-    store16(v110, v108);
-    v111 = a0 + 176u * 1u;
-    store16(v111, 0u);
-    v112 = a0 + 178u * 1u;
-    store16(v112, 0u);
-    goto L21;
-L23:;
-    switch (v53) {
-    case 0u: goto L24;
-    case 1u: goto L62;
-    case 2u: goto L108;
-    case 3u: goto L120;
-    default: goto L121;
+L20:;
+    v104 = (u16)(v5);
+    v105 = a0 + 172u * 1u;
+    store16(v105, 1u);
+    v106 = a0 + 174u * 1u;
+    store16(v106, v104);
+    v107 = a0 + 176u * 1u;
+    store16(v107, 0u);
+    v108 = a0 + 178u * 1u;
+    store16(v108, 0u);
+    goto L19;
+L21:;
+    switch (v51) {
+    case 0u: goto L22;
+    case 1u: goto L60;
+    case 2u: goto L106;
+    case 3u: goto L118;
+    default: goto L119;
     }
-L24:;
-    v113 = a0 + 170u * 1u;
-    v114 = load8(v113);
-    v115 = (u8)((v114) & UINT64_C(1));
-    if (v115) { goto L25; }
-    else { goto L31; }
-L25:;
-    memory_set(v45, 0u, 32u);
-    store8(v45, 4u);
-    v116 = v45 + 8u * 1u;
-    store64(v116, a1);
-    v117 = v45 + 16u * 1u;
-    store8(v117, 3u);
-    v118 = v45 + 18u * 1u;
-    store16(v118, 65535u);
-    v119 = a0 + 8u * 1u;
-    v120 = f98(v119, v45);
-    if (v120) { goto L26; }
+L22:;
+    v109 = a0 + 170u * 1u;
+    v110 = load8(v109);
+    v111 = (u8)((v110) & UINT64_C(1));
+    if (v111) { goto L23; }
     else { goto L29; }
-L26:;
-    store64(v43, 4u);
-    v121 = v43 + 8u * 1u;
-    memory_cpy(v121, v116, 24u);
-    memory_set(v44, 0u, 16u);
-    v122 = a0 + 184u * 1u;
-    v123 = load_address(v122);
-    v124 = a0 + 192u * 1u;
+L23:;
+    memory_set(v43, 0u, 32u);
+    store8(v43, 4u);
+    v112 = v43 + 8u * 1u;
+    store64(v112, a1);
+    v113 = v43 + 16u * 1u;
+    store8(v113, 3u);
+    v114 = v43 + 18u * 1u;
+    store16(v114, 65535u);
+    v115 = a0 + 8u * 1u;
+    v116 = f98(v115, v43);
+    if (v116) { goto L24; }
+    else { goto L27; }
+L24:;
+    store64(v41, 4u);
+    v117 = v41 + 8u * 1u;
+    memory_cpy(v117, v112, 24u);
+    memory_set(v42, 0u, 16u);
+    v118 = a0 + 184u * 1u;
+    v119 = load_address(v118);
+    v120 = a0 + 192u * 1u;
+    v121 = load64(v120);
+    f97(v42, v115, v41, ADDRESS(c148), 0u, ADDRESS(c148), 0u, v119, v121);
+    v122 = load8(v42);
+    v123 = v122 == 0u;
+    if (v123) { goto L25; }
+    else { goto L26; }
+L25:;
+    v124 = v42 + 8u * 1u;
     v125 = load64(v124);
-    f97(v44, v119, v43, ADDRESS(c148), 0u, ADDRESS(c148), 0u, v123, v125);
-    v126 = load8(v44);
-    v127 = v126 == 0u;
-    if (v127) { goto L27; }
-    else { goto L28; }
+    v126 = a0 + 208u * 1u;
+    store64(v126, v125);
+    goto L26;
+L26:;
+    v127 = a0 + 172u * 1u;
+    store16(v127, 5u);
+    v128 = a0 + 174u * 1u;
+    store16(v128, 774u);
+    v129 = a0 + 176u * 1u;
+    store16(v129, 0u);
+    v130 = a0 + 178u * 1u;
+    store16(v130, 0u);
+    goto L28;
 L27:;
-    v128 = v44 + 8u * 1u;
-    v129 = load64(v128);
-    v130 = a0 + 208u * 1u;
-    store64(v130, v129);
+    v131 = a0 + 172u * 1u;
+    store16(v131, 13u);
+    v132 = a0 + 174u * 1u;
+    store8(v132, 1u);
+    v133 = a0 + 175u * 1u;
+    store8(v133, 0u);
+    v134 = a0 + 176u * 1u;
+    store16(v134, 0u);
+    v135 = a0 + 178u * 1u;
+    store16(v135, 0u);
     goto L28;
 L28:;
-    v131 = a0 + 172u * 1u;
-    store16(v131, 5u);
-    v132 = a0 + 174u * 1u;
-    store16(v132, 774u);
-    v133 = a0 + 176u * 1u;
-    store16(v133, 0u);
-    v134 = a0 + 178u * 1u;
-    store16(v134, 0u);
-    goto L30;
+    goto L19;
 L29:;
-    v135 = a0 + 172u * 1u;
-    store16(v135, 13u);
-    v136 = a0 + 174u * 1u;
-    store8(v136, 1u);
-    v137 = a0 + 175u * 1u;
-    store8(v137, 0u);
-    v138 = a0 + 176u * 1u;
-    store16(v138, 0u);
-    v139 = a0 + 178u * 1u;
-    store16(v139, 0u);
-    goto L30;
+    v136 = a0 + 104u * 1u;
+    v137 = load64(v136);
+    v138 = (u64)((u64)v137 & (u64)65535u);
+    v139 = v138 == 0u;
+    if (v139) { goto L57; }
+    else { goto L30; }
 L30:;
-    goto L21;
-L31:;
-    v140 = a0 + 104u * 1u;
+    v140 = a0 + 72u * 1u;
     v141 = load64(v140);
-    v142 = (u64)((u64)v141 & (u64)65535u);
-    v143 = v142 == 0u;
-    if (v143) { goto L59; }
-    else { goto L32; }
+    v142 = a0 + 64u * 1u;
+    v6 = 0u; goto L31;
+L31:;
+    v143 = v141 > v6;
+    if (v143) { goto L32; }
+    else { goto L33; }
 L32:;
-    v144 = a0 + 72u * 1u;
-    v145 = load64(v144);
-    v146 = a0 + 64u * 1u;
-    v8 = 0u; goto L33;
-L33:;
-    v147 = v145 > v8;
-    if (v147) { goto L34; }
-    else { goto L35; }
-L34:;
-    v148 = load_address(v146);
-    v149 = v148 + v8 * 1u;
-    v150 = load8(v149);
-    switch (v150) {
-    case 3u: v9 = 1u; goto L37;
-    case 4u: goto L36;
-    default: goto L35;
+    v144 = load_address(v142);
+    v145 = v144 + v6 * 1u;
+    v146 = load8(v145);
+    switch (v146) {
+    case 3u: v7 = 1u; goto L35;
+    case 4u: goto L34;
+    default: goto L33;
     }
+L33:;
+    v147 = (u64)((u64)v6 + (u64)1u);
+    v148 = v147 == v138;
+    if (v148) { goto L41; }
+    else { v6 = v147; goto L31; }
+L34:;
+    v7 = 2u; goto L35;
 L35:;
-    v151 = (u64)((u64)v8 + (u64)1u);
-    v152 = v151 == v142;
-    if (v152) { goto L43; }
-    else { v8 = v151; goto L33; }
+    v149 = (u16)(v6);
+    memory_set(v40, 0u, 32u);
+    store8(v40, 4u);
+    v150 = v40 + 8u * 1u;
+    store64(v150, a1);
+    v151 = v40 + 16u * 1u;
+    store8(v151, v7);
+    v152 = v40 + 18u * 1u;
+    store16(v152, v149);
+    v153 = a0 + 8u * 1u;
+    v154 = f98(v153, v40);
+    if (v154) { goto L36; }
+    else { goto L39; }
 L36:;
-    v9 = 2u; goto L37;
+    store64(v38, 4u);
+    v155 = v38 + 8u * 1u;
+    memory_cpy(v155, v150, 24u);
+    memory_set(v39, 0u, 16u);
+    v156 = a0 + 184u * 1u;
+    v157 = load_address(v156);
+    v158 = a0 + 192u * 1u;
+    v159 = load64(v158);
+    f97(v39, v153, v38, ADDRESS(c148), 0u, ADDRESS(c148), 0u, v157, v159);
+    v160 = load8(v39);
+    v161 = v160 == 0u;
+    if (v161) { goto L37; }
+    else { goto L38; }
 L37:;
-    v153 = (u16)(v8);
-    memory_set(v42, 0u, 32u);
-    store8(v42, 4u);
-    v154 = v42 + 8u * 1u;
-    store64(v154, a1);
-    v155 = v42 + 16u * 1u;
-    store8(v155, v9);
-    v156 = v42 + 18u * 1u;
-    store16(v156, v153);
-    v157 = a0 + 8u * 1u;
-    v158 = f98(v157, v42);
-    if (v158) { goto L38; }
-    else { goto L41; }
-L38:;
-    store64(v40, 4u);
-    v159 = v40 + 8u * 1u;
-    memory_cpy(v159, v154, 24u);
-    memory_set(v41, 0u, 16u);
-    v160 = a0 + 184u * 1u;
-    v161 = load_address(v160);
-    v162 = a0 + 192u * 1u;
+    v162 = v39 + 8u * 1u;
     v163 = load64(v162);
-    f97(v41, v157, v40, ADDRESS(c148), 0u, ADDRESS(c148), 0u, v161, v163);
-    v164 = load8(v41);
-    v165 = v164 == 0u;
-    if (v165) { goto L39; }
-    else { goto L40; }
+    v164 = a0 + 208u * 1u;
+    store64(v164, v163);
+    goto L38;
+L38:;
+    v165 = a0 + 172u * 1u;
+    store16(v165, 5u);
+    v166 = a0 + 174u * 1u;
+    v167 = (u16)v7;
+    v168 = (u16)((u32)v167 << (8u & 15u));
+    v169 = (u16)((u32)v168 | (u32)6u);
+    store16(v166, v169);
+    v170 = a0 + 176u * 1u;
+    store16(v170, 1u);
+    v171 = a0 + 178u * 1u;
+    store16(v171, v149);
+    goto L40;
 L39:;
-    v166 = v41 + 8u * 1u;
-    v167 = load64(v166);
-    v168 = a0 + 208u * 1u;
-    store64(v168, v167);
+    v172 = a0 + 172u * 1u;
+    store16(v172, 13u);
+    v173 = a0 + 174u * 1u;
+    store8(v173, 1u);
+    v174 = a0 + 175u * 1u;
+    store8(v174, 0u);
+    v175 = a0 + 176u * 1u;
+    store16(v175, 1u);
+    v176 = a0 + 178u * 1u;
+    store16(v176, v149);
     goto L40;
 L40:;
-    v169 = a0 + 172u * 1u;
-    store16(v169, 5u);
-    v170 = a0 + 174u * 1u;
-    v171 = (u16)v9;
-    v172 = (u16)((u32)v171 << (8u & 15u));
-    v173 = (u16)((u32)v172 | (u32)6u);
-    store16(v170, v173);
-    v174 = a0 + 176u * 1u;
-    store16(v174, 1u);
-    v175 = a0 + 178u * 1u;
-    store16(v175, v153);
-    goto L42;
+    goto L19;
 L41:;
-    v176 = a0 + 172u * 1u;
-    store16(v176, 13u);
-    v177 = a0 + 174u * 1u;
-    store8(v177, 1u);
-    v178 = a0 + 175u * 1u;
-    store8(v178, 0u);
-    v179 = a0 + 176u * 1u;
-    store16(v179, 1u);
-    v180 = a0 + 178u * 1u;
-    store16(v180, v153);
-    goto L42;
+    v177 = a0 + 96u * 1u;
+    v178 = a0 + 8u * 1u;
+    v179 = v37 + 18u * 1u;
+    v180 = a0 + 144u * 1u;
+    v181 = v48 == 0u;
+    v8 = 0u; goto L42;
 L42:;
-    goto L21;
-L43:;
-    v181 = a0 + 96u * 1u;
-    v182 = a0 + 8u * 1u;
-    v183 = v39 + 18u * 1u;
-    v184 = a0 + 144u * 1u;
-    v185 = v50 == 0u;
-    v10 = 0u; goto L44;
-L44:;
-    memory_set(v39, 0u, 32u);
-    store8(v39, 2u);
-    v186 = (u16)(v10);
-    store16(v183, v186);
-    v187 = f98(v182, v39);
-    if (v187) { goto L45; }
-    else { goto L52; }
-L45:;
-    v188 = v141 > v10;
-    if (v188) { goto L46; }
-    else { v14 = 0u; goto L50; }
-L46:;
-    v189 = load_address(v181);
-    v190 = (u64)((u64)v10 << (6u & 63u));
-    v191 = v189 + v190 * 1u;
-    v192 = load64(v191);
-    v193 = load_address(v184);
-    if (v185) { goto L53; }
-    else { v11 = 0u; v12 = 0u; goto L47; }
-L47:;
-    v194 = (u64)((u64)v12 << (4u & 63u));
-    v195 = v193 + v194 * 1u;
-    v196 = load64(v195);
-    v197 = v196 == v192;
-    if (v197) { v13 = v11; goto L49; }
-    else { goto L48; }
-L48:;
-    v198 = (u16)((u32)v11 + (u32)1u);
-    v199 = (u64)((u64)v12 + (u64)1u);
-    v200 = v199 == v50;
-    if (v200) { v13 = 0u; goto L49; }
-    else { v11 = v198; v12 = v199; goto L47; }
-L49:;
-    v201 = (u64)v13;
-    v14 = v201; goto L50;
-L50:;
-    v202 = v50 > v14;
-    if (v202) { goto L51; }
-    else { goto L53; }
-L51:;
-    v203 = load_address(v184);
-    v204 = (u64)((u64)v14 << (4u & 63u));
-    v205 = v203 + v204 * 1u;
-    v206 = v205 + 8u * 1u;
-    v207 = load8(v206);
-    v208 = (u8)((v207) & UINT64_C(1));
-    if (v208) { goto L52; }
-    else { goto L53; }
-L52:;
-    v209 = (u64)((u64)v10 + (u64)1u);
-    v210 = v209 == v142;
-    if (v210) { goto L59; }
-    else { v10 = v209; goto L44; }
-L53:;
-    v211 = v10 == 0u;
-    if (v211) { goto L57; }
-    else { goto L54; }
-L54:;
-    v212 = (u64)((u64)v10 & (u64)65535u);
-    v213 = v141 > v212;
-    v214 = (u64)((u64)v10 + (u64)65535u);
-    v215 = (u64)((u64)v214 & (u64)65535u);
-    if (v213) { goto L55; }
-    else { goto L56; }
-L55:;
-    v216 = load_address(v181);
-    v217 = (u64)((u64)v212 << (6u & 63u));
-    v218 = v216 + v217 * 1u;
-    v219 = load64(v218);
-    v220 = (u64)((u64)v215 << (6u & 63u));
-    v221 = v216 + v220 * 1u;
-    v222 = load64(v221);
-    v223 = v219 == v222;
-    if (v223) { goto L57; }
-    else { v15 = 6u; goto L58; }
-L56:;
-    v224 = v141 > v215;
-    if (v224) { v15 = 6u; goto L58; }
-    else { goto L57; }
-L57:;
-    v15 = 7u; goto L58;
-L58:;
-    v225 = a0 + 172u * 1u;
-    store16(v225, v15);
-    v226 = a0 + 174u * 1u;
-    store16(v226, v186);
-    v227 = a0 + 176u * 1u;
-    store16(v227, 0u);
-    v228 = a0 + 178u * 1u;
-    store16(v228, 0u);
-    goto L21;
-L59:;
-    memory_set(v38, 0u, 32u);
-    v229 = a0 + 8u * 1u;
-    store8(v38, 4u);
-    v230 = v38 + 18u * 1u;
-    store16(v230, 65535u);
-    v231 = f98(v229, v38);
-    if (v231) { goto L60; }
-    else { goto L61; }
-L60:;
-    f117(a0, a1);
-    goto L21;
-L61:;
-    v232 = a0 + 172u * 1u;
-    store16(v232, 13u);
-    v233 = a0 + 174u * 1u;
-    store8(v233, 1u);
-    v234 = a0 + 175u * 1u;
-    store8(v234, 0u);
-    v235 = a0 + 176u * 1u;
-    store16(v235, 0u);
-    v236 = a0 + 178u * 1u;
-    store16(v236, 0u);
-    goto L21;
-L62:;
-    v237 = (u64)((u64)v50 & (u64)65535u);
-    v238 = v237 == 0u;
-    if (v238) { goto L76; }
-    else { goto L63; }
-L63:;
-    v239 = a0 + 144u * 1u;
-    v240 = a0 + 104u * 1u;
-    v241 = a0 + 64u * 1u;
-    v242 = a0 + 96u * 1u;
-    v243 = a0 + 72u * 1u;
-    v16 = 0u; goto L64;
-L64:;
-    v244 = v50 > v16;
-    if (v244) { goto L65; }
-    else { goto L72; }
-L65:;
-    v245 = load_address(v239);
-    v246 = (u64)((u64)v16 << (4u & 63u));
-    v247 = v245 + v246 * 1u;
-    v248 = v247 + 9u * 1u;
-    v249 = load8(v248);
-    v250 = (u8)((v249) & UINT64_C(1));
-    if (v250) { goto L72; }
-    else { goto L66; }
-L66:;
-    v251 = load64(v240);
-    v252 = (u64)((u64)v251 & (u64)65535u);
-    v253 = v252 == 0u;
-    if (v253) { goto L73; }
-    else { v17 = 0u; goto L67; }
-L67:;
-    v254 = v251 > v17;
-    if (v254) { goto L68; }
-    else { goto L71; }
-L68:;
-    v255 = load_address(v242);
-    v256 = (u64)((u64)v17 << (6u & 63u));
-    v257 = v255 + v256 * 1u;
-    v258 = load64(v257);
-    v259 = load64(v247);
-    v260 = v258 == v259;
-    if (v260) { goto L69; }
-    else { goto L71; }
-L69:;
-    v261 = load64(v243);
-    v262 = v261 > v17;
-    if (v262) { goto L70; }
-    else { goto L71; }
-L70:;
-    v263 = load_address(v241);
-    v264 = v263 + v17 * 1u;
-    v265 = load8(v264);
-    v266 = v265 < 2u;
-    if (v266) { goto L72; }
-    else { goto L71; }
-L71:;
-    v267 = (u64)((u64)v17 + (u64)1u);
-    v268 = v267 == v252;
-    if (v268) { goto L73; }
-    else { v17 = v267; goto L67; }
-L72:;
-    v269 = (u64)((u64)v16 + (u64)1u);
-    v270 = v269 == v237;
-    if (v270) { goto L76; }
-    else { v16 = v269; goto L64; }
-L73:;
-    v271 = (u16)(v16);
-    v272 = (u64)((u64)v16 & (u64)65535u);
-    v273 = v50 > v272;
-    if (v273) { goto L74; }
-    else { goto L75; }
-L74:;
-    v274 = (u64)((u64)v272 << (4u & 63u));
-    v275 = v245 + v274 * 1u;
-    v276 = v275 + 9u * 1u;
-    store8(v276, 1u);
-    goto L75;
-L75:;
-    v277 = a0 + 172u * 1u;
-    store16(v277, 11u);
-    v278 = a0 + 174u * 1u;
-    store16(v278, v271);
-    v279 = a0 + 176u * 1u;
-    store16(v279, 0u);
-    v280 = a0 + 178u * 1u;
-    store16(v280, 0u);
-    goto L21;
-L76:;
-    v281 = a0 + 104u * 1u;
-    v282 = load64(v281);
-    v283 = a0 + 96u * 1u;
-    v284 = (u64)((u64)v282 & (u64)65535u);
-    v285 = v284 == 0u;
-    if (v285) { goto L93; }
-    else { goto L77; }
-L77:;
-    v286 = a0 + 8u * 1u;
-    v287 = v37 + 18u * 1u;
-    v288 = a0 + 144u * 1u;
-    v289 = v50 == 0u;
-    v18 = 0u; goto L78;
-L78:;
     memory_set(v37, 0u, 32u);
     store8(v37, 2u);
-    v290 = (u16)(v18);
-    store16(v287, v290);
-    v291 = f98(v286, v37);
-    if (v291) { goto L79; }
-    else { goto L86; }
+    v182 = (u16)(v8);
+    store16(v179, v182);
+    v183 = f98(v178, v37);
+    if (v183) { goto L43; }
+    else { goto L50; }
+L43:;
+    v184 = v137 > v8;
+    if (v184) { goto L44; }
+    else { v12 = 0u; goto L48; }
+L44:;
+    v185 = load_address(v177);
+    v186 = (u64)((u64)v8 << (6u & 63u));
+    v187 = v185 + v186 * 1u;
+    v188 = load64(v187);
+    v189 = load_address(v180);
+    if (v181) { goto L51; }
+    else { v9 = 0u; v10 = 0u; goto L45; }
+L45:;
+    v190 = (u64)((u64)v10 << (4u & 63u));
+    v191 = v189 + v190 * 1u;
+    v192 = load64(v191);
+    v193 = v192 == v188;
+    if (v193) { v11 = v9; goto L47; }
+    else { goto L46; }
+L46:;
+    v194 = (u16)((u32)v9 + (u32)1u);
+    v195 = (u64)((u64)v10 + (u64)1u);
+    v196 = v195 == v48;
+    if (v196) { v11 = 0u; goto L47; }
+    else { v9 = v194; v10 = v195; goto L45; }
+L47:;
+    v197 = (u64)v11;
+    v12 = v197; goto L48;
+L48:;
+    v198 = v48 > v12;
+    if (v198) { goto L49; }
+    else { goto L51; }
+L49:;
+    v199 = load_address(v180);
+    v200 = (u64)((u64)v12 << (4u & 63u));
+    v201 = v199 + v200 * 1u;
+    v202 = v201 + 8u * 1u;
+    v203 = load8(v202);
+    v204 = (u8)((v203) & UINT64_C(1));
+    if (v204) { goto L50; }
+    else { goto L51; }
+L50:;
+    v205 = (u64)((u64)v8 + (u64)1u);
+    v206 = v205 == v138;
+    if (v206) { goto L57; }
+    else { v8 = v205; goto L42; }
+L51:;
+    v207 = v8 == 0u;
+    if (v207) { goto L55; }
+    else { goto L52; }
+L52:;
+    v208 = (u64)((u64)v8 & (u64)65535u);
+    v209 = v137 > v208;
+    v210 = (u64)((u64)v8 + (u64)65535u);
+    v211 = (u64)((u64)v210 & (u64)65535u);
+    if (v209) { goto L53; }
+    else { goto L54; }
+L53:;
+    v212 = load_address(v177);
+    v213 = (u64)((u64)v208 << (6u & 63u));
+    v214 = v212 + v213 * 1u;
+    v215 = load64(v214);
+    v216 = (u64)((u64)v211 << (6u & 63u));
+    v217 = v212 + v216 * 1u;
+    v218 = load64(v217);
+    v219 = v215 == v218;
+    if (v219) { goto L55; }
+    else { v13 = 6u; goto L56; }
+L54:;
+    v220 = v137 > v211;
+    if (v220) { v13 = 6u; goto L56; }
+    else { goto L55; }
+L55:;
+    v13 = 7u; goto L56;
+L56:;
+    v221 = a0 + 172u * 1u;
+    store16(v221, v13);
+    v222 = a0 + 174u * 1u;
+    store16(v222, v182);
+    v223 = a0 + 176u * 1u;
+    store16(v223, 0u);
+    v224 = a0 + 178u * 1u;
+    store16(v224, 0u);
+    goto L19;
+L57:;
+    memory_set(v36, 0u, 32u);
+    v225 = a0 + 8u * 1u;
+    store8(v36, 4u);
+    v226 = v36 + 18u * 1u;
+    store16(v226, 65535u);
+    v227 = f98(v225, v36);
+    if (v227) { goto L58; }
+    else { goto L59; }
+L58:;
+    f117(a0, a1);
+    goto L19;
+L59:;
+    v228 = a0 + 172u * 1u;
+    store16(v228, 13u);
+    v229 = a0 + 174u * 1u;
+    store8(v229, 1u);
+    v230 = a0 + 175u * 1u;
+    store8(v230, 0u);
+    v231 = a0 + 176u * 1u;
+    store16(v231, 0u);
+    v232 = a0 + 178u * 1u;
+    store16(v232, 0u);
+    goto L19;
+L60:;
+    v233 = (u64)((u64)v48 & (u64)65535u);
+    v234 = v233 == 0u;
+    if (v234) { goto L74; }
+    else { goto L61; }
+L61:;
+    v235 = a0 + 144u * 1u;
+    v236 = a0 + 104u * 1u;
+    v237 = a0 + 64u * 1u;
+    v238 = a0 + 96u * 1u;
+    v239 = a0 + 72u * 1u;
+    v14 = 0u; goto L62;
+L62:;
+    v240 = v48 > v14;
+    if (v240) { goto L63; }
+    else { goto L70; }
+L63:;
+    v241 = load_address(v235);
+    v242 = (u64)((u64)v14 << (4u & 63u));
+    v243 = v241 + v242 * 1u;
+    v244 = v243 + 9u * 1u;
+    v245 = load8(v244);
+    v246 = (u8)((v245) & UINT64_C(1));
+    if (v246) { goto L70; }
+    else { goto L64; }
+L64:;
+    v247 = load64(v236);
+    v248 = (u64)((u64)v247 & (u64)65535u);
+    v249 = v248 == 0u;
+    if (v249) { goto L71; }
+    else { v15 = 0u; goto L65; }
+L65:;
+    v250 = v247 > v15;
+    if (v250) { goto L66; }
+    else { goto L69; }
+L66:;
+    v251 = load_address(v238);
+    v252 = (u64)((u64)v15 << (6u & 63u));
+    v253 = v251 + v252 * 1u;
+    v254 = load64(v253);
+    v255 = load64(v243);
+    v256 = v254 == v255;
+    if (v256) { goto L67; }
+    else { goto L69; }
+L67:;
+    v257 = load64(v239);
+    v258 = v257 > v15;
+    if (v258) { goto L68; }
+    else { goto L69; }
+L68:;
+    v259 = load_address(v237);
+    v260 = v259 + v15 * 1u;
+    v261 = load8(v260);
+    v262 = v261 < 2u;
+    if (v262) { goto L70; }
+    else { goto L69; }
+L69:;
+    v263 = (u64)((u64)v15 + (u64)1u);
+    v264 = v263 == v248;
+    if (v264) { goto L71; }
+    else { v15 = v263; goto L65; }
+L70:;
+    v265 = (u64)((u64)v14 + (u64)1u);
+    v266 = v265 == v233;
+    if (v266) { goto L74; }
+    else { v14 = v265; goto L62; }
+L71:;
+    v267 = (u16)(v14);
+    v268 = (u64)((u64)v14 & (u64)65535u);
+    v269 = v48 > v268;
+    if (v269) { goto L72; }
+    else { goto L73; }
+L72:;
+    v270 = (u64)((u64)v268 << (4u & 63u));
+    v271 = v241 + v270 * 1u;
+    v272 = v271 + 9u * 1u;
+    store8(v272, 1u);
+    goto L73;
+L73:;
+    v273 = a0 + 172u * 1u;
+    store16(v273, 11u);
+    v274 = a0 + 174u * 1u;
+    store16(v274, v267);
+    v275 = a0 + 176u * 1u;
+    store16(v275, 0u);
+    v276 = a0 + 178u * 1u;
+    store16(v276, 0u);
+    goto L19;
+L74:;
+    v277 = a0 + 104u * 1u;
+    v278 = load64(v277);
+    v279 = a0 + 96u * 1u;
+    v280 = (u64)((u64)v278 & (u64)65535u);
+    v281 = v280 == 0u;
+    if (v281) { goto L91; }
+    else { goto L75; }
+L75:;
+    v282 = a0 + 8u * 1u;
+    v283 = v35 + 18u * 1u;
+    v284 = a0 + 144u * 1u;
+    v285 = v48 == 0u;
+    v16 = 0u; goto L76;
+L76:;
+    memory_set(v35, 0u, 32u);
+    store8(v35, 2u);
+    v286 = (u16)(v16);
+    store16(v283, v286);
+    v287 = f98(v282, v35);
+    if (v287) { goto L77; }
+    else { goto L84; }
+L77:;
+    v288 = v278 > v16;
+    if (v288) { goto L78; }
+    else { v20 = 0u; goto L82; }
+L78:;
+    v289 = load_address(v279);
+    v290 = (u64)((u64)v16 << (6u & 63u));
+    v291 = v289 + v290 * 1u;
+    v292 = load64(v291);
+    v293 = load_address(v284);
+    if (v285) { goto L85; }
+    else { v17 = 0u; v18 = 0u; goto L79; }
 L79:;
-    v292 = v282 > v18;
-    if (v292) { goto L80; }
-    else { v22 = 0u; goto L84; }
-L80:;
-    v293 = load_address(v283);
-    v294 = (u64)((u64)v18 << (6u & 63u));
+    v294 = (u64)((u64)v18 << (4u & 63u));
     v295 = v293 + v294 * 1u;
     v296 = load64(v295);
-    v297 = load_address(v288);
-    if (v289) { goto L87; }
-    else { v19 = 0u; v20 = 0u; goto L81; }
+    v297 = v296 == v292;
+    if (v297) { v19 = v17; goto L81; }
+    else { goto L80; }
+L80:;
+    v298 = (u16)((u32)v17 + (u32)1u);
+    v299 = (u64)((u64)v18 + (u64)1u);
+    v300 = v299 == v48;
+    if (v300) { v19 = 0u; goto L81; }
+    else { v17 = v298; v18 = v299; goto L79; }
 L81:;
-    v298 = (u64)((u64)v20 << (4u & 63u));
-    v299 = v297 + v298 * 1u;
-    v300 = load64(v299);
-    v301 = v300 == v296;
-    if (v301) { v21 = v19; goto L83; }
-    else { goto L82; }
+    v301 = (u64)v19;
+    v20 = v301; goto L82;
 L82:;
-    v302 = (u16)((u32)v19 + (u32)1u);
-    v303 = (u64)((u64)v20 + (u64)1u);
-    v304 = v303 == v50;
-    if (v304) { v21 = 0u; goto L83; }
-    else { v19 = v302; v20 = v303; goto L81; }
+    v302 = v48 > v20;
+    if (v302) { goto L83; }
+    else { goto L85; }
 L83:;
-    v305 = (u64)v21;
-    v22 = v305; goto L84;
+    v303 = load_address(v284);
+    v304 = (u64)((u64)v20 << (4u & 63u));
+    v305 = v303 + v304 * 1u;
+    v306 = v305 + 8u * 1u;
+    v307 = load8(v306);
+    v308 = (u8)((v307) & UINT64_C(1));
+    if (v308) { goto L84; }
+    else { goto L85; }
 L84:;
-    v306 = v50 > v22;
-    if (v306) { goto L85; }
-    else { goto L87; }
+    v309 = (u64)((u64)v16 + (u64)1u);
+    v310 = v309 == v280;
+    if (v310) { goto L91; }
+    else { v16 = v309; goto L76; }
 L85:;
-    v307 = load_address(v288);
-    v308 = (u64)((u64)v22 << (4u & 63u));
-    v309 = v307 + v308 * 1u;
-    v310 = v309 + 8u * 1u;
-    v311 = load8(v310);
-    v312 = (u8)((v311) & UINT64_C(1));
-    if (v312) { goto L86; }
-    else { goto L87; }
+    v311 = v16 == 0u;
+    if (v311) { goto L89; }
+    else { goto L86; }
 L86:;
-    v313 = (u64)((u64)v18 + (u64)1u);
-    v314 = v313 == v284;
-    if (v314) { goto L93; }
-    else { v18 = v313; goto L78; }
-L87:;
-    v315 = v18 == 0u;
-    if (v315) { goto L91; }
+    v312 = (u64)((u64)v16 & (u64)65535u);
+    v313 = v278 > v312;
+    v314 = (u64)((u64)v16 + (u64)65535u);
+    v315 = (u64)((u64)v314 & (u64)65535u);
+    if (v313) { goto L87; }
     else { goto L88; }
+L87:;
+    v316 = load_address(v279);
+    v317 = (u64)((u64)v312 << (6u & 63u));
+    v318 = v316 + v317 * 1u;
+    v319 = load64(v318);
+    v320 = (u64)((u64)v315 << (6u & 63u));
+    v321 = v316 + v320 * 1u;
+    v322 = load64(v321);
+    v323 = v319 == v322;
+    if (v323) { goto L89; }
+    else { v21 = 6u; goto L90; }
 L88:;
-    v316 = (u64)((u64)v18 & (u64)65535u);
-    v317 = v282 > v316;
-    v318 = (u64)((u64)v18 + (u64)65535u);
-    v319 = (u64)((u64)v318 & (u64)65535u);
-    if (v317) { goto L89; }
-    else { goto L90; }
+    v324 = v278 > v315;
+    if (v324) { v21 = 6u; goto L90; }
+    else { goto L89; }
 L89:;
-    v320 = load_address(v283);
-    v321 = (u64)((u64)v316 << (6u & 63u));
-    v322 = v320 + v321 * 1u;
-    v323 = load64(v322);
-    v324 = (u64)((u64)v319 << (6u & 63u));
-    v325 = v320 + v324 * 1u;
-    v326 = load64(v325);
-    v327 = v323 == v326;
-    if (v327) { goto L91; }
-    else { v23 = 6u; goto L92; }
+    v21 = 7u; goto L90;
 L90:;
-    v328 = v282 > v319;
-    if (v328) { v23 = 6u; goto L92; }
-    else { goto L91; }
+    v325 = a0 + 172u * 1u;
+    store16(v325, v21);
+    v326 = a0 + 174u * 1u;
+    store16(v326, v286);
+    v327 = a0 + 176u * 1u;
+    store16(v327, 0u);
+    v328 = a0 + 178u * 1u;
+    store16(v328, 0u);
+    goto L19;
 L91:;
-    v23 = 7u; goto L92;
+    memory_set(v34, 0u, 32u);
+    v329 = a0 + 8u * 1u;
+    store8(v34, 4u);
+    v330 = v34 + 18u * 1u;
+    store16(v330, 65535u);
+    v331 = f98(v329, v34);
+    if (v331) { goto L98; }
+    else { goto L92; }
 L92:;
-    v329 = a0 + 172u * 1u;
-    store16(v329, v23);
-    v330 = a0 + 174u * 1u;
-    store16(v330, v290);
-    v331 = a0 + 176u * 1u;
-    store16(v331, 0u);
-    v332 = a0 + 178u * 1u;
-    store16(v332, 0u);
-    goto L21;
-L93:;
-    memory_set(v36, 0u, 32u);
-    v333 = a0 + 8u * 1u;
-    store8(v36, 4u);
-    v334 = v36 + 18u * 1u;
+    memory_set(v33, 0u, 32u);
+    store8(v33, 4u);
+    v332 = v33 + 8u * 1u;
+    store64(v332, a1);
+    v333 = v33 + 16u * 1u;
+    store8(v333, 7u);
+    v334 = v33 + 18u * 1u;
     store16(v334, 65535u);
-    v335 = f98(v333, v36);
-    if (v335) { goto L100; }
-    else { goto L94; }
+    v335 = f98(v329, v33);
+    if (v335) { goto L93; }
+    else { goto L96; }
+L93:;
+    store64(v31, 4u);
+    v336 = v31 + 8u * 1u;
+    memory_cpy(v336, v332, 24u);
+    memory_set(v32, 0u, 16u);
+    v337 = a0 + 184u * 1u;
+    v338 = load_address(v337);
+    v339 = a0 + 192u * 1u;
+    v340 = load64(v339);
+    f97(v32, v329, v31, ADDRESS(c148), 0u, ADDRESS(c148), 0u, v338, v340);
+    v341 = load8(v32);
+    v342 = v341 == 0u;
+    if (v342) { goto L94; }
+    else { goto L95; }
 L94:;
-    memory_set(v35, 0u, 32u);
-    store8(v35, 4u);
-    v336 = v35 + 8u * 1u;
-    store64(v336, a1);
-    v337 = v35 + 16u * 1u;
-    store8(v337, 7u);
-    v338 = v35 + 18u * 1u;
-    store16(v338, 65535u);
-    v339 = f98(v333, v35);
-    if (v339) { goto L95; }
-    else { goto L98; }
-L95:;
-    store64(v33, 4u);
-    v340 = v33 + 8u * 1u;
-    memory_cpy(v340, v336, 24u);
-    memory_set(v34, 0u, 16u);
-    v341 = a0 + 184u * 1u;
-    v342 = load_address(v341);
-    v343 = a0 + 192u * 1u;
+    v343 = v32 + 8u * 1u;
     v344 = load64(v343);
-    f97(v34, v333, v33, ADDRESS(c148), 0u, ADDRESS(c148), 0u, v342, v344);
-    v345 = load8(v34);
-    v346 = v345 == 0u;
-    if (v346) { goto L96; }
-    else { goto L97; }
+    v345 = a0 + 208u * 1u;
+    store64(v345, v344);
+    goto L95;
+L95:;
+    v346 = a0 + 172u * 1u;
+    store16(v346, 5u);
+    v347 = a0 + 174u * 1u;
+    store16(v347, 1798u);
+    v348 = a0 + 176u * 1u;
+    store16(v348, 0u);
+    v349 = a0 + 178u * 1u;
+    store16(v349, 0u);
+    goto L97;
 L96:;
-    v347 = v34 + 8u * 1u;
-    v348 = load64(v347);
-    v349 = a0 + 208u * 1u;
-    store64(v349, v348);
+    v350 = a0 + 172u * 1u;
+    store16(v350, 13u);
+    v351 = a0 + 174u * 1u;
+    store8(v351, 1u);
+    v352 = a0 + 175u * 1u;
+    store8(v352, 0u);
+    v353 = a0 + 176u * 1u;
+    store16(v353, 0u);
+    v354 = a0 + 178u * 1u;
+    store16(v354, 0u);
     goto L97;
 L97:;
-    v350 = a0 + 172u * 1u;
-    store16(v350, 5u);
-    v351 = a0 + 174u * 1u;
-    store16(v351, 1798u);
-    v352 = a0 + 176u * 1u;
-    store16(v352, 0u);
-    v353 = a0 + 178u * 1u;
-    store16(v353, 0u);
-    goto L99;
+    goto L19;
 L98:;
-    v354 = a0 + 172u * 1u;
-    store16(v354, 13u);
-    v355 = a0 + 174u * 1u;
-    store8(v355, 1u);
-    v356 = a0 + 175u * 1u;
-    store8(v356, 0u);
-    v357 = a0 + 176u * 1u;
-    store16(v357, 0u);
-    v358 = a0 + 178u * 1u;
-    store16(v358, 0u);
-    goto L99;
-L99:;
-    goto L21;
-L100:;
-    v359 = a0 + 170u * 1u;
-    v360 = load8(v359);
-    v361 = (u8)((v360) & UINT64_C(1));
-    if (v361) { goto L101; }
-    else { goto L107; }
-L101:;
-    memory_set(v32, 0u, 32u);
-    store8(v32, 4u);
-    v362 = v32 + 8u * 1u;
-    store64(v362, a1);
-    v363 = v32 + 16u * 1u;
-    store8(v363, 3u);
-    v364 = v32 + 18u * 1u;
-    store16(v364, 65535u);
-    v365 = f98(v333, v32);
-    if (v365) { goto L102; }
+    v355 = a0 + 170u * 1u;
+    v356 = load8(v355);
+    v357 = (u8)((v356) & UINT64_C(1));
+    if (v357) { goto L99; }
     else { goto L105; }
-L102:;
-    store64(v30, 4u);
-    v366 = v30 + 8u * 1u;
-    memory_cpy(v366, v362, 24u);
-    memory_set(v31, 0u, 16u);
-    v367 = a0 + 184u * 1u;
-    v368 = load_address(v367);
-    v369 = a0 + 192u * 1u;
+L99:;
+    memory_set(v30, 0u, 32u);
+    store8(v30, 4u);
+    v358 = v30 + 8u * 1u;
+    store64(v358, a1);
+    v359 = v30 + 16u * 1u;
+    store8(v359, 3u);
+    v360 = v30 + 18u * 1u;
+    store16(v360, 65535u);
+    v361 = f98(v329, v30);
+    if (v361) { goto L100; }
+    else { goto L103; }
+L100:;
+    store64(v28, 4u);
+    v362 = v28 + 8u * 1u;
+    memory_cpy(v362, v358, 24u);
+    memory_set(v29, 0u, 16u);
+    v363 = a0 + 184u * 1u;
+    v364 = load_address(v363);
+    v365 = a0 + 192u * 1u;
+    v366 = load64(v365);
+    f97(v29, v329, v28, ADDRESS(c148), 0u, ADDRESS(c148), 0u, v364, v366);
+    v367 = load8(v29);
+    v368 = v367 == 0u;
+    if (v368) { goto L101; }
+    else { goto L102; }
+L101:;
+    v369 = v29 + 8u * 1u;
     v370 = load64(v369);
-    f97(v31, v333, v30, ADDRESS(c148), 0u, ADDRESS(c148), 0u, v368, v370);
-    v371 = load8(v31);
-    v372 = v371 == 0u;
-    if (v372) { goto L103; }
-    else { goto L104; }
+    v371 = a0 + 208u * 1u;
+    store64(v371, v370);
+    goto L102;
+L102:;
+    v372 = a0 + 172u * 1u;
+    store16(v372, 5u);
+    v373 = a0 + 174u * 1u;
+    store16(v373, 774u);
+    v374 = a0 + 176u * 1u;
+    store16(v374, 0u);
+    v375 = a0 + 178u * 1u;
+    store16(v375, 0u);
+    goto L104;
 L103:;
-    v373 = v31 + 8u * 1u;
-    v374 = load64(v373);
-    v375 = a0 + 208u * 1u;
-    store64(v375, v374);
+    v376 = a0 + 172u * 1u;
+    store16(v376, 13u);
+    v377 = a0 + 174u * 1u;
+    store8(v377, 1u);
+    v378 = a0 + 175u * 1u;
+    store8(v378, 0u);
+    v379 = a0 + 176u * 1u;
+    store16(v379, 0u);
+    v380 = a0 + 178u * 1u;
+    store16(v380, 0u);
     goto L104;
 L104:;
-    v376 = a0 + 172u * 1u;
-    store16(v376, 5u);
-    v377 = a0 + 174u * 1u;
-    store16(v377, 774u);
-    v378 = a0 + 176u * 1u;
-    store16(v378, 0u);
-    v379 = a0 + 178u * 1u;
-    store16(v379, 0u);
-    goto L106;
+    goto L19;
 L105:;
-    v380 = a0 + 172u * 1u;
-    store16(v380, 13u);
-    v381 = a0 + 174u * 1u;
-    store8(v381, 1u);
-    v382 = a0 + 175u * 1u;
-    store8(v382, 0u);
-    v383 = a0 + 176u * 1u;
-    store16(v383, 0u);
-    v384 = a0 + 178u * 1u;
-    store16(v384, 0u);
-    goto L106;
-L106:;
-    goto L21;
-L107:;
     f117(a0, a1);
-    goto L21;
+    goto L19;
+L106:;
+    v381 = a0 + 104u * 1u;
+    v382 = load64(v381);
+    v383 = a0 + 64u * 1u;
+    v384 = (u64)((u64)v382 & (u64)65535u);
+    v385 = v384 == 0u;
+    if (v385) { v23 = 0u; v24 = 0u; goto L112; }
+    else { goto L107; }
+L107:;
+    v386 = a0 + 72u * 1u;
+    v387 = load64(v386);
+    v22 = 0u; goto L108;
 L108:;
-    v385 = a0 + 104u * 1u;
-    v386 = load64(v385);
-    v387 = a0 + 64u * 1u;
-    v388 = (u64)((u64)v386 & (u64)65535u);
-    v389 = v388 == 0u;
-    if (v389) { v25 = 0u; v26 = 0u; goto L114; }
-    else { goto L109; }
+    v388 = v387 > v22;
+    if (v388) { goto L109; }
+    else { goto L110; }
 L109:;
-    v390 = a0 + 72u * 1u;
-    v391 = load64(v390);
-    v24 = 0u; goto L110;
-L110:;
-    v392 = v391 > v24;
+    v389 = load_address(v383);
+    v390 = v389 + v22 * 1u;
+    v391 = load8(v390);
+    v392 = v391 == 5u;
     if (v392) { goto L111; }
-    else { goto L112; }
+    else { goto L110; }
+L110:;
+    v393 = (u64)((u64)v22 + (u64)1u);
+    v394 = v393 == v384;
+    if (v394) { v23 = 0u; v24 = 0u; goto L112; }
+    else { v22 = v393; goto L108; }
 L111:;
-    v393 = load_address(v387);
-    v394 = v393 + v24 * 1u;
-    v395 = load8(v394);
-    v396 = v395 == 5u;
-    if (v396) { goto L113; }
-    else { goto L112; }
+    v395 = (u16)(v22);
+    v23 = v395; v24 = 1u; goto L112;
 L112:;
-    v397 = (u64)((u64)v24 + (u64)1u);
-    v398 = v397 == v388;
-    if (v398) { v25 = 0u; v26 = 0u; goto L114; }
-    else { v24 = v397; goto L110; }
+    memory_set(v27, 0u, 32u);
+    v396 = (u8)((v24) & UINT64_C(1));
+    v397 = v396 ? v23 : 65535u;
+    store8(v27, 4u);
+    v398 = v27 + 8u * 1u;
+    store64(v398, a1);
+    v399 = v27 + 16u * 1u;
+    store8(v399, 4u);
+    v400 = v27 + 18u * 1u;
+    store16(v400, v397);
+    v401 = a0 + 8u * 1u;
+    v402 = f98(v401, v27);
+    v403 = (u16)v24;
+    if (v402) { goto L113; }
+    else { goto L116; }
 L113:;
-    v399 = (u16)(v24);
-    v25 = v399; v26 = 1u; goto L114;
+    store64(v25, 4u);
+    v404 = v25 + 8u * 1u;
+    memory_cpy(v404, v398, 24u);
+    memory_set(v26, 0u, 16u);
+    v405 = a0 + 184u * 1u;
+    v406 = load_address(v405);
+    v407 = a0 + 192u * 1u;
+    v408 = load64(v407);
+    f97(v26, v401, v25, ADDRESS(c148), 0u, ADDRESS(c148), 0u, v406, v408);
+    v409 = load8(v26);
+    v410 = v409 == 0u;
+    if (v410) { goto L114; }
+    else { goto L115; }
 L114:;
-    memory_set(v29, 0u, 32u);
-    v400 = (u8)((v26) & UINT64_C(1));
-    v401 = v400 ? v25 : 65535u;
-    store8(v29, 4u);
-    v402 = v29 + 8u * 1u;
-    store64(v402, a1);
-    v403 = v29 + 16u * 1u;
-    store8(v403, 4u);
-    v404 = v29 + 18u * 1u;
-    store16(v404, v401);
-    v405 = a0 + 8u * 1u;
-    v406 = f98(v405, v29);
-    v407 = (u16)v26;
-    if (v406) { goto L115; }
-    else { goto L118; }
-L115:;
-    store64(v27, 4u);
-    v408 = v27 + 8u * 1u;
-    memory_cpy(v408, v402, 24u);
-    memory_set(v28, 0u, 16u);
-    v409 = a0 + 184u * 1u;
-    v410 = load_address(v409);
-    v411 = a0 + 192u * 1u;
+    v411 = v26 + 8u * 1u;
     v412 = load64(v411);
-    f97(v28, v405, v27, ADDRESS(c148), 0u, ADDRESS(c148), 0u, v410, v412);
-    v413 = load8(v28);
-    v414 = v413 == 0u;
-    if (v414) { goto L116; }
-    else { goto L117; }
+    v413 = a0 + 208u * 1u;
+    store64(v413, v412);
+    goto L115;
+L115:;
+    v414 = a0 + 172u * 1u;
+    store16(v414, 5u);
+    v415 = a0 + 174u * 1u;
+    store16(v415, 1030u);
+    v416 = a0 + 176u * 1u;
+    store16(v416, v403);
+    v417 = a0 + 178u * 1u;
+    store16(v417, v23);
+    goto L117;
 L116:;
-    v415 = v28 + 8u * 1u;
-    v416 = load64(v415);
-    v417 = a0 + 208u * 1u;
-    store64(v417, v416);
+    v418 = a0 + 172u * 1u;
+    store16(v418, 13u);
+    v419 = a0 + 174u * 1u;
+    store8(v419, 1u);
+    v420 = a0 + 175u * 1u;
+    store8(v420, 0u);
+    v421 = a0 + 176u * 1u;
+    store16(v421, v403);
+    v422 = a0 + 178u * 1u;
+    store16(v422, v23);
     goto L117;
 L117:;
-    v418 = a0 + 172u * 1u;
-    store16(v418, 5u);
-    v419 = a0 + 174u * 1u;
-    store16(v419, 1030u);
-    v420 = a0 + 176u * 1u;
-    store16(v420, v407);
-    v421 = a0 + 178u * 1u;
-    store16(v421, v25);
-    goto L119;
+    goto L19;
 L118:;
-    v422 = a0 + 172u * 1u;
-    store16(v422, 13u);
-    v423 = a0 + 174u * 1u;
-    store8(v423, 1u);
-    v424 = a0 + 175u * 1u;
-    store8(v424, 0u);
-    v425 = a0 + 176u * 1u;
-    store16(v425, v407);
-    v426 = a0 + 178u * 1u;
-    store16(v426, v25);
-    goto L119;
+    v423 = a0 + 172u * 1u;
+    store16(v423, 13u);
+    v424 = a0 + 174u * 1u;
+    store8(v424, 2u);
+    v425 = a0 + 175u * 1u;
+    store8(v425, 0u);
+    v426 = a0 + 176u * 1u;
+    store16(v426, 0u);
+    v427 = a0 + 178u * 1u;
+    store16(v427, 0u);
+    goto L19;
 L119:;
-    goto L21;
-L120:;
-    v427 = a0 + 172u * 1u;
-    store16(v427, 13u);
-    v428 = a0 + 174u * 1u;
-    store8(v428, 2u);
-    v429 = a0 + 175u * 1u;
-    store8(v429, 0u);
-    v430 = a0 + 176u * 1u;
-    store16(v430, 0u);
-    v431 = a0 + 178u * 1u;
-    store16(v431, 0u);
-    goto L21;
-L121:;
     UNREACHABLE;
 }
 
@@ -27212,112 +27196,144 @@ L8:;
 }
 
 static void f119(address a0, u16 a1, u8 a2) {
-    u16 v3, v11, v35, v55;
-    u8 v4, v5, v7, v8, v12, v22, v24, v32, v34, v37, v40, v41, v42, v47, v48, v49;
-    u8 v54, v56, v57;
-    u64 v6, v10, v14, v17, v20, v21, v23, v26, v28, v31, v33, v36, v44, v51;
-    address v9, v13, v15, v16, v18, v19, v25, v27, v29, v30, v38, v39, v43, v45, v46, v50;
-    address v52, v53, v58, v59, v60, v61, v62;
+    u64 v3, v6, v10, v11, v14, v15, v19, v24, v26, v29, v31, v38, v43, v45, v48, v50;
+    u64 v57, v61, v64;
+    u8 v4, v8, v12, v16, v22, v30, v32, v35, v36, v37, v39, v41, v49, v51, v54, v55;
+    u8 v56, v58, v62, v67, v68;
+    u16 v5, v7, v40, v59, v60;
+    address v9, v13, v17, v18, v20, v21, v23, v25, v27, v28, v33, v34, v42, v44, v46, v47;
+    address v52, v53, v63, v65, v66, v69, v70, v71, v72, v73;
     v9 = a0 + 104u * 1u;
     v10 = load64(v9);
-    v11 = (u16)(v10);
+    v11 = (u64)((u64)v10 & (u64)65535u);
     v12 = v11 == 0u;
-    if (v12) { v8 = 0u; goto L15; }
+    if (v12) { v8 = 0u; goto L22; }
     else { goto L1; }
 L1:;
     v13 = a0 + 152u * 1u;
-    v14 = (u64)a1;
-    v15 = a0 + 96u * 1u;
-    v16 = a0 + 144u * 1u;
-    v17 = (u64)((u64)v14 << (4u & 63u));
-    v18 = a0 + 72u * 1u;
-    v19 = a0 + 64u * 1u;
-    v20 = (u64)((u64)v10 & (u64)65535u);
-    v21 = load64(v13);
-    v22 = v21 > v14;
-    v3 = 0u; v4 = 0u; v5 = 0u; goto L2;
+    v14 = load64(v13);
+    v15 = (u64)a1;
+    v16 = v14 > v15;
+    v17 = a0 + 96u * 1u;
+    v18 = a0 + 144u * 1u;
+    v19 = (u64)((u64)v15 << (4u & 63u));
+    v20 = a0 + 72u * 1u;
+    v21 = a0 + 64u * 1u;
+    v3 = 0u; goto L2;
 L2:;
-    v23 = (u64)v3;
-    v6 = v23; goto L3;
-L3:;
-    v24 = v10 <= v6;
-    if (v24) { goto L5; }
+    v22 = v10 > v3;
+    if (v22) { goto L3; }
     else { goto L4; }
+L3:;
+    if (v16) { goto L5; }
+    else { goto L8; }
 L4:;
-    if (v22) { goto L6; }
-    else { goto L7; }
+    if (v16) { goto L8; }
+    else { goto L6; }
 L5:;
-    if (v22) { goto L7; }
+    v23 = load_address(v17);
+    v24 = (u64)((u64)v3 << (6u & 63u));
+    v25 = v23 + v24 * 1u;
+    v26 = load64(v25);
+    v27 = load_address(v18);
+    v28 = v27 + v19 * 1u;
+    v29 = load64(v28);
+    v30 = v26 == v29;
+    if (v30) { goto L6; }
     else { goto L8; }
 L6:;
-    v25 = load_address(v15);
-    v26 = (u64)((u64)v6 << (6u & 63u));
-    v27 = v25 + v26 * 1u;
-    v28 = load64(v27);
-    v29 = load_address(v16);
-    v30 = v29 + v17 * 1u;
-    v31 = load64(v30);
-    v32 = v28 == v31;
-    if (v32) { goto L8; }
-    else { goto L7; }
+    v31 = load64(v20);
+    v32 = v31 > v3;
+    if (v32) { goto L7; }
+    else { goto L9; }
 L7:;
-    v33 = (u64)((u64)v6 + (u64)1u);
-    v34 = v33 < v20;
-    if (v34) { v6 = v33; goto L3; }
-    else { v8 = v5; goto L15; }
+    v33 = load_address(v21);
+    v34 = v33 + v3 * 1u;
+    v35 = load8(v34);
+    v36 = (u8)((u32)v35 + (u32)254u);
+    v37 = v36 < 3u;
+    if (v37) { goto L8; }
+    else { goto L9; }
 L8:;
-    v35 = (u16)(v6);
-    v36 = load64(v18);
-    v37 = v36 > v6;
-    if (v37) { goto L9; }
-    else { goto L10; }
+    v38 = (u64)((u64)v3 + (u64)1u);
+    v39 = v38 == v11;
+    if (v39) { v4 = 0u; v5 = 0u; goto L10; }
+    else { v3 = v38; goto L2; }
 L9:;
-    v38 = load_address(v19);
-    v39 = v38 + v6 * 1u;
-    v40 = load8(v39);
-    v41 = (u8)((u32)v40 + (u32)254u);
-    v42 = v41 < 3u;
-    if (v42) { goto L12; }
-    else { goto L10; }
+    v40 = (u16)(v3);
+    v4 = 1u; v5 = v40; goto L10;
 L10:;
-    if (v24) { v8 = 0u; goto L15; }
-    else { goto L11; }
+    v6 = 0u; goto L11;
 L11:;
-    v43 = load_address(v15);
-    v44 = (u64)((u64)v6 << (6u & 63u));
-    v45 = v43 + v44 * 1u;
-    v46 = v45 + 8u * 1u;
-    v47 = load8(v46);
-    v8 = v47; goto L15;
-L12:;
-    v48 = (u8)(((u32)v4 | (u32)v24) & UINT64_C(1));
-    v49 = v4 ? v5 : 0u;
-    if (v48) { v7 = v49; goto L14; }
+    v41 = v10 > v6;
+    if (v41) { goto L12; }
     else { goto L13; }
+L12:;
+    if (v16) { goto L14; }
+    else { goto L17; }
 L13:;
-    v50 = load_address(v15);
-    v51 = (u64)((u64)v6 << (6u & 63u));
-    v52 = v50 + v51 * 1u;
-    v53 = v52 + 8u * 1u;
-    v54 = load8(v53);
-    v7 = v54; goto L14;
+    if (v16) { goto L17; }
+    else { goto L15; }
 L14:;
-    v55 = (u16)((u32)v35 + (u32)1u);
-    v56 = v55 < v11;
-    if (v56) { v3 = v55; v4 = 1u; v5 = v7; goto L2; }
-    else { v8 = v7; goto L15; }
+    v42 = load_address(v17);
+    v43 = (u64)((u64)v6 << (6u & 63u));
+    v44 = v42 + v43 * 1u;
+    v45 = load64(v44);
+    v46 = load_address(v18);
+    v47 = v46 + v19 * 1u;
+    v48 = load64(v47);
+    v49 = v45 == v48;
+    if (v49) { goto L15; }
+    else { goto L17; }
 L15:;
-    v57 = (u8)a2;
-    v58 = a0 + 172u * 1u;
-    store16(v58, 3u);
-    v59 = a0 + 174u * 1u;
-    store16(v59, a1);
-    v60 = a0 + 176u * 1u;
-    store8(v60, v8);
-    v61 = a0 + 177u * 1u;
-    store8(v61, v57);
-    v62 = a0 + 178u * 1u;
-    store16(v62, 0u);
+    v50 = load64(v20);
+    v51 = v50 > v6;
+    if (v51) { goto L16; }
+    else { goto L17; }
+L16:;
+    v52 = load_address(v21);
+    v53 = v52 + v6 * 1u;
+    v54 = load8(v53);
+    v55 = (u8)((u32)v54 + (u32)251u);
+    v56 = v55 < 253u;
+    if (v56) { goto L17; }
+    else { goto L18; }
+L17:;
+    v57 = (u64)((u64)v6 + (u64)1u);
+    v58 = v57 == v11;
+    if (v58) { goto L19; }
+    else { v6 = v57; goto L11; }
+L18:;
+    v59 = (u16)(v6);
+    v60 = v4 ? v5 : v59;
+    v7 = v60; goto L20;
+L19:;
+    if (v4) { v7 = v5; goto L20; }
+    else { v8 = 0u; goto L22; }
+L20:;
+    v61 = (u64)v7;
+    v62 = v10 > v61;
+    if (v62) { goto L21; }
+    else { v8 = 0u; goto L22; }
+L21:;
+    v63 = load_address(v17);
+    v64 = (u64)((u64)v61 << (6u & 63u));
+    v65 = v63 + v64 * 1u;
+    v66 = v65 + 8u * 1u;
+    v67 = load8(v66);
+    v8 = v67; goto L22;
+L22:;
+    v68 = (u8)a2;
+    v69 = a0 + 172u * 1u;
+    store16(v69, 3u);
+    v70 = a0 + 174u * 1u;
+    store16(v70, a1);
+    v71 = a0 + 176u * 1u;
+    store8(v71, v8);
+    v72 = a0 + 177u * 1u;
+    store8(v72, v68);
+    v73 = a0 + 178u * 1u;
+    store16(v73, 0u);
     return;
 }
 
@@ -33174,1666 +33190,6 @@ L2:;
     v11 = (u64)((u64)v7 << (1u & 63u));
     v12 = v9 > v11 ? v9 : v11;
     v13 = v10 ? v12 : v9;
-    v14 = v13 < UINT64_C(1152921504606846976);
-    if (v14) { goto L3; }
-    else { v1 = 0u; goto L1; }
-L3:;
-    v15 = v7 == 0u;
-    if (v15) { goto L5; }
-    else { goto L4; }
-L4:;
-    v16 = load_address(a0);
-    v17 = (u64)((u64)v4 << (3u & 63u));
-    v18 = (u64)((u64)v13 << (3u & 63u));
-    v19 = portable_rattle_realloc(v16, v17, v18, 8u);
-    v20 = v19.m0;
-    v21 = (u8)((v20) & UINT64_C(1));
-    if (v21) { v2 = v19; goto L6; }
-    else { v1 = 0u; goto L1; }
-L5:;
-    v22 = (u64)((u64)v12 << (3u & 63u));
-    v23 = portable_rattle_alloc(v22, 8u);
-    v24 = v23;
-    v25 = v24.m0;
-    v26 = (u8)((v25) & UINT64_C(1));
-    if (v26) { v2 = v24; goto L6; }
-    else { v1 = 0u; goto L1; }
-L6:;
-    v27 = v2.m1;
-    v28 = (address)v27;
-    store_address(a0, v28);
-    store64(v6, v13);
-    v1 = 1u; goto L1;
-}
-
-static void f149(address a0, address a1, u64 a2) {
-    u64 v3, v4, v6, v7, v8, v10, v11, v12;
-    address v5, v9;
-    u8 v13;
-    v3 = 0u; goto L1;
-L1:;
-    v4 = (u64)((u64)v3 << (3u & 63u));
-    v5 = a0 + v4 * 1u;
-    v6 = (u64)((u64)v3 ^ (u64)UINT64_C(18446744073709551615));
-    v7 = (u64)((u64)a2 + (u64)v6);
-    v8 = (u64)((u64)v7 << (3u & 63u));
-    v9 = a1 + v8 * 1u;
-    v10 = load64(v5);
-    v11 = load64(v9);
-    store64(v5, v11);
-    store64(v9, v10);
-    v12 = (u64)((u64)v3 + (u64)1u);
-    v13 = v12 == a2;
-    if (v13) { goto L2; }
-    else { v3 = v12; goto L1; }
-L2:;
-    return;
-}
-
-static void f150(address a0, u64 a1, u64 a2, u32 a3, address a4) {
-    address v5, v10, v19, v25, v34, v41, v46, v57, v58, v62, v66, v70, v75, v77, v86, v91;
-    address v93, v99, v102, v110, v111, v119, v124, v126, v134, v139, v141, v148, v151, v159, v160;
-    u64 v6, v8, v9, v11, v12, v13, v14, v15, v16, v17, v18, v20, v21, v23, v24, v26;
-    u64 v27, v28, v29, v30, v31, v32, v36, v38, v39, v40, v42, v43, v45, v47, v52, v53;
-    u64 v54, v56, v59, v60, v61, v63, v64, v67, v69, v71, v73, v74, v76, v78, v79, v80;
-    u64 v82, v83, v85, v87, v89, v90, v92, v94, v95, v96, v98, v100, v101, v103, v104, v105;
-    u64 v106, v109, v112, v113, v118, v120, v122, v123, v125, v127, v128, v129, v131, v133, v135, v137;
-    u64 v138, v140, v142, v143, v144, v146, v147, v149, v150, v152, v153, v154, v155, v158, v161, v162;
-    u32 v7, v22, v115, v164;
-    u8 v33, v35, v37, v44, v48, v49, v50, v51, v55, v65, v68, v72, v81, v84, v88, v97;
-    u8 v107, v108, v114, v116, v117, v121, v130, v132, v136, v145, v156, v157, v163;
-    v33 = a1 < 33u;
-    if (v33) { v5 = a0; v6 = a1; goto L3; }
-    else { goto L1; }
-L1:;
-    v34 = a4 + 8u * 1u;
-    v7 = a3; v8 = a2; v9 = a1; v10 = a0; goto L4;
-L2:;
-    return;
-L3:;
-    f151(v5, v6, a4);
-    goto L2;
-L4:;
-    v35 = v7 == 0u;
-    if (v35) { goto L5; }
-    else { goto L6; }
-L5:;
-    f153(v10, v9, a4);
-    goto L2;
-L6:;
-    v36 = (u64)((u64)v9 >> (3u & 63u));
-    v37 = v9 < 64u;
-    v38 = (u64)((u64)v36 << (2u & 63u));
-    v39 = (u64)((u64)v36 * (u64)7u);
-    if (v37) { goto L7; }
-    else { goto L8; }
-L7:;
-    v40 = (u64)((u64)v36 << (5u & 63u));
-    v41 = v10 + v40 * 1u;
-    v42 = load64(v10);
-    v43 = load64(v41);
-    v44 = v42 < v43;
-    v45 = (u64)((u64)v36 * (u64)56u);
-    v46 = v10 + v45 * 1u;
-    v47 = load64(v46);
-    v48 = v42 < v47;
-    v49 = (u8)(((u32)v44 ^ (u32)v48) & UINT64_C(1));
-    v50 = v43 < v47;
-    v51 = (u8)(((u32)v44 ^ (u32)v50) & UINT64_C(1));
-    v52 = v51 ? v39 : v38;
-    v53 = v49 ? 0u : v52;
-    v11 = v53; goto L9;
-L8:;
-    v54 = f155(v10, 0u, v38, v39, v36);
-    v11 = v54; goto L9;
-L9:;
-    v55 = v8 < v9;
-    v56 = (u64)((u64)v11 << (3u & 63u));
-    v57 = v10 + v56 * 1u;
-    if (v55) { goto L11; }
-    else { goto L10; }
-L10:;
-    v58 = load_address(a4);
-    v59 = load64(v34);
-    v60 = load64(v57);
-    v23 = v60; v24 = v59; v25 = v58; goto L22;
-L11:;
-    v61 = (u64)((u64)v8 << (3u & 63u));
-    v62 = v10 + v61 * 1u;
-    v63 = load64(v62);
-    v64 = load64(v57);
-    v65 = v63 < v64;
-    v66 = load_address(a4);
-    v67 = load64(v34);
-    if (v65) { v23 = v64; v24 = v67; v25 = v66; goto L22; }
-    else { goto L12; }
-L12:;
-    v68 = v11 == 0u;
-    if (v68) { v14 = 0u; goto L14; }
-    else { v12 = 0u; v13 = 0u; goto L13; }
-L13:;
-    v69 = (u64)((u64)v13 << (3u & 63u));
-    v70 = v10 + v69 * 1u;
-    v71 = load64(v70);
-    v72 = v64 >= v71;
-    v73 = (u64)((u64)v13 - (u64)v12);
-    v74 = (u64)((u64)v12 << (3u & 63u));
-    v75 = v10 + v74 * 1u;
-    store64(v75, v71);
-    v76 = (u64)((u64)v73 << (3u & 63u));
-    v77 = v66 + v76 * 1u;
-    store64(v77, v71);
-    v78 = (u64)v72;
-    v79 = (u64)((u64)v12 + (u64)v78);
-    v80 = (u64)((u64)v13 + (u64)1u);
-    v81 = v80 == v11;
-    if (v81) { v14 = v79; goto L14; }
-    else { v12 = v79; v13 = v80; goto L13; }
-L14:;
-    v82 = (u64)((u64)v14 + (u64)1u);
-    v83 = (u64)((u64)v11 + (u64)1u);
-    v84 = v83 < v9;
-    if (v84) { v15 = v82; v16 = v83; goto L15; }
-    else { v17 = v82; goto L16; }
-L15:;
-    v85 = (u64)((u64)v16 << (3u & 63u));
-    v86 = v10 + v85 * 1u;
-    v87 = load64(v86);
-    v88 = v64 >= v87;
-    v89 = (u64)((u64)v16 - (u64)v15);
-    v90 = (u64)((u64)v15 << (3u & 63u));
-    v91 = v10 + v90 * 1u;
-    store64(v91, v87);
-    v92 = (u64)((u64)v89 << (3u & 63u));
-    v93 = v66 + v92 * 1u;
-    store64(v93, v87);
-    v94 = (u64)v88;
-    v95 = (u64)((u64)v15 + (u64)v94);
-    v96 = (u64)((u64)v16 + (u64)1u);
-    v97 = v96 == v9;
-    if (v97) { v17 = v95; goto L16; }
-    else { v15 = v95; v16 = v96; goto L15; }
-L16:;
-    v98 = (u64)((u64)v14 << (3u & 63u));
-    v99 = v10 + v98 * 1u;
-    store64(v99, v64);
-    v100 = (u64)((u64)v9 - (u64)v17);
-    v101 = (u64)((u64)v17 << (3u & 63u));
-    v102 = v10 + v101 * 1u;
-    v103 = (u64)((u64)v100 << (3u & 63u));
-    v104 = (u64)v102;
-    v105 = (u64)v66;
-    v106 = (u64)((u64)v104 - (u64)v105);
-    v107 = v106 < v103;
-    if (v107) { goto L17; }
-    else { goto L18; }
-L17:;
-    v108 = v9 == v17;
-    if (v108) { goto L20; }
-    else { v18 = 0u; goto L19; }
-L18:;
-    memory_move(v102, v66, v103);
-    goto L20;
-L19:;
-    v109 = (u64)((u64)v18 << (3u & 63u));
-    v110 = v102 + v109 * 1u;
-    v111 = v66 + v109 * 1u;
-    v112 = load64(v111);
-    store64(v110, v112);
-    v113 = (u64)((u64)v18 + (u64)1u);
-    v114 = v113 == v100;
-    if (v114) { goto L20; }
-    else { v18 = v113; goto L19; }
-L20:;
-    store_address(a4, v66);
-    store64(v34, v67);
-    v115 = (u32)((u32)v7 + (u32)UINT32_C(4294967295));
-    v19 = v102; v20 = v100; v21 = v9; v22 = v115; goto L21;
-L21:;
-    v116 = v20 < 33u;
-    if (v116) { v5 = v19; v6 = v20; goto L3; }
-    else { v7 = v22; v8 = v21; v9 = v20; v10 = v19; goto L4; }
-L22:;
-    v117 = v11 == 0u;
-    if (v117) { v28 = 0u; goto L24; }
-    else { v26 = 0u; v27 = 0u; goto L23; }
-L23:;
-    v118 = (u64)((u64)v27 << (3u & 63u));
-    v119 = v10 + v118 * 1u;
-    v120 = load64(v119);
-    v121 = v120 < v23;
-    v122 = (u64)((u64)v27 - (u64)v26);
-    v123 = (u64)((u64)v26 << (3u & 63u));
-    v124 = v10 + v123 * 1u;
-    store64(v124, v120);
-    v125 = (u64)((u64)v122 << (3u & 63u));
-    v126 = v25 + v125 * 1u;
-    store64(v126, v120);
-    v127 = (u64)v121;
-    v128 = (u64)((u64)v26 + (u64)v127);
-    v129 = (u64)((u64)v27 + (u64)1u);
-    v130 = v129 == v11;
-    if (v130) { v28 = v128; goto L24; }
-    else { v26 = v128; v27 = v129; goto L23; }
-L24:;
-    v131 = (u64)((u64)v11 + (u64)1u);
-    v132 = v131 < v9;
-    if (v132) { v29 = v28; v30 = v131; goto L25; }
-    else { v31 = v28; goto L26; }
-L25:;
-    v133 = (u64)((u64)v30 << (3u & 63u));
-    v134 = v10 + v133 * 1u;
-    v135 = load64(v134);
-    v136 = v135 < v23;
-    v137 = (u64)((u64)v30 - (u64)v29);
-    v138 = (u64)((u64)v29 << (3u & 63u));
-    v139 = v10 + v138 * 1u;
-    store64(v139, v135);
-    v140 = (u64)((u64)v137 << (3u & 63u));
-    v141 = v25 + v140 * 1u;
-    store64(v141, v135);
-    v142 = (u64)v136;
-    v143 = (u64)((u64)v29 + (u64)v142);
-    v144 = (u64)((u64)v30 + (u64)1u);
-    v145 = v144 == v9;
-    if (v145) { v31 = v143; goto L26; }
-    else { v29 = v143; v30 = v144; goto L25; }
-L26:;
-    v146 = (u64)((u64)v11 - (u64)v28);
-    v147 = (u64)((u64)v146 << (3u & 63u));
-    v148 = v25 + v147 * 1u;
-    store64(v148, v23);
-    v149 = (u64)((u64)v9 - (u64)v31);
-    v150 = (u64)((u64)v31 << (3u & 63u));
-    v151 = v10 + v150 * 1u;
-    v152 = (u64)((u64)v149 << (3u & 63u));
-    v153 = (u64)v151;
-    v154 = (u64)v25;
-    v155 = (u64)((u64)v153 - (u64)v154);
-    v156 = v155 < v152;
-    if (v156) { goto L27; }
-    else { goto L28; }
-L27:;
-    v157 = v9 == v31;
-    if (v157) { goto L30; }
-    else { v32 = 0u; goto L29; }
-L28:;
-    memory_move(v151, v25, v152);
-    goto L30;
-L29:;
-    v158 = (u64)((u64)v32 << (3u & 63u));
-    v159 = v151 + v158 * 1u;
-    v160 = v25 + v158 * 1u;
-    v161 = load64(v160);
-    store64(v159, v161);
-    v162 = (u64)((u64)v32 + (u64)1u);
-    v163 = v162 == v149;
-    if (v163) { goto L30; }
-    else { v32 = v162; goto L29; }
-L30:;
-    store_address(a4, v25);
-    store64(v34, v24);
-    v164 = (u32)((u32)v7 + (u32)UINT32_C(4294967295));
-    f150(v10, v31, v9, v164, a4);
-    v19 = v151; v20 = v149; v21 = v146; v22 = v164; goto L21;
-}
-
-static void f151(address a0, u64 a1, address a2) {
-    u64 v3, v4, v5, v6, v7, v8, v9, v10, v11, v12, v13, v16, v17, v19, v22, v24;
-    u64 v26, v28, v29, v31, v34, v35, v37, v38, v39, v42, v45, v46, v48, v51, v53, v54;
-    u64 v56, v57, v58, v60, v63, v71, v72, v74, v75, v77, v79, v80, v81, v82, v84, v87;
-    u64 v88, v90, v92, v93, v95, v96, v99, v100, v102, v104, v107, v109;
-    address v14, v18, v20, v21, v23, v25, v27, v33, v40, v41, v43, v44, v52, v65, v69, v73;
-    address v76, v85, v86, v91, v94, v101, v105, v108;
-    u8 v15, v30, v32, v36, v47, v49, v50, v55, v59, v61, v62, v64, v66, v67, v68, v70;
-    u8 v78, v83, v89, v97, v98, v103, v106, v110;
-    u64 block0[4];
-    v14 = ADDRESS(block0);
-    v15 = a1 < 16u;
-    if (v15) { goto L2; }
-    else { goto L3; }
-L1:;
-    return;
-L2:;
-    f152(a0, a1, a2);
-    goto L1;
-L3:;
-    v16 = (u64)((u64)a1 >> (1u & 63u));
-    v17 = (u64)((u64)v16 << (3u & 63u));
-    v18 = a0 + v17 * 1u;
-    v19 = (u64)((u64)a1 - (u64)v16);
-    f152(a0, v16, a2);
-    f152(v18, v19, a2);
-    v20 = load_address(a2);
-    v21 = a2 + 8u * 1u;
-    v22 = load64(v21);
-    v23 = v14 + a1 * 1u;
-    memory_set(v14, 0u, 32u);
-    v3 = 0u; v4 = v16; v5 = v16; v6 = a1; v7 = 0u; goto L4;
-L4:;
-    v24 = (u64)((u64)v5 << (3u & 63u));
-    v25 = a0 + v24 * 1u;
-    v26 = (u64)((u64)v3 << (3u & 63u));
-    v27 = a0 + v26 * 1u;
-    v28 = load64(v25);
-    v29 = load64(v27);
-    v30 = v28 < v29;
-    v31 = v30 ? v5 : v3;
-    v32 = (u8)(v31);
-    v33 = v14 + v7 * 1u;
-    store8(v33, v32);
-    v34 = (u64)v30;
-    v35 = (u64)((u64)v5 + (u64)v34);
-    v36 = (u8)(((u32)v30 ^ (u32)1u) & UINT64_C(1));
-    v37 = (u64)v36;
-    v38 = (u64)((u64)v3 + (u64)v37);
-    v39 = (u64)((u64)v6 << (3u & 63u));
-    v40 = a0 + v39 * 1u;
-    v41 = v40 + UINT64_C(18446744073709551608) * 1u;
-    v42 = (u64)((u64)v4 << (3u & 63u));
-    v43 = a0 + v42 * 1u;
-    v44 = v43 + UINT64_C(18446744073709551608) * 1u;
-    v45 = load64(v41);
-    v46 = load64(v44);
-    v47 = v45 < v46;
-    v48 = v47 ? v4 : v6;
-    v49 = (u8)(v48);
-    v50 = (u8)((u32)v49 + (u32)255u);
-    v51 = (u64)((u64)v7 ^ (u64)UINT64_C(18446744073709551615));
-    v52 = v23 + v51 * 1u;
-    store8(v52, v50);
-    v53 = (u64)((i64)((i8)(u8)((u32)v47 << 7) >> 7));
-    v54 = (u64)((u64)v4 + (u64)v53);
-    v55 = (u8)(((u32)v47 ^ (u32)1u) & UINT64_C(1));
-    v56 = (u64)((i64)((i8)(u8)((u32)v55 << 7) >> 7));
-    v57 = (u64)((u64)v6 + (u64)v56);
-    v58 = (u64)((u64)v7 + (u64)1u);
-    v59 = v58 == v16;
-    if (v59) { goto L5; }
-    else { v3 = v38; v4 = v54; v5 = v35; v6 = v57; v7 = v58; goto L4; }
-L5:;
-    v60 = (u64)((u64)a1 & (u64)1u);
-    v61 = v60 == 0u;
-    if (v61) { goto L7; }
-    else { goto L6; }
-L6:;
-    v62 = v38 < v54;
-    v63 = v62 ? v38 : v35;
-    v64 = (u8)(v63);
-    v65 = v14 + v16 * 1u;
-    store8(v65, v64);
-    goto L7;
-L7:;
-    v66 = v38 <= v54;
-    v67 = v35 <= v57;
-    v68 = (u8)(((u32)v67 & (u32)v66) & UINT64_C(1));
-    if (v68) { v8 = 0u; goto L8; }
-    else { goto L13; }
-L8:;
-    v69 = v14 + v8 * 1u;
-    v70 = load8(v69);
-    v71 = (u64)v70;
-    v72 = (u64)((u64)v71 << (3u & 63u));
-    v73 = a0 + v72 * 1u;
-    v74 = load64(v73);
-    v75 = (u64)((u64)v8 << (3u & 63u));
-    v76 = v20 + v75 * 1u;
-    store64(v76, v74);
-    v77 = (u64)((u64)v8 + (u64)1u);
-    v78 = v77 == a1;
-    if (v78) { goto L9; }
-    else { v8 = v77; goto L8; }
-L9:;
-    v79 = (u64)((u64)a1 << (3u & 63u));
-    v80 = (u64)a0;
-    v81 = (u64)v20;
-    v82 = (u64)((u64)v80 - (u64)v81);
-    v83 = v82 < v79;
-    if (v83) { v9 = 0u; goto L11; }
-    else { goto L10; }
-L10:;
-    memory_move(a0, v20, v79);
-    goto L12;
-L11:;
-    v84 = (u64)((u64)v9 << (3u & 63u));
-    v85 = a0 + v84 * 1u;
-    v86 = v20 + v84 * 1u;
-    v87 = load64(v86);
-    store64(v85, v87);
-    v88 = (u64)((u64)v9 + (u64)1u);
-    v89 = v88 == a1;
-    if (v89) { goto L12; }
-    else { v9 = v88; goto L11; }
-L12:;
-    store_address(a2, v20);
-    store64(v21, v22);
-    goto L1;
-L13:;
-    v10 = 1u; goto L14;
-L14:;
-    v90 = (u64)((u64)v10 << (3u & 63u));
-    v91 = a0 + v90 * 1u;
-    v92 = (u64)((u64)v10 + (u64)UINT64_C(18446744073709551615));
-    v93 = (u64)((u64)v92 << (3u & 63u));
-    v94 = a0 + v93 * 1u;
-    v95 = load64(v91);
-    v96 = load64(v94);
-    v97 = v95 < v96;
-    if (v97) { goto L15; }
-    else { goto L20; }
-L15:;
-    store64(v91, v96);
-    v98 = v92 == 0u;
-    if (v98) { v13 = 0u; goto L19; }
-    else { v11 = v92; goto L16; }
-L16:;
-    v99 = (u64)((u64)v11 + (u64)UINT64_C(18446744073709551615));
-    v100 = (u64)((u64)v99 << (3u & 63u));
-    v101 = a0 + v100 * 1u;
-    v102 = load64(v101);
-    v103 = v95 < v102;
-    if (v103) { goto L17; }
-    else { v12 = v11; goto L18; }
-L17:;
-    v104 = (u64)((u64)v11 << (3u & 63u));
-    v105 = a0 + v104 * 1u;
-    store64(v105, v102);
-    v106 = v99 == 0u;
-    if (v106) { v12 = 0u; goto L18; }
-    else { v11 = v99; goto L16; }
-L18:;
-    v107 = (u64)((u64)v12 << (3u & 63u));
-    v13 = v107; goto L19;
-L19:;
-    v108 = a0 + v13 * 1u;
-    store64(v108, v95);
-    goto L20;
-L20:;
-    v109 = (u64)((u64)v10 + (u64)1u);
-    v110 = v109 == a1;
-    if (v110) { goto L1; }
-    else { v10 = v109; goto L14; }
-}
-
-static void f152(address a0, u64 a1, address a2) {
-    u64 v3, v4, v5, v6, v7, v8, v12, v14, v15, v19, v20, v22, v24, v25, v26, v27;
-    u64 v29, v31, v32, v34, v36, v38, v39, v41, v42, v43, v44, v45, v46, v47, v49, v51;
-    u64 v52, v54, v55, v56, v58, v59, v61, v63, v65, v67, v69, v73, v74, v78, v79, v81;
-    u64 v82, v83, v84, v85, v87, v89, v90, v92, v94, v96, v97, v99, v100, v101, v102, v103;
-    u64 v104, v105, v107, v109, v110, v112, v113, v114, v116, v118, v120, v122, v124, v126, v128, v131;
-    u64 v132, v134, v135, v136, v138, v140, v141, v143, v144, v146, v147, v148, v151, v154, v155, v157;
-    u64 v158, v160, v161, v162, v164, v166, v167, v169, v170, v172, v173, v174, v177, v180, v181, v183;
-    u64 v184, v186, v187, v188, v190, v192, v193, v195, v196, v198, v199, v200, v203, v206, v207, v209;
-    u64 v210, v212, v213, v217, v218, v219, v220, v221, v222, v223, v225, v226, v228, v229, v231, v232;
-    u64 v234, v235, v236, v237, v239, v240, v241, v242, v244, v245, v246, v247, v249, v250, v252, v253;
-    u64 v254, v255, v257, v258, v259, v260, v261, v262, v263, v267, v269, v270, v274, v275, v277, v279;
-    u64 v280, v281, v282, v284, v286, v287, v289, v291, v293, v294, v296, v297, v298, v299, v300, v301;
-    u64 v302, v304, v306, v307, v309, v310, v311, v313, v314, v316, v318, v320, v322, v324, v326, v327;
-    u64 v328, v330, v331, v332, v334, v336, v337, v339, v340, v343, v344, v346, v348, v351, v353;
-    u8 v9, v16, v21, v23, v33, v40, v53, v75, v80, v91, v98, v111, v130, v133, v142, v145;
-    u8 v156, v159, v168, v171, v182, v185, v194, v197, v208, v211, v214, v215, v216, v256, v264, v271;
-    u8 v276, v278, v288, v295, v308, v329, v333, v341, v342, v347, v350, v354;
-    address v10, v11, v13, v17, v18, v28, v30, v35, v37, v48, v50, v57, v60, v62, v64, v66;
-    address v68, v70, v71, v72, v76, v77, v86, v88, v93, v95, v106, v108, v115, v117, v119, v121;
-    address v123, v125, v127, v129, v137, v139, v149, v150, v152, v153, v163, v165, v175, v176, v178, v179;
-    address v189, v191, v201, v202, v204, v205, v224, v227, v230, v233, v238, v243, v248, v251, v265, v266;
-    address v268, v272, v273, v283, v285, v290, v292, v303, v305, v312, v315, v317, v319, v321, v323, v325;
-    address v335, v338, v345, v349, v352;
-    v9 = a1 > 7u;
-    if (v9) { goto L1; }
-    else { goto L7; }
-L1:;
-    v10 = load_address(a2);
-    v11 = a2 + 8u * 1u;
-    v12 = load64(v11);
-    v13 = a0 + 8u * 1u;
-    v14 = load64(v13);
-    v15 = load64(a0);
-    v16 = v14 < v15;
-    v17 = a0 + 24u * 1u;
-    v18 = a0 + 16u * 1u;
-    v19 = load64(v17);
-    v20 = load64(v18);
-    v21 = v19 < v20;
-    v22 = (u64)v16;
-    v23 = (u8)(((u32)v16 ^ (u32)1u) & UINT64_C(1));
-    v24 = (u64)v23;
-    v25 = v21 ? 3u : 2u;
-    v26 = v21 ? 2u : 3u;
-    v27 = (u64)((u64)v25 << (3u & 63u));
-    v28 = a0 + v27 * 1u;
-    v29 = v16 ? 8u : 0u;
-    v30 = a0 + v29 * 1u;
-    v31 = load64(v28);
-    v32 = load64(v30);
-    v33 = v31 < v32;
-    v34 = (u64)((u64)v26 << (3u & 63u));
-    v35 = a0 + v34 * 1u;
-    v36 = v16 ? 0u : 8u;
-    v37 = a0 + v36 * 1u;
-    v38 = load64(v35);
-    v39 = load64(v37);
-    v40 = v38 < v39;
-    v41 = v33 ? v25 : v22;
-    v42 = v40 ? v24 : v26;
-    v43 = v40 ? v25 : v24;
-    v44 = v33 ? v22 : v43;
-    v45 = v33 ? v24 : v25;
-    v46 = v40 ? v26 : v45;
-    v47 = (u64)((u64)v46 << (3u & 63u));
-    v48 = a0 + v47 * 1u;
-    v49 = (u64)((u64)v44 << (3u & 63u));
-    v50 = a0 + v49 * 1u;
-    v51 = load64(v48);
-    v52 = load64(v50);
-    v53 = v51 < v52;
-    v54 = v53 ? v46 : v44;
-    v55 = v53 ? v44 : v46;
-    v56 = (u64)((u64)v41 << (3u & 63u));
-    v57 = a0 + v56 * 1u;
-    v58 = load64(v57);
-    store64(v10, v58);
-    v59 = (u64)((u64)v54 << (3u & 63u));
-    v60 = a0 + v59 * 1u;
-    v61 = load64(v60);
-    v62 = v10 + 8u * 1u;
-    store64(v62, v61);
-    v63 = (u64)((u64)v55 << (3u & 63u));
-    v64 = a0 + v63 * 1u;
-    v65 = load64(v64);
-    v66 = v10 + 16u * 1u;
-    store64(v66, v65);
-    v67 = (u64)((u64)v42 << (3u & 63u));
-    v68 = a0 + v67 * 1u;
-    v69 = load64(v68);
-    v70 = v10 + 24u * 1u;
-    store64(v70, v69);
-    v71 = a0 + 40u * 1u;
-    v72 = a0 + 32u * 1u;
-    v73 = load64(v71);
-    v74 = load64(v72);
-    v75 = v73 < v74;
-    v76 = a0 + 56u * 1u;
-    v77 = a0 + 48u * 1u;
-    v78 = load64(v76);
-    v79 = load64(v77);
-    v80 = v78 < v79;
-    v81 = v75 ? 5u : 4u;
-    v82 = v75 ? 4u : 5u;
-    v83 = v80 ? 7u : 6u;
-    v84 = v80 ? 6u : 7u;
-    v85 = (u64)((u64)v83 << (3u & 63u));
-    v86 = a0 + v85 * 1u;
-    v87 = (u64)((u64)v81 << (3u & 63u));
-    v88 = a0 + v87 * 1u;
-    v89 = load64(v86);
-    v90 = load64(v88);
-    v91 = v89 < v90;
-    v92 = (u64)((u64)v84 << (3u & 63u));
-    v93 = a0 + v92 * 1u;
-    v94 = (u64)((u64)v82 << (3u & 63u));
-    v95 = a0 + v94 * 1u;
-    v96 = load64(v93);
-    v97 = load64(v95);
-    v98 = v96 < v97;
-    v99 = v91 ? v83 : v81;
-    v100 = v98 ? v82 : v84;
-    v101 = v98 ? v83 : v82;
-    v102 = v91 ? v81 : v101;
-    v103 = v91 ? v82 : v83;
-    v104 = v98 ? v84 : v103;
-    v105 = (u64)((u64)v104 << (3u & 63u));
-    v106 = a0 + v105 * 1u;
-    v107 = (u64)((u64)v102 << (3u & 63u));
-    v108 = a0 + v107 * 1u;
-    v109 = load64(v106);
-    v110 = load64(v108);
-    v111 = v109 < v110;
-    v112 = v111 ? v104 : v102;
-    v113 = v111 ? v102 : v104;
-    v114 = (u64)((u64)v99 << (3u & 63u));
-    v115 = a0 + v114 * 1u;
-    v116 = load64(v115);
-    v117 = v10 + 32u * 1u;
-    store64(v117, v116);
-    v118 = (u64)((u64)v112 << (3u & 63u));
-    v119 = a0 + v118 * 1u;
-    v120 = load64(v119);
-    v121 = v10 + 40u * 1u;
-    store64(v121, v120);
-    v122 = (u64)((u64)v113 << (3u & 63u));
-    v123 = a0 + v122 * 1u;
-    v124 = load64(v123);
-    v125 = v10 + 48u * 1u;
-    store64(v125, v124);
-    v126 = (u64)((u64)v100 << (3u & 63u));
-    v127 = a0 + v126 * 1u;
-    v128 = load64(v127);
-    v129 = v10 + 56u * 1u;
-    store64(v129, v128);
-    v130 = v116 >= v58;
-    v131 = v130 ? 4u : 5u;
-    v132 = (u64)v130;
-    v133 = v128 < v69;
-    v134 = v133 ? 3u : 4u;
-    v135 = v133 ? 8u : 7u;
-    v136 = (u64)((u64)v131 << (3u & 63u));
-    v137 = v10 + v136 * 1u;
-    v138 = v130 ? 8u : 0u;
-    v139 = v10 + v138 * 1u;
-    v140 = load64(v137);
-    v141 = load64(v139);
-    v142 = v140 < v141;
-    v143 = (u64)v142;
-    v144 = (u64)((u64)v131 + (u64)v143);
-    v145 = (u8)(((u32)v142 ^ (u32)1u) & UINT64_C(1));
-    v146 = (u64)v145;
-    v147 = (u64)((u64)v146 + (u64)v132);
-    v148 = (u64)((u64)v135 << (3u & 63u));
-    v149 = v10 + v148 * 1u;
-    v150 = v149 + UINT64_C(18446744073709551608) * 1u;
-    v151 = (u64)((u64)v134 << (3u & 63u));
-    v152 = v10 + v151 * 1u;
-    v153 = v152 + UINT64_C(18446744073709551608) * 1u;
-    v154 = load64(v150);
-    v155 = load64(v153);
-    v156 = v154 < v155;
-    v157 = (u64)((i64)((i8)(u8)((u32)v156 << 7) >> 7));
-    v158 = (u64)((u64)v134 + (u64)v157);
-    v159 = (u8)(((u32)v156 ^ (u32)1u) & UINT64_C(1));
-    v160 = (u64)((i64)((i8)(u8)((u32)v159 << 7) >> 7));
-    v161 = (u64)((u64)v135 + (u64)v160);
-    v162 = (u64)((u64)v144 << (3u & 63u));
-    v163 = v10 + v162 * 1u;
-    v164 = (u64)((u64)v147 << (3u & 63u));
-    v165 = v10 + v164 * 1u;
-    v166 = load64(v163);
-    v167 = load64(v165);
-    v168 = v166 < v167;
-    v169 = (u64)v168;
-    v170 = (u64)((u64)v144 + (u64)v169);
-    v171 = (u8)(((u32)v168 ^ (u32)1u) & UINT64_C(1));
-    v172 = (u64)v171;
-    v173 = (u64)((u64)v147 + (u64)v172);
-    v174 = (u64)((u64)v161 << (3u & 63u));
-    v175 = v10 + v174 * 1u;
-    v176 = v175 + UINT64_C(18446744073709551608) * 1u;
-    v177 = (u64)((u64)v158 << (3u & 63u));
-    v178 = v10 + v177 * 1u;
-    v179 = v178 + UINT64_C(18446744073709551608) * 1u;
-    v180 = load64(v176);
-    v181 = load64(v179);
-    v182 = v180 < v181;
-    v183 = (u64)((i64)((i8)(u8)((u32)v182 << 7) >> 7));
-    v184 = (u64)((u64)v158 + (u64)v183);
-    v185 = (u8)(((u32)v182 ^ (u32)1u) & UINT64_C(1));
-    v186 = (u64)((i64)((i8)(u8)((u32)v185 << 7) >> 7));
-    v187 = (u64)((u64)v161 + (u64)v186);
-    v188 = (u64)((u64)v170 << (3u & 63u));
-    v189 = v10 + v188 * 1u;
-    v190 = (u64)((u64)v173 << (3u & 63u));
-    v191 = v10 + v190 * 1u;
-    v192 = load64(v189);
-    v193 = load64(v191);
-    v194 = v192 < v193;
-    v195 = (u64)v194;
-    v196 = (u64)((u64)v170 + (u64)v195);
-    v197 = (u8)(((u32)v194 ^ (u32)1u) & UINT64_C(1));
-    v198 = (u64)v197;
-    v199 = (u64)((u64)v173 + (u64)v198);
-    v200 = (u64)((u64)v187 << (3u & 63u));
-    v201 = v10 + v200 * 1u;
-    v202 = v201 + UINT64_C(18446744073709551608) * 1u;
-    v203 = (u64)((u64)v184 << (3u & 63u));
-    v204 = v10 + v203 * 1u;
-    v205 = v204 + UINT64_C(18446744073709551608) * 1u;
-    v206 = load64(v202);
-    v207 = load64(v205);
-    v208 = v206 < v207;
-    v209 = (u64)((i64)((i8)(u8)((u32)v208 << 7) >> 7));
-    v210 = (u64)((u64)v184 + (u64)v209);
-    v211 = (u8)(((u32)v208 ^ (u32)1u) & UINT64_C(1));
-    v212 = (u64)((i64)((i8)(u8)((u32)v211 << 7) >> 7));
-    v213 = (u64)((u64)v187 + (u64)v212);
-    v214 = v199 <= v210;
-    v215 = v196 <= v213;
-    v216 = (u8)(((u32)v215 & (u32)v214) & UINT64_C(1));
-    if (v216) { goto L2; }
-    else { goto L3; }
-L2:;
-    v217 = v208 ? v184 : v187;
-    v218 = v194 ? v170 : v173;
-    v219 = v182 ? v158 : v161;
-    v220 = v168 ? v144 : v147;
-    v221 = v156 ? v134 : v135;
-    v222 = v142 ? v131 : v132;
-    v223 = v130 ? 0u : 32u;
-    v224 = v10 + v223 * 1u;
-    v225 = load64(v224);
-    store64(a0, v225);
-    v226 = (u64)((u64)v222 << (3u & 63u));
-    v227 = v10 + v226 * 1u;
-    v228 = load64(v227);
-    store64(v13, v228);
-    v229 = (u64)((u64)v220 << (3u & 63u));
-    v230 = v10 + v229 * 1u;
-    v231 = load64(v230);
-    store64(v18, v231);
-    v232 = (u64)((u64)v218 << (3u & 63u));
-    v233 = v10 + v232 * 1u;
-    v234 = load64(v233);
-    store64(v17, v234);
-    v235 = (u64)((u64)v217 << (3u & 63u));
-    v236 = (u64)((u64)v235 + (u64)2040u);
-    v237 = (u64)((u64)v236 & (u64)2040u);
-    v238 = v10 + v237 * 1u;
-    v239 = load64(v238);
-    store64(v72, v239);
-    v240 = (u64)((u64)v219 << (3u & 63u));
-    v241 = (u64)((u64)v240 + (u64)2040u);
-    v242 = (u64)((u64)v241 & (u64)2040u);
-    v243 = v10 + v242 * 1u;
-    v244 = load64(v243);
-    store64(v71, v244);
-    v245 = (u64)((u64)v221 << (3u & 63u));
-    v246 = (u64)((u64)v245 + (u64)2040u);
-    v247 = (u64)((u64)v246 & (u64)2040u);
-    v248 = v10 + v247 * 1u;
-    v249 = load64(v248);
-    store64(v77, v249);
-    v250 = v133 ? 24u : 56u;
-    v251 = v10 + v250 * 1u;
-    v252 = load64(v251);
-    store64(v76, v252);
-    v3 = 8u; goto L6;
-L3:;
-    v253 = (u64)a0;
-    v254 = (u64)v10;
-    v255 = (u64)((u64)v253 - (u64)v254);
-    v256 = v255 < 64u;
-    if (v256) { goto L4; }
-    else { goto L5; }
-L4:;
-    store64(a0, v58);
-    v257 = load64(v62);
-    store64(v13, v257);
-    v258 = load64(v66);
-    store64(v18, v258);
-    v259 = load64(v70);
-    store64(v17, v259);
-    v260 = load64(v117);
-    store64(v72, v260);
-    v261 = load64(v121);
-    store64(v71, v261);
-    v262 = load64(v125);
-    store64(v77, v262);
-    v263 = load64(v129);
-    store64(v76, v263);
-    v3 = 4u; goto L6;
-L5:;
-    memory_move(a0, v10, 64u);
-    v3 = 4u; goto L6;
-L6:;
-    store_address(a2, v10);
-    store64(v11, v12);
-    v4 = v3; goto L12;
-L7:;
-    v264 = a1 > 3u;
-    if (v264) { goto L8; }
-    else { v4 = 1u; goto L12; }
-L8:;
-    v265 = load_address(a2);
-    v266 = a2 + 8u * 1u;
-    v267 = load64(v266);
-    v268 = a0 + 8u * 1u;
-    v269 = load64(v268);
-    v270 = load64(a0);
-    v271 = v269 < v270;
-    v272 = a0 + 24u * 1u;
-    v273 = a0 + 16u * 1u;
-    v274 = load64(v272);
-    v275 = load64(v273);
-    v276 = v274 < v275;
-    v277 = (u64)v271;
-    v278 = (u8)(((u32)v271 ^ (u32)1u) & UINT64_C(1));
-    v279 = (u64)v278;
-    v280 = v276 ? 3u : 2u;
-    v281 = v276 ? 2u : 3u;
-    v282 = (u64)((u64)v280 << (3u & 63u));
-    v283 = a0 + v282 * 1u;
-    v284 = v271 ? 8u : 0u;
-    v285 = a0 + v284 * 1u;
-    v286 = load64(v283);
-    v287 = load64(v285);
-    v288 = v286 < v287;
-    v289 = (u64)((u64)v281 << (3u & 63u));
-    v290 = a0 + v289 * 1u;
-    v291 = v271 ? 0u : 8u;
-    v292 = a0 + v291 * 1u;
-    v293 = load64(v290);
-    v294 = load64(v292);
-    v295 = v293 < v294;
-    v296 = v288 ? v280 : v277;
-    v297 = v295 ? v279 : v281;
-    v298 = v295 ? v280 : v279;
-    v299 = v288 ? v277 : v298;
-    v300 = v288 ? v279 : v280;
-    v301 = v295 ? v281 : v300;
-    v302 = (u64)((u64)v301 << (3u & 63u));
-    v303 = a0 + v302 * 1u;
-    v304 = (u64)((u64)v299 << (3u & 63u));
-    v305 = a0 + v304 * 1u;
-    v306 = load64(v303);
-    v307 = load64(v305);
-    v308 = v306 < v307;
-    v309 = v308 ? v301 : v299;
-    v310 = v308 ? v299 : v301;
-    v311 = (u64)((u64)v296 << (3u & 63u));
-    v312 = a0 + v311 * 1u;
-    v313 = load64(v312);
-    store64(v265, v313);
-    v314 = (u64)((u64)v309 << (3u & 63u));
-    v315 = a0 + v314 * 1u;
-    v316 = load64(v315);
-    v317 = v265 + 8u * 1u;
-    store64(v317, v316);
-    v318 = (u64)((u64)v310 << (3u & 63u));
-    v319 = a0 + v318 * 1u;
-    v320 = load64(v319);
-    v321 = v265 + 16u * 1u;
-    store64(v321, v320);
-    v322 = (u64)((u64)v297 << (3u & 63u));
-    v323 = a0 + v322 * 1u;
-    v324 = load64(v323);
-    v325 = v265 + 24u * 1u;
-    store64(v325, v324);
-    v326 = (u64)a0;
-    v327 = (u64)v265;
-    v328 = (u64)((u64)v326 - (u64)v327);
-    v329 = v328 < 32u;
-    if (v329) { goto L9; }
-    else { goto L10; }
-L9:;
-    store64(a0, v313);
-    v330 = load64(v317);
-    store64(v268, v330);
-    v331 = load64(v321);
-    store64(v273, v331);
-    v332 = load64(v325);
-    store64(v272, v332);
-    goto L11;
-L10:;
-    memory_move(a0, v265, 32u);
-    goto L11;
-L11:;
-    store_address(a2, v265);
-    store64(v266, v267);
-    v4 = 4u; goto L12;
-L12:;
-    v333 = v4 < a1;
-    if (v333) { v5 = v4; goto L13; }
-    else { goto L20; }
-L13:;
-    v334 = (u64)((u64)v5 << (3u & 63u));
-    v335 = a0 + v334 * 1u;
-    v336 = (u64)((u64)v5 + (u64)UINT64_C(18446744073709551615));
-    v337 = (u64)((u64)v336 << (3u & 63u));
-    v338 = a0 + v337 * 1u;
-    v339 = load64(v335);
-    v340 = load64(v338);
-    v341 = v339 < v340;
-    if (v341) { goto L14; }
-    else { goto L19; }
-L14:;
-    store64(v335, v340);
-    v342 = v336 == 0u;
-    if (v342) { v8 = 0u; goto L18; }
-    else { v6 = v336; goto L15; }
-L15:;
-    v343 = (u64)((u64)v6 + (u64)UINT64_C(18446744073709551615));
-    v344 = (u64)((u64)v343 << (3u & 63u));
-    v345 = a0 + v344 * 1u;
-    v346 = load64(v345);
-    v347 = v339 < v346;
-    if (v347) { goto L16; }
-    else { v7 = v6; goto L17; }
-L16:;
-    v348 = (u64)((u64)v6 << (3u & 63u));
-    v349 = a0 + v348 * 1u;
-    store64(v349, v346);
-    v350 = v343 == 0u;
-    if (v350) { v7 = 0u; goto L17; }
-    else { v6 = v343; goto L15; }
-L17:;
-    v351 = (u64)((u64)v7 << (3u & 63u));
-    v8 = v351; goto L18;
-L18:;
-    v352 = a0 + v8 * 1u;
-    store64(v352, v339);
-    goto L19;
-L19:;
-    v353 = (u64)((u64)v5 + (u64)1u);
-    v354 = v353 == a1;
-    if (v354) { goto L20; }
-    else { v5 = v353; goto L13; }
-L20:;
-    return;
-}
-
-static void f153(address a0, u64 a1, address a2) {
-    u8 v3;
-    u64 v4, v5, v7;
-    address v6;
-    v3 = a1 < 33u;
-    if (v3) { goto L2; }
-    else { goto L3; }
-L1:;
-    return;
-L2:;
-    f151(a0, a1, a2);
-    goto L1;
-L3:;
-    v4 = (u64)((u64)a1 >> (1u & 63u));
-    v5 = (u64)((u64)v4 << (3u & 63u));
-    v6 = a0 + v5 * 1u;
-    v7 = (u64)((u64)a1 - (u64)v4);
-    f153(a0, v4, a2);
-    f153(v6, v7, a2);
-    f154(a0, a1, v4, a2);
-    goto L1;
-}
-
-static void f154(address a0, u64 a1, u64 a2, address a3) {
-    u64 v4, v5, v6, v7, v8, v9, v10, v11, v12, v13, v14, v15, v16, v17, v18, v19;
-    u64 v20, v21, v22, v23, v24, v25, v26, v27, v28, v29, v30, v31, v32, v33, v34, v36;
-    u64 v43, v44, v45, v46, v47, v50, v53, v54, v59, v61, v63, v64, v66, v67, v69, v70;
-    u64 v72, v73, v75, v76, v77, v81, v84, v87, v88, v90, v91, v92, v95, v96, v98, v99;
-    u64 v101, v102, v106, v107, v108, v110, v112, v113, v114, v115, v118, v121, v122, v127, v128, v129;
-    u64 v130, v131, v134, v137, v138, v143, v145, v147, v148, v151, v152, v154, v155, v157, v158, v160;
-    u64 v161, v162, v166, v167, v168, v171, v172, v173, v174, v177, v180, v181, v183, v186, v187, v188;
-    u64 v189, v192, v195, v196, v199, v200, v202, v203, v205, v206, v209, v210, v212, v213, v214, v216;
-    u64 v217, v219, v220, v224, v225, v226, v228, v229, v232, v235, v236, v238;
-    u8 v35, v37, v38, v39, v40, v48, v49, v55, v56, v57, v58, v65, v74, v78, v79, v80;
-    u8 v89, v100, v103, v104, v105, v116, v117, v123, v124, v132, v133, v139, v140, v141, v142, v149;
-    u8 v159, v163, v164, v165, v175, v176, v182, v190, v191, v197, v198, v207, v218, v221, v222, v223;
-    u8 v230, v231, v237;
-    address v41, v42, v51, v52, v60, v62, v68, v71, v82, v83, v85, v86, v93, v94, v97, v109;
-    address v111, v119, v120, v125, v126, v135, v136, v144, v146, v150, v153, v156, v169, v170, v178, v179;
-    address v184, v185, v193, v194, v201, v204, v208, v211, v215, v227, v233, v234;
-    v34 = (u64)((u64)a1 >> (2u & 63u));
-    v35 = v34 <= a2;
-    v36 = (u64)((u64)a1 - (u64)a2);
-    v37 = v34 <= v36;
-    v38 = (u8)(((u32)v35 & (u32)v37) & UINT64_C(1));
-    v39 = a1 < 4097u;
-    v40 = (u8)(((u32)v39 | (u32)v38) & UINT64_C(1));
-    if (v40) { goto L1; }
-    else { goto L15; }
-L1:;
-    v41 = load_address(a3);
-    v42 = a3 + 8u * 1u;
-    v43 = load64(v42);
-    v44 = (u64)((u64)a1 << (3u & 63u));
-    v45 = (u64)v41;
-    v46 = (u64)a0;
-    v47 = (u64)((u64)v45 - (u64)v46);
-    v48 = v47 < v44;
-    if (v48) { goto L2; }
-    else { goto L3; }
-L2:;
-    v49 = a1 == 0u;
-    if (v49) { goto L5; }
-    else { v4 = 0u; goto L4; }
-L3:;
-    memory_move(v41, a0, v44);
-    goto L5;
-L4:;
-    v50 = (u64)((u64)v4 << (3u & 63u));
-    v51 = v41 + v50 * 1u;
-    v52 = a0 + v50 * 1u;
-    v53 = load64(v52);
-    store64(v51, v53);
-    v54 = (u64)((u64)v4 + (u64)1u);
-    v55 = v54 == a1;
-    if (v55) { goto L5; }
-    else { v4 = v54; goto L4; }
-L5:;
-    v56 = a2 != 0u;
-    v57 = a2 < a1;
-    v58 = (u8)(((u32)v56 & (u32)v57) & UINT64_C(1));
-    if (v58) { v5 = 0u; v6 = a2; v7 = a2; v8 = a1; v9 = 0u; v10 = a1; goto L6; }
-    else { v14 = a1; v15 = 0u; v16 = 0u; goto L10; }
-L6:;
-    v59 = (u64)((u64)v7 << (3u & 63u));
-    v60 = v41 + v59 * 1u;
-    v61 = (u64)((u64)v5 << (3u & 63u));
-    v62 = v41 + v61 * 1u;
-    v63 = load64(v60);
-    v64 = load64(v62);
-    v65 = v63 < v64;
-    v66 = v65 ? v7 : v5;
-    v67 = (u64)((u64)v66 << (3u & 63u));
-    v68 = v41 + v67 * 1u;
-    v69 = load64(v68);
-    v70 = (u64)((u64)v9 << (3u & 63u));
-    v71 = a0 + v70 * 1u;
-    store64(v71, v69);
-    v72 = (u64)v65;
-    v73 = (u64)((u64)v7 + (u64)v72);
-    v74 = (u8)(((u32)v65 ^ (u32)1u) & UINT64_C(1));
-    v75 = (u64)v74;
-    v76 = (u64)((u64)v5 + (u64)v75);
-    v77 = (u64)((u64)v9 + (u64)1u);
-    v78 = v76 < v6;
-    v79 = v73 < v8;
-    v80 = v78 ? v79 : 0u;
-    if (v80) { goto L7; }
-    else { v11 = v10; v12 = v8; v13 = v6; goto L8; }
-L7:;
-    v81 = (u64)((u64)v8 << (3u & 63u));
-    v82 = v41 + v81 * 1u;
-    v83 = v82 + UINT64_C(18446744073709551608) * 1u;
-    v84 = (u64)((u64)v6 << (3u & 63u));
-    v85 = v41 + v84 * 1u;
-    v86 = v85 + UINT64_C(18446744073709551608) * 1u;
-    v87 = load64(v83);
-    v88 = load64(v86);
-    v89 = v87 < v88;
-    v90 = (u64)((u64)v10 + (u64)UINT64_C(18446744073709551615));
-    v91 = v89 ? v6 : v8;
-    v92 = (u64)((u64)v91 << (3u & 63u));
-    v93 = v41 + v92 * 1u;
-    v94 = v93 + UINT64_C(18446744073709551608) * 1u;
-    v95 = load64(v94);
-    v96 = (u64)((u64)v90 << (3u & 63u));
-    v97 = a0 + v96 * 1u;
-    store64(v97, v95);
-    v98 = (u64)((i64)((i8)(u8)((u32)v89 << 7) >> 7));
-    v99 = (u64)((u64)v6 + (u64)v98);
-    v100 = (u8)(((u32)v89 ^ (u32)1u) & UINT64_C(1));
-    v101 = (u64)((i64)((i8)(u8)((u32)v100 << 7) >> 7));
-    v102 = (u64)((u64)v8 + (u64)v101);
-    v11 = v90; v12 = v102; v13 = v99; goto L8;
-L8:;
-    v103 = v76 < v13;
-    v104 = v73 < v12;
-    v105 = v103 ? v104 : 0u;
-    if (v105) { v5 = v76; v6 = v13; v7 = v73; v8 = v12; v9 = v77; v10 = v11; goto L6; }
-    else { goto L9; }
-L9:;
-    v106 = v103 ? v76 : v73;
-    v107 = (u64)((u64)v106 << (3u & 63u));
-    v14 = v11; v15 = v77; v16 = v107; goto L10;
-L10:;
-    v108 = (u64)((u64)v14 - (u64)v15);
-    v109 = v41 + v16 * 1u;
-    v110 = (u64)((u64)v15 << (3u & 63u));
-    v111 = a0 + v110 * 1u;
-    v112 = (u64)((u64)v108 << (3u & 63u));
-    v113 = (u64)v111;
-    v114 = (u64)v109;
-    v115 = (u64)((u64)v113 - (u64)v114);
-    v116 = v115 < v112;
-    if (v116) { goto L11; }
-    else { goto L12; }
-L11:;
-    v117 = v14 == v15;
-    if (v117) { goto L14; }
-    else { v17 = 0u; goto L13; }
-L12:;
-    memory_move(v111, v109, v112);
-    goto L14;
-L13:;
-    v118 = (u64)((u64)v17 << (3u & 63u));
-    v119 = v111 + v118 * 1u;
-    v120 = v109 + v118 * 1u;
-    v121 = load64(v120);
-    store64(v119, v121);
-    v122 = (u64)((u64)v17 + (u64)1u);
-    v123 = v122 == v108;
-    if (v123) { goto L14; }
-    else { v17 = v122; goto L13; }
-L14:;
-    store_address(a3, v41);
-    store64(v42, v43);
-    goto L40;
-L15:;
-    v124 = a2 > v36;
-    v125 = load_address(a3);
-    v126 = a3 + 8u * 1u;
-    v127 = load64(v126);
-    v128 = (u64)((u64)a2 << (3u & 63u));
-    if (v124) { goto L28; }
-    else { goto L16; }
-L16:;
-    v129 = (u64)v125;
-    v130 = (u64)a0;
-    v131 = (u64)((u64)v129 - (u64)v130);
-    v132 = v131 < v128;
-    if (v132) { goto L17; }
-    else { goto L18; }
-L17:;
-    v133 = a2 == 0u;
-    if (v133) { v22 = 0u; v23 = 0u; goto L23; }
-    else { v18 = 0u; goto L19; }
-L18:;
-    memory_move(v125, a0, v128);
-    goto L20;
-L19:;
-    v134 = (u64)((u64)v18 << (3u & 63u));
-    v135 = v125 + v134 * 1u;
-    v136 = a0 + v134 * 1u;
-    v137 = load64(v136);
-    store64(v135, v137);
-    v138 = (u64)((u64)v18 + (u64)1u);
-    v139 = v138 == a2;
-    if (v139) { goto L20; }
-    else { v18 = v138; goto L19; }
-L20:;
-    v140 = a2 != 0u;
-    v141 = a2 < a1;
-    v142 = (u8)(((u32)v140 & (u32)v141) & UINT64_C(1));
-    if (v142) { v19 = 0u; v20 = a2; v21 = 0u; goto L21; }
-    else { v22 = 0u; v23 = 0u; goto L23; }
-L21:;
-    v143 = (u64)((u64)v20 << (3u & 63u));
-    v144 = a0 + v143 * 1u;
-    v145 = (u64)((u64)v19 << (3u & 63u));
-    v146 = v125 + v145 * 1u;
-    v147 = load64(v144);
-    v148 = load64(v146);
-    v149 = v147 < v148;
-    v150 = v149 ? a0 : v125;
-    v151 = v149 ? v20 : v19;
-    v152 = (u64)((u64)v151 << (3u & 63u));
-    v153 = v150 + v152 * 1u;
-    v154 = load64(v153);
-    v155 = (u64)((u64)v21 << (3u & 63u));
-    v156 = a0 + v155 * 1u;
-    store64(v156, v154);
-    v157 = (u64)v149;
-    v158 = (u64)((u64)v20 + (u64)v157);
-    v159 = (u8)(((u32)v149 ^ (u32)1u) & UINT64_C(1));
-    v160 = (u64)v159;
-    v161 = (u64)((u64)v19 + (u64)v160);
-    v162 = (u64)((u64)v21 + (u64)1u);
-    v163 = v161 < a2;
-    v164 = v158 < a1;
-    v165 = v163 ? v164 : 0u;
-    if (v165) { v19 = v161; v20 = v158; v21 = v162; goto L21; }
-    else { goto L22; }
-L22:;
-    v166 = (u64)((u64)v162 << (3u & 63u));
-    v22 = v166; v23 = v161; goto L23;
-L23:;
-    v167 = (u64)((u64)a2 - (u64)v23);
-    v168 = (u64)((u64)v23 << (3u & 63u));
-    v169 = v125 + v168 * 1u;
-    v170 = a0 + v22 * 1u;
-    v171 = (u64)((u64)v167 << (3u & 63u));
-    v172 = (u64)v170;
-    v173 = (u64)v169;
-    v174 = (u64)((u64)v172 - (u64)v173);
-    v175 = v174 < v171;
-    if (v175) { goto L24; }
-    else { goto L25; }
-L24:;
-    v176 = a2 == v23;
-    if (v176) { goto L27; }
-    else { v24 = 0u; goto L26; }
-L25:;
-    memory_move(v170, v169, v171);
-    goto L27;
-L26:;
-    v177 = (u64)((u64)v24 << (3u & 63u));
-    v178 = v170 + v177 * 1u;
-    v179 = v169 + v177 * 1u;
-    v180 = load64(v179);
-    store64(v178, v180);
-    v181 = (u64)((u64)v24 + (u64)1u);
-    v182 = v181 == v167;
-    if (v182) { goto L27; }
-    else { v24 = v181; goto L26; }
-L27:;
-    v183 = (u64)v125;
-    store64(a3, v183);
-    store64(v126, v127);
-    goto L40;
-L28:;
-    v184 = a0 + v128 * 1u;
-    v185 = v125 + v128 * 1u;
-    v186 = (u64)((u64)v36 << (3u & 63u));
-    v187 = (u64)v185;
-    v188 = (u64)v184;
-    v189 = (u64)((u64)v187 - (u64)v188);
-    v190 = v189 < v186;
-    if (v190) { goto L29; }
-    else { goto L30; }
-L29:;
-    v191 = a1 == a2;
-    if (v191) { goto L32; }
-    else { v25 = 0u; goto L31; }
-L30:;
-    memory_move(v185, v184, v186);
-    goto L32;
-L31:;
-    v192 = (u64)((u64)v25 << (3u & 63u));
-    v193 = v185 + v192 * 1u;
-    v194 = v184 + v192 * 1u;
-    v195 = load64(v194);
-    store64(v193, v195);
-    v196 = (u64)((u64)v25 + (u64)1u);
-    v197 = v196 == v36;
-    if (v197) { goto L32; }
-    else { v25 = v196; goto L31; }
-L32:;
-    v198 = a2 < a1;
-    if (v198) { v26 = a2; v27 = a1; v28 = a1; goto L33; }
-    else { v29 = v186; v30 = v128; v31 = v36; v32 = a1; goto L35; }
-L33:;
-    v199 = (u64)((u64)v27 + (u64)UINT64_C(18446744073709551615));
-    v200 = (u64)((u64)v199 << (3u & 63u));
-    v201 = v125 + v200 * 1u;
-    v202 = (u64)((u64)v26 + (u64)UINT64_C(18446744073709551615));
-    v203 = (u64)((u64)v202 << (3u & 63u));
-    v204 = a0 + v203 * 1u;
-    v205 = load64(v201);
-    v206 = load64(v204);
-    v207 = v205 < v206;
-    v208 = v207 ? a0 : v125;
-    v209 = v207 ? v202 : v199;
-    v210 = (u64)((u64)v209 << (3u & 63u));
-    v211 = v208 + v210 * 1u;
-    v212 = load64(v211);
-    v213 = (u64)((u64)v28 + (u64)UINT64_C(18446744073709551615));
-    v214 = (u64)((u64)v213 << (3u & 63u));
-    v215 = a0 + v214 * 1u;
-    store64(v215, v212);
-    v216 = (u64)((i64)((i8)(u8)((u32)v207 << 7) >> 7));
-    v217 = (u64)((u64)v26 + (u64)v216);
-    v218 = (u8)(((u32)v207 ^ (u32)1u) & UINT64_C(1));
-    v219 = (u64)((i64)((i8)(u8)((u32)v218 << 7) >> 7));
-    v220 = (u64)((u64)v27 + (u64)v219);
-    v221 = v217 != 0u;
-    v222 = a2 < v220;
-    v223 = (u8)(((u32)v221 & (u32)v222) & UINT64_C(1));
-    if (v223) { v26 = v217; v27 = v220; v28 = v213; goto L33; }
-    else { goto L34; }
-L34:;
-    v224 = (u64)((u64)v220 - (u64)a2);
-    v225 = (u64)((u64)v217 << (3u & 63u));
-    v226 = (u64)((u64)v224 << (3u & 63u));
-    v29 = v226; v30 = v225; v31 = v224; v32 = v220; goto L35;
-L35:;
-    v227 = a0 + v30 * 1u;
-    v228 = (u64)v227;
-    v229 = (u64)((u64)v228 - (u64)v187);
-    v230 = v229 < v29;
-    if (v230) { goto L36; }
-    else { goto L37; }
-L36:;
-    v231 = v32 == a2;
-    if (v231) { goto L39; }
-    else { v33 = 0u; goto L38; }
-L37:;
-    memory_move(v227, v185, v29);
-    goto L39;
-L38:;
-    v232 = (u64)((u64)v33 << (3u & 63u));
-    v233 = v227 + v232 * 1u;
-    v234 = v185 + v232 * 1u;
-    v235 = load64(v234);
-    store64(v233, v235);
-    v236 = (u64)((u64)v33 + (u64)1u);
-    v237 = v236 == v31;
-    if (v237) { goto L39; }
-    else { v33 = v236; goto L38; }
-L39:;
-    v238 = (u64)v125;
-    store64(a3, v238);
-    store64(v126, v127);
-    goto L40;
-L40:;
-    return;
-}
-
-static u64 f155(address a0, u64 a1, u64 a2, u64 a3, u64 a4) {
-    u64 v5, v7, v9, v11, v12, v14, v16, v21, v22, v23, v24, v25, v26, v27, v28, v29;
-    u64 v30, v31, v32, v33, v34, v35, v37, v39, v40, v42, v44, v49, v50;
-    u8 v6, v13, v17, v18, v19, v20, v41, v45, v46, v47, v48;
-    address v8, v10, v15, v36, v38, v43;
-    v6 = a4 < 8u;
-    if (v6) { goto L2; }
-    else { goto L3; }
-L1:;
-    return v5;
-L2:;
-    v7 = (u64)((u64)a1 << (3u & 63u));
-    v8 = a0 + v7 * 1u;
-    v9 = (u64)((u64)a2 << (3u & 63u));
-    v10 = a0 + v9 * 1u;
-    v11 = load64(v8);
-    v12 = load64(v10);
-    v13 = v11 < v12;
-    v14 = (u64)((u64)a3 << (3u & 63u));
-    v15 = a0 + v14 * 1u;
-    v16 = load64(v15);
-    v17 = v11 < v16;
-    v18 = (u8)(((u32)v13 ^ (u32)v17) & UINT64_C(1));
-    v19 = v12 < v16;
-    v20 = (u8)(((u32)v13 ^ (u32)v19) & UINT64_C(1));
-    v21 = v20 ? a3 : a2;
-    v22 = v18 ? a1 : v21;
-    v5 = v22; goto L1;
-L3:;
-    v23 = (u64)((u64)a4 >> (3u & 63u));
-    v24 = (u64)((u64)v23 << (2u & 63u));
-    v25 = (u64)((u64)v24 + (u64)a1);
-    v26 = (u64)((u64)v23 * (u64)7u);
-    v27 = (u64)((u64)v26 + (u64)a1);
-    v28 = f155(a0, a1, v25, v27, v23);
-    v29 = (u64)((u64)v24 + (u64)a2);
-    v30 = (u64)((u64)v26 + (u64)a2);
-    v31 = f155(a0, a2, v29, v30, v23);
-    v32 = (u64)((u64)v24 + (u64)a3);
-    v33 = (u64)((u64)v26 + (u64)a3);
-    v34 = f155(a0, a3, v32, v33, v23);
-    v35 = (u64)((u64)v28 << (3u & 63u));
-    v36 = a0 + v35 * 1u;
-    v37 = (u64)((u64)v31 << (3u & 63u));
-    v38 = a0 + v37 * 1u;
-    v39 = load64(v36);
-    v40 = load64(v38);
-    v41 = v39 < v40;
-    v42 = (u64)((u64)v34 << (3u & 63u));
-    v43 = a0 + v42 * 1u;
-    v44 = load64(v43);
-    v45 = v39 < v44;
-    v46 = (u8)(((u32)v41 ^ (u32)v45) & UINT64_C(1));
-    v47 = v40 < v44;
-    v48 = (u8)(((u32)v41 ^ (u32)v47) & UINT64_C(1));
-    v49 = v48 ? v34 : v31;
-    v50 = v46 ? v28 : v49;
-    v5 = v50; goto L1;
-}
-
-static void f156(address a0, address a1, u64 a2, u64 a3, u64 a4, u8 a5, u32 a6, u64 a7, u64 a8, address a9) {
-    u64 v10, v11, v12, v13, v14, v15, v16, v17, v18, v19, v22, v27, v29, v39, v41, v42;
-    u64 v45, v46, v49, v52, v53, v55, v57, v60, v61, v63, v65, v69, v72, v73, v74, v75;
-    u64 v76, v78, v81, v83, v85, v86, v87, v89, v90, v91, v92, v93, v94, v104, v106, v108;
-    u64 v115, v116, v120, v122, v123, v129, v130, v132, v133, v136;
-    u8 v20, v21, v24, v26, v28, v33, v40, v47, v48, v54, v56, v62, v64, v66, v67, v68;
-    u8 v70, v71, v79, v80, v88, v103, v107, v109, v110, v111, v112, v113, v114, v131, v135, v137;
-    u32 v23, v25, v30, v95, v96, v117, v118, v119, v124, v125, v126, v134, v139;
-    address v31, v32, v34, v35, v36, v37, v38, v43, v44, v50, v51, v58, v59, v77, v82, v84;
-    address v97, v98, v99, v100, v101, v102, v105, v121, v127, v128, v138, v140, v141, v142, v143, v144;
-    address v145, v146;
-    u64 block0[5];
-    v31 = ADDRESS(block0);
-    v32 = v31 + 32u * 1u;
-    store64(v32, 0u);
-    v33 = a4 == a2;
-    if (v33) { goto L2; }
-    else { goto L3; }
-L1:;
-    return;
-L2:;
-    store64(a0, a4);
-    v34 = a0 + 8u * 1u;
-    store8(v34, a5);
-    v35 = a0 + 9u * 1u;
-    memory_set(v35, 0u, 7u);
-    v36 = a0 + 16u * 1u;
-    store64(v36, a4);
-    v37 = a0 + 24u * 1u;
-    store8(v37, a5);
-    v38 = a0 + 25u * 1u;
-    memory_set(v38, 0u, 15u);
-    goto L1;
-L3:;
-    v39 = (u64)((u64)a2 - (u64)a4);
-    v40 = v39 < a7;
-    if (v40) { v19 = a2; v20 = 0u; goto L24; }
-    else { goto L4; }
-L4:;
-    v41 = (u64)((u64)a4 + (u64)2u);
-    v42 = (u64)((u64)a4 << (3u & 63u));
-    v43 = a1 + v42 * 1u;
-    v44 = v43 + 8u * 1u;
-    v45 = load64(v44);
-    v46 = load64(v43);
-    v47 = v45 < v46;
-    v48 = v41 < a2;
-    if (v47) { goto L6; }
-    else { goto L5; }
-L5:;
-    if (v48) { v11 = v41; goto L9; }
-    else { goto L13; }
-L6:;
-    if (v48) { v10 = v41; goto L7; }
-    else { goto L12; }
-L7:;
-    v49 = (u64)((u64)v10 << (3u & 63u));
-    v50 = a1 + v49 * 1u;
-    v51 = v50 + UINT64_C(18446744073709551608) * 1u;
-    v52 = load64(v50);
-    v53 = load64(v51);
-    v54 = v52 < v53;
-    if (v54) { goto L8; }
-    else { v12 = v10; goto L11; }
-L8:;
-    v55 = (u64)((u64)v10 + (u64)1u);
-    v56 = v55 == a2;
-    if (v56) { v12 = a2; goto L11; }
-    else { v10 = v55; goto L7; }
-L9:;
-    v57 = (u64)((u64)v11 << (3u & 63u));
-    v58 = a1 + v57 * 1u;
-    v59 = v58 + UINT64_C(18446744073709551608) * 1u;
-    v60 = load64(v58);
-    v61 = load64(v59);
-    v62 = v60 < v61;
-    if (v62) { v12 = v11; goto L11; }
-    else { goto L10; }
-L10:;
-    v63 = (u64)((u64)v11 + (u64)1u);
-    v64 = v63 == a2;
-    if (v64) { v12 = a2; goto L11; }
-    else { v11 = v63; goto L9; }
-L11:;
-    v65 = (u64)((u64)v12 - (u64)a4);
-    v66 = v65 < a7;
-    if (v66) { goto L14; }
-    else { goto L15; }
-L12:;
-    v67 = a7 > 2u;
-    if (v67) { goto L14; }
-    else { v13 = v41; v14 = 2u; goto L18; }
-L13:;
-    v68 = a7 > 2u;
-    if (v68) { goto L14; }
-    else { v19 = v41; v20 = 1u; goto L24; }
-L14:;
-    v69 = (u64)((u64)a7 + (u64)a4);
-    v19 = v69; v20 = 0u; goto L24;
-L15:;
-    if (v47) { goto L16; }
-    else { v19 = v12; v20 = 1u; goto L24; }
-L16:;
-    v70 = v65 > 15u;
-    if (v70) { goto L19; }
-    else { goto L17; }
-L17:;
-    v71 = v65 > 1u;
-    if (v71) { v13 = v12; v14 = v65; goto L18; }
-    else { v19 = v12; v20 = 1u; goto L24; }
-L18:;
-    v72 = (u64)((u64)v14 + (u64)UINT64_C(18446744073709551614));
-    v73 = (u64)((u64)v72 >> (1u & 63u));
-    v15 = 0u; v16 = v14; goto L20;
-L19:;
-    v74 = (u64)((u64)v65 >> (1u & 63u));
-    v75 = (u64)((u64)v65 - (u64)v74);
-    v76 = (u64)((u64)v75 << (3u & 63u));
-    v77 = v43 + v76 * 1u;
-    f149(v43, v77, v74);
-    v19 = v12; v20 = 1u; goto L24;
-L20:;
-    v78 = (u64)((u64)v16 + (u64)UINT64_C(18446744073709551615));
-    v79 = v15 < v78;
-    if (v79) { v17 = v15; v18 = v78; goto L22; }
-    else { goto L21; }
-L21:;
-    v80 = v78 < v15;
-    if (v80) { v17 = v78; v18 = v15; goto L22; }
-    else { goto L23; }
-L22:;
-    v81 = (u64)((u64)v17 << (3u & 63u));
-    v82 = v43 + v81 * 1u;
-    v83 = (u64)((u64)v18 << (3u & 63u));
-    v84 = v43 + v83 * 1u;
-    v85 = load64(v82);
-    v86 = load64(v84);
-    store64(v82, v86);
-    store64(v84, v85);
-    goto L23;
-L23:;
-    v87 = (u64)((u64)v15 + (u64)1u);
-    v88 = v15 == v73;
-    if (v88) { v19 = v13; v20 = 1u; goto L24; }
-    else { v15 = v87; v16 = v78; goto L20; }
-L24:;
-    v89 = (u64)((u64)a4 + (u64)a3);
-    v90 = (u64)((u64)a8 * (u64)v89);
-    v91 = (u64)((u64)v19 + (u64)a4);
-    v92 = (u64)((u64)v91 * (u64)a8);
-    v93 = (u64)((u64)v92 ^ (u64)v90);
-    v94 = (u64)ctlz(v93, 64u);
-    v95 = (u32)(v94);
-    v96 = (u32)((u32)v95 + (u32)1u);
-    store64(v31, a4);
-    v97 = v31 + 8u * 1u;
-    store8(v97, a5);
-    v98 = v31 + 9u * 1u;
-    memory_set(v98, 0u, 7u);
-    v99 = v31 + 16u * 1u;
-    store64(v99, v19);
-    v100 = v31 + 24u * 1u;
-    store8(v100, v20);
-    v101 = v31 + 25u * 1u;
-    memory_set(v101, 0u, 7u);
-    v102 = v31 + 32u * 1u;
-    store32(v102, v96);
-    v103 = a6 > v95;
-    if (v103) { v25 = 0u; v26 = v20; v27 = v19; v28 = a5; v29 = a4; v30 = v96; goto L35; }
-    else { goto L25; }
-L25:;
-    v104 = (u64)((u64)a3 << (3u & 63u));
-    v105 = a1 + v104 * 1u;
-    v21 = a5; v22 = a4; v23 = v96; goto L26;
-L26:;
-    v106 = load64(v99);
-    v107 = load8(v100);
-    f156(v31, a1, a2, v22, v106, v107, v23, a7, a8, a9);
-    v108 = load64(v31);
-    v109 = load8(v97);
-    v110 = (u8)((v109) & UINT64_C(1));
-    v111 = (u8)((u32)v109 | (u32)v21);
-    v112 = (u8)((u32)v111 & (u32)1u);
-    v113 = v112 == 0u;
-    if (v113) { v24 = v109; goto L33; }
-    else { goto L27; }
-L27:;
-    v114 = (u8)((v21) & UINT64_C(1));
-    if (v114) { goto L29; }
-    else { goto L28; }
-L28:;
-    v115 = (u64)((u64)v22 - (u64)a3);
-    v116 = (u64)ctlz(v115, 64u);
-    v117 = (u32)(v116);
-    v118 = (u32)((u32)v117 << (1u & 31u));
-    v119 = (u32)((u32)126u - (u32)v118);
-    f150(v105, v115, v115, v119, a9);
-    goto L29;
-L29:;
-    v120 = (u64)((u64)v22 << (3u & 63u));
-    if (v110) { goto L31; }
-    else { goto L30; }
-L30:;
-    v121 = a1 + v120 * 1u;
-    v122 = (u64)((u64)v108 - (u64)v22);
-    v123 = (u64)ctlz(v122, 64u);
-    v124 = (u32)(v123);
-    v125 = (u32)((u32)v124 << (1u & 31u));
-    v126 = (u32)((u32)126u - (u32)v125);
-    f150(v121, v122, v122, v126, a9);
-    goto L31;
-L31:;
-    v127 = a1 + v120 * 1u;
-    v128 = v127 + UINT64_C(18446744073709551608) * 1u;
-    v129 = load64(v127);
-    v130 = load64(v128);
-    v131 = v129 < v130;
-    if (v131) { goto L32; }
-    else { v24 = 1u; goto L33; }
-L32:;
-    v132 = (u64)((u64)v108 - (u64)a3);
-    v133 = (u64)((u64)v22 - (u64)a3);
-    f154(v105, v132, v133, a9);
-    v24 = 1u; goto L33;
-L33:;
-    store8(v97, v24);
-    memory_set(v98, 0u, 7u);
-    v134 = load32(v102);
-    v135 = a6 < v134;
-    if (v135) { v21 = v24; v22 = v108; v23 = v134; goto L26; }
-    else { goto L34; }
-L34:;
-    v136 = load64(v99);
-    v137 = load8(v100);
-    v138 = v31 + 36u * 1u;
-    v139 = load32(v138);
-    v25 = v139; v26 = v137; v27 = v136; v28 = v24; v29 = v108; v30 = v134; goto L35;
-L35:;
-    store64(a0, v29);
-    v140 = a0 + 8u * 1u;
-    store8(v140, v28);
-    v141 = a0 + 9u * 1u;
-    memory_cpy(v141, v98, 7u);
-    v142 = a0 + 16u * 1u;
-    store64(v142, v27);
-    v143 = a0 + 24u * 1u;
-    store8(v143, v26);
-    v144 = a0 + 25u * 1u;
-    memory_cpy(v144, v101, 7u);
-    v145 = a0 + 32u * 1u;
-    store32(v145, v30);
-    v146 = a0 + 36u * 1u;
-    store32(v146, v25);
-    goto L1;
-}
-
-static u8 f157(address a0) {
-    u8 v1, v5, v10, v14, v15, v21, v26;
-    struct pair v2, v19, v23, v24;
-    address v3, v6, v16, v28;
-    u64 v4, v7, v8, v9, v11, v12, v13, v17, v18, v20, v22, v25, v27;
-    v3 = a0 + 8u * 1u;
-    v4 = load64(v3);
-    v5 = v4 == UINT64_C(18446744073709551615);
-    if (v5) { v1 = 0u; goto L1; }
-    else { goto L2; }
-L1:;
-    return v1;
-L2:;
-    v6 = a0 + 16u * 1u;
-    v7 = load64(v6);
-    v8 = v4 > 3u ? v4 : 3u;
-    v9 = (u64)((u64)v8 + (u64)1u);
-    v10 = v7 < UINT64_C(4611686018427387904);
-    v11 = (u64)((u64)v7 << (1u & 63u));
-    v12 = v9 > v11 ? v9 : v11;
-    v13 = v10 ? v12 : v9;
     v14 = v13 < UINT64_C(576460752303423488);
     if (v14) { goto L3; }
     else { v1 = 0u; goto L1; }
@@ -34866,7 +33222,7 @@ L6:;
     v1 = 1u; goto L1;
 }
 
-static u8 f158(address a0) {
+static u8 f149(address a0) {
     u64 v1, v3, v7, v10, v13, v16, v18, v20, v22, v24, v27, v29, v31, v33, v35, v37;
     u16 v2, v4, v26;
     u8 v5, v11, v14, v21, v25, v28, v30, v32, v36, v38;
@@ -34936,7 +33292,7 @@ L10:;
     else { v1 = v37; goto L2; }
 }
 
-static u8 f159(address a0) {
+static u8 f150(address a0) {
     u64 v1, v2, v5, v6, v9, v10, v12, v15, v17, v20, v22;
     u8 v3, v7, v11, v13, v18, v23, v24;
     address v4, v8, v14, v16, v19, v21;
@@ -34983,7 +33339,7 @@ L7:;
     return v3;
 }
 
-static void f160(address a0) {
+static void f151(address a0) {
     u64 v1, v4, v6, v8, v11, v15, v20;
     address v2, v3, v5, v9, v10, v12, v13, v14, v17, v18;
     u8 v7, v16, v19, v21, v22;
@@ -35035,7 +33391,7 @@ L8:;
     return;
 }
 
-static u32 f161(address a0, address a1) {
+static u32 f152(address a0, address a1) {
     u64 v2, v10, v12, v16, v18, v22, v24, v28, v30, v32, v34, v36, v38, v56, v58, v67;
     u64 v72, v76, v82;
     u32 v3;
@@ -35208,7 +33564,7 @@ L18:;
     return v3;
 }
 
-static void f162(address a0, address a1) {
+static void f153(address a0, address a1) {
     u64 v2, v4, v30, v34, v64, v68, v81, v82, v84, v85;
     u16 v3, v8, v23, v27, v42, v56, v66, v73, v74, v87, v88, v90, v91, v98, v99, v103;
     u16 v105, v106;
@@ -35487,7 +33843,7 @@ L3:;
     return;
 }
 
-static void f163(address a0, address a1, address a2, address a3, u64 a4) {
+static void f154(address a0, address a1, address a2, address a3, u64 a4) {
     u8 v5, v7, v8, v10, v11, v14, v16, v17, v25, v27, v30, v32, v33, v34, v36, v38;
     u8 v39, v40, v42, v45, v49, v51, v53, v54, v55, v57, v59, v61, v62, v63, v67, v68;
     u8 v69, v70, v71, v72, v73, v74, v75, v79, v80, v82, v83, v84, v85, v87, v89, v94;
@@ -35617,7 +33973,7 @@ L11:;
     else { goto L12; }
 L12:;
     v90 = a1 + 192u * 1u;
-    f164(v19, a2, a1, v90);
+    f155(v19, a2, a1, v90);
     v91 = v19 + 20u * 1u;
     v92 = load64(v91);
     v93 = v19 + 34u * 1u;
@@ -35686,7 +34042,7 @@ L21:;
     else { v12 = v126; v13 = v127; goto L19; }
 L22:;
     memory_cpy(v20, v18, 16u);
-    f164(v21, a2, a1, v90);
+    f155(v21, a2, a1, v90);
     memory_cpy(v90, v21, 36u);
     v129 = load8(a2);
     v130 = load8(v31);
@@ -35866,7 +34222,7 @@ L28:;
     goto L27;
 }
 
-static void f164(address a0, address a1, address a2, address a3) {
+static void f155(address a0, address a1, address a2, address a3) {
     u64 v4, v6, v7, v8, v18, v20, v24, v26, v28, v30, v49, v50, v51, v52, v53, v54;
     u64 v55, v56, v57, v58, v59, v60, v64, v66, v67, v69, v71, v90, v91, v92, v93, v94;
     u64 v95, v96, v97, v98, v99, v100, v101, v103, v107, v109;
@@ -36034,7 +34390,7 @@ L6:;
     return;
 }
 
-static void f165(address a0, address a1, u8 a2, u16 a3, u16 a4, address a5, u64 a6) {
+static void f156(address a0, address a1, u8 a2, u16 a3, u16 a4, address a5, u64 a6) {
     u8 v7, v8, v15, v16, v20, v24, v25, v30, v31, v32, v41, v42, v43, v44, v45, v46;
     u8 v50, v51, v72, v73, v76, v77, v78, v79;
     address v9, v10, v11, v12, v13, v14, v17, v21, v22, v23, v26, v27, v28, v33, v34, v35;
@@ -36216,7 +34572,7 @@ L12:;
     goto L2;
 }
 
-static void f166(address a0, address a1, u16 a2, address a3, u64 a4) {
+static void f157(address a0, address a1, u16 a2, address a3, u64 a4) {
     u16 v5, v7, v8, v9, v10, v23, v31, v33, v37, v39, v45, v82, v83, v84, v85, v86;
     u16 v87, v88, v89, v119, v131, v132, v133, v134, v135, v136, v137, v138, v139;
     u64 v6, v22, v29, v43, v66, v67, v77, v79, v81, v98, v100, v113, v118;
@@ -36472,7 +34828,7 @@ L19:;
     goto L2;
 }
 
-static void f167(address a0, address a1, u16 a2, address a3, u64 a4) {
+static void f158(address a0, address a1, u16 a2, address a3, u64 a4) {
     address v5, v7, v8, v9, v10, v11, v12, v13, v16, v19, v20, v21, v22, v23, v27, v29;
     address v31, v37, v40, v41, v42, v44, v47, v52, v53, v55, v56, v59, v60, v61, v62, v63;
     address v65, v67, v70, v71, v72, v73;
@@ -36559,7 +34915,7 @@ L9:;
 L10:;
     return;
 L11:;
-    f166(v11, v7, a2, a3, a4);
+    f157(v11, v7, a2, a3, a4);
     v51 = load8(v11);
     store8(a0, v51);
     v52 = a0 + 1u * 1u;
@@ -36581,7 +34937,7 @@ L12:;
     memory_move(v19, v61, 440u);
     memory_cpy(v61, v9, 440u);
     v62 = load_address(a1);
-    f166(v12, v62, a2, a3, a4);
+    f157(v12, v62, a2, a3, a4);
     v63 = load_address(a1);
     memory_cpy(v8, v63, 440u);
     memory_move(v63, v61, 440u);
@@ -45153,87 +43509,87 @@ L2:;
 }
 
 u32 portable_ptpm_rollout_turn(address a0, address a1, address a2, u64 a3, address a4) {
-    u8 v5, v6, v7, v17, v18, v28, v29, v31, v35, v36, v39, v40, v43, v44, v46, v47;
-    u8 v48, v55, v56, v57, v95, v99, v127, v131, v132, v134, v135, v143, v144, v151, v155, v159;
-    u8 v160, v164, v168, v172, v177, v181, v186, v194, v198, v199, v204, v212, v216, v221, v226, v237;
-    u8 v238, v245, v246, v253, v254, v255, v256, v258, v260, v262, v272, v274, v276, v278, v295, v297;
-    u8 v299, v301, v310, v312, v314, v316, v333, v334, v338, v345, v348, v351, v357, v360, v361, v363;
-    u8 v365, v367, v369, v371, v373, v375, v377, v400, v402, v404, v406, v408, v410, v412, v414, v437;
-    u8 v440, v442, v444, v446, v448, v450, v452, v454, v478, v480, v482, v484, v486, v488, v490, v492;
-    u8 v515, v516, v519, v521, v523, v525, v527, v529, v531, v533, v557, v559, v561, v563, v565, v567;
-    u8 v569, v571, v594, v595, v597, v599, v601, v603, v605, v607, v609, v611, v635, v637, v639, v641;
-    u8 v643, v645, v647, v649, v672, v673, v674, v699, v702, v718, v735, v736, v737, v738, v739, v748;
-    u8 v758, v759, v767, v769, v771, v774, v782, v784, v787, v788, v790, v791, v794, v798, v806, v808;
-    u8 v811, v812, v813, v815, v821, v823, v825, v829, v838, v845, v850, v852, v861, v862, v863, v864;
-    u8 v865, v866, v867, v868, v869, v870, v871, v872, v873, v874, v877, v878, v879, v880, v883, v884;
-    u8 v885, v886, v889, v890, v891, v892, v893, v896, v897, v898, v900, v901, v902, v903, v904, v905;
-    u8 v906, v907, v908, v909, v911, v912, v914, v915, v916, v920, v921, v922, v923, v926, v927, v939;
-    u8 v940, v952, v953, v965, v966, v970, v974, v984, v990, v1003, v1004, v1020, v1021, v1029, v1045, v1046;
-    u8 v1054, v1061, v1071, v1075, v1078, v1082, v1092, v1096, v1099, v1101, v1102, v1105, v1111, v1112, v1114, v1127;
-    u8 v1133, v1134, v1141, v1148, v1152, v1162, v1166, v1169, v1173, v1179, v1183, v1193, v1197, v1200, v1207, v1216;
-    u8 v1218, v1219, v1220, v1223, v1226, v1230, v1232, v1234, v1240, v1242, v1243, v1245, v1247;
-    u16 v8, v27, v32, v34, v38, v41, v42, v45, v49, v50, v51, v72, v73, v75, v76, v78;
-    u16 v85, v88, v90, v91, v96, v97, v98, v101, v103, v104, v139, v146, v217, v222, v232, v698;
-    u16 v717, v734, v744, v768, v792, v793, v795, v819, v833, v835, v837, v839, v846, v848, v854, v856;
-    u16 v918, v924, v980, v1008, v1025, v1056, v1057, v1076, v1097, v1113, v1115, v1120, v1122, v1142, v1143, v1144;
-    u16 v1145, v1146, v1147, v1167, v1198, v1201, v1222, v1233, v1237, v1238, v1239, v1244, v1248;
-    u64 v9, v11, v12, v13, v14, v15, v16, v23, v26, v30, v33, v37, v53, v54, v62, v65;
-    u64 v70, v74, v77, v79, v86, v92, v93, v128, v149, v175, v184, v192, v202, v210, v219, v220;
-    u64 v224, v225, v229, v236, v242, v244, v250, v252, v263, v264, v265, v266, v267, v268, v269, v270;
-    u64 v279, v280, v281, v282, v283, v284, v285, v286, v287, v288, v289, v290, v291, v292, v293, v294;
-    u64 v302, v303, v304, v305, v306, v307, v308, v317, v318, v319, v320, v321, v322, v323, v324, v325;
-    u64 v326, v327, v328, v329, v330, v331, v332, v335, v336, v339, v340, v341, v342, v343, v346, v347;
-    u64 v349, v352, v353, v354, v355, v358, v359, v362, v378, v379, v380, v381, v382, v383, v384, v385;
-    u64 v386, v387, v388, v389, v390, v391, v392, v393, v394, v395, v396, v397, v398, v399, v415, v416;
-    u64 v417, v418, v419, v420, v421, v422, v423, v424, v425, v426, v427, v428, v429, v430, v431, v432;
-    u64 v433, v434, v435, v436, v438, v455, v456, v457, v458, v459, v460, v461, v462, v463, v464, v465;
-    u64 v466, v467, v468, v469, v470, v471, v472, v473, v474, v475, v476, v493, v494, v495, v496, v497;
-    u64 v498, v499, v500, v501, v502, v503, v504, v505, v506, v507, v508, v509, v510, v511, v512, v513;
-    u64 v514, v517, v534, v535, v536, v537, v538, v539, v540, v541, v542, v543, v544, v545, v546, v547;
-    u64 v548, v549, v550, v551, v552, v553, v554, v555, v572, v573, v574, v575, v576, v577, v578, v579;
-    u64 v580, v581, v582, v583, v584, v585, v586, v587, v588, v589, v590, v591, v592, v593, v612, v613;
-    u64 v614, v615, v616, v617, v618, v619, v620, v621, v622, v623, v624, v625, v626, v627, v628, v629;
-    u64 v630, v631, v632, v633, v650, v651, v652, v653, v654, v655, v656, v657, v658, v659, v660, v661;
-    u64 v662, v663, v664, v665, v666, v667, v668, v669, v670, v671, v675, v685, v700, v701, v719, v743;
-    u64 v746, v747, v750, v753, v757, v761, v763, v766, v770, v776, v778, v781, v783, v789, v800, v802;
-    u64 v805, v807, v814, v817, v820, v822, v826, v828, v831, v843, v860, v899, v938, v942, v951, v955;
-    u64 v964, v968, v971, v973, v977, v982, v983, v987, v1002, v1006, v1019, v1023, v1026, v1028, v1032, v1044;
-    u64 v1048, v1053, v1059, v1060, v1064, v1066, v1070, v1072, v1074, v1077, v1080, v1081, v1085, v1087, v1091, v1093;
-    u64 v1095, v1098, v1100, v1104, v1108, v1121, v1132, v1136, v1150, v1151, v1155, v1157, v1161, v1163, v1165, v1168;
-    u64 v1171, v1172, v1176, v1181, v1182, v1186, v1188, v1192, v1194, v1196, v1199, v1205, v1206, v1208, v1211, v1213;
-    u64 v1215, v1225, v1229;
-    address v10, v19, v20, v21, v22, v24, v25, v52, v58, v59, v60, v61, v63, v64, v66, v67;
-    address v68, v69, v71, v80, v81, v82, v83, v84, v87, v89, v94, v107, v108, v109, v110, v111;
-    address v112, v113, v114, v115, v116, v117, v118, v119, v120, v121, v122, v123, v124, v125, v126, v129;
-    address v130, v133, v136, v138, v140, v141, v142, v145, v147, v148, v150, v152, v153, v154, v156, v157;
-    address v158, v161, v162, v163, v165, v166, v167, v169, v170, v171, v173, v174, v176, v178, v179, v180;
-    address v182, v183, v185, v187, v188, v189, v190, v191, v193, v195, v196, v197, v200, v201, v203, v205;
-    address v206, v207, v208, v209, v211, v213, v214, v215, v218, v223, v227, v228, v230, v231, v233, v234;
-    address v235, v239, v240, v241, v243, v247, v248, v249, v251, v257, v259, v261, v271, v273, v275, v277;
-    address v296, v298, v300, v309, v311, v313, v315, v337, v344, v350, v356, v364, v366, v368, v370, v372;
-    address v374, v376, v401, v403, v405, v407, v409, v411, v413, v439, v441, v443, v445, v447, v449, v451;
-    address v453, v477, v479, v481, v483, v485, v487, v489, v491, v518, v520, v522, v524, v526, v528, v530;
-    address v532, v556, v558, v560, v562, v564, v566, v568, v570, v596, v598, v600, v602, v604, v606, v608;
-    address v610, v634, v636, v638, v640, v642, v644, v646, v648, v679, v681, v686, v688, v692, v694, v703;
-    address v705, v720, v722, v740, v741, v742, v745, v749, v751, v752, v754, v755, v756, v760, v762, v764;
-    address v765, v772, v773, v775, v777, v779, v780, v785, v786, v796, v797, v799, v801, v803, v804, v809;
-    address v810, v816, v818, v824, v827, v830, v832, v834, v836, v840, v841, v842, v844, v847, v849, v851;
-    address v853, v855, v857, v858, v859, v875, v876, v881, v882, v887, v888, v894, v895, v910, v913, v917;
-    address v919, v925, v928, v929, v930, v931, v932, v933, v934, v935, v936, v937, v941, v943, v944, v945;
-    address v946, v947, v948, v949, v950, v954, v956, v957, v958, v959, v960, v961, v962, v963, v967, v969;
-    address v972, v975, v976, v978, v979, v981, v985, v986, v988, v989, v991, v992, v993, v994, v995, v996;
-    address v997, v998, v999, v1000, v1001, v1005, v1007, v1009, v1010, v1011, v1012, v1013, v1014, v1015, v1016, v1017;
-    address v1018, v1022, v1024, v1027, v1030, v1031, v1033, v1034, v1035, v1036, v1037, v1038, v1039, v1040, v1041, v1042;
-    address v1043, v1047, v1049, v1050, v1051, v1052, v1055, v1058, v1062, v1063, v1065, v1067, v1068, v1069, v1073, v1079;
-    address v1083, v1084, v1086, v1088, v1089, v1090, v1094, v1103, v1106, v1107, v1109, v1110, v1116, v1117, v1118, v1119;
-    address v1123, v1124, v1125, v1126, v1128, v1129, v1130, v1131, v1135, v1137, v1138, v1139, v1140, v1149, v1153, v1154;
-    address v1156, v1158, v1159, v1160, v1164, v1170, v1174, v1175, v1177, v1178, v1180, v1184, v1185, v1187, v1189, v1190;
-    address v1191, v1195, v1202, v1203, v1204, v1209, v1210, v1212, v1214, v1217, v1221, v1224, v1227, v1228, v1231, v1241;
-    address v1251, v1252, v1253;
-    u32 v100, v102, v105, v106, v137, v1235, v1236, v1246, v1249, v1250;
-    struct v16u8 v676, v677, v678, v680, v682, v683, v684, v687, v689, v690, v691, v693, v695, v696, v697, v709;
-    struct v16u8 v710, v711, v712, v713, v714, v715, v716, v726, v727, v728, v729, v730, v731, v732, v733;
-    struct v64u8 v704, v706, v707, v708, v721, v723, v724, v725;
+    u8 v5, v6, v7, v17, v18, v28, v29, v31, v35, v36, v38, v45, v46, v52, v53, v54;
+    u8 v56, v58, v60, v61, v62, v100, v104, v132, v136, v137, v139, v140, v148, v149, v156, v160;
+    u8 v164, v165, v169, v173, v177, v182, v186, v191, v199, v203, v204, v209, v217, v221, v226, v231;
+    u8 v242, v243, v250, v251, v258, v259, v260, v261, v263, v265, v267, v277, v279, v281, v283, v300;
+    u8 v302, v304, v306, v315, v317, v319, v321, v338, v339, v343, v350, v353, v356, v362, v365, v366;
+    u8 v368, v370, v372, v374, v376, v378, v380, v382, v405, v407, v409, v411, v413, v415, v417, v419;
+    u8 v442, v445, v447, v449, v451, v453, v455, v457, v459, v483, v485, v487, v489, v491, v493, v495;
+    u8 v497, v520, v521, v524, v526, v528, v530, v532, v534, v536, v538, v562, v564, v566, v568, v570;
+    u8 v572, v574, v576, v599, v600, v602, v604, v606, v608, v610, v612, v614, v616, v640, v642, v644;
+    u8 v646, v648, v650, v652, v654, v677, v678, v679, v704, v707, v723, v740, v741, v742, v743, v744;
+    u8 v753, v763, v764, v772, v774, v776, v779, v787, v789, v792, v793, v795, v796, v799, v804, v812;
+    u8 v814, v817, v818, v819, v820, v824, v829, v839, v847, v854, v859, v861, v870, v871, v872, v873;
+    u8 v874, v875, v876, v877, v878, v879, v880, v881, v882, v883, v886, v887, v888, v889, v892, v893;
+    u8 v894, v895, v898, v899, v900, v901, v902, v905, v906, v907, v909, v910, v911, v912, v913, v914;
+    u8 v915, v916, v917, v918, v920, v921, v923, v924, v925, v929, v930, v931, v932, v935, v936, v948;
+    u8 v949, v961, v962, v974, v975, v979, v983, v993, v999, v1012, v1013, v1029, v1030, v1038, v1054, v1055;
+    u8 v1063, v1070, v1080, v1084, v1087, v1091, v1101, v1105, v1108, v1110, v1111, v1114, v1120, v1121, v1123, v1136;
+    u8 v1142, v1143, v1150, v1157, v1161, v1171, v1175, v1178, v1182, v1188, v1192, v1202, v1206, v1209, v1216, v1225;
+    u8 v1227, v1228, v1229, v1232, v1235, v1239, v1241, v1243, v1249, v1251, v1252, v1254, v1256;
+    u16 v8, v27, v32, v34, v42, v43, v44, v49, v50, v51, v55, v57, v77, v78, v80, v81;
+    u16 v83, v90, v93, v95, v96, v101, v102, v103, v106, v108, v109, v144, v151, v222, v227, v237;
+    u16 v703, v722, v739, v749, v773, v797, v798, v800, v801, v802, v834, v836, v838, v840, v852, v855;
+    u16 v857, v863, v865, v927, v933, v989, v1017, v1034, v1065, v1066, v1085, v1106, v1122, v1124, v1129, v1131;
+    u16 v1151, v1152, v1153, v1154, v1155, v1156, v1176, v1207, v1210, v1231, v1242, v1246, v1247, v1248, v1253, v1257;
+    u64 v9, v11, v12, v13, v14, v15, v16, v23, v26, v30, v33, v37, v39, v40, v47, v59;
+    u64 v67, v70, v75, v79, v82, v84, v91, v97, v98, v133, v154, v180, v189, v197, v207, v215;
+    u64 v224, v225, v229, v230, v234, v241, v247, v249, v255, v257, v268, v269, v270, v271, v272, v273;
+    u64 v274, v275, v284, v285, v286, v287, v288, v289, v290, v291, v292, v293, v294, v295, v296, v297;
+    u64 v298, v299, v307, v308, v309, v310, v311, v312, v313, v322, v323, v324, v325, v326, v327, v328;
+    u64 v329, v330, v331, v332, v333, v334, v335, v336, v337, v340, v341, v344, v345, v346, v347, v348;
+    u64 v351, v352, v354, v357, v358, v359, v360, v363, v364, v367, v383, v384, v385, v386, v387, v388;
+    u64 v389, v390, v391, v392, v393, v394, v395, v396, v397, v398, v399, v400, v401, v402, v403, v404;
+    u64 v420, v421, v422, v423, v424, v425, v426, v427, v428, v429, v430, v431, v432, v433, v434, v435;
+    u64 v436, v437, v438, v439, v440, v441, v443, v460, v461, v462, v463, v464, v465, v466, v467, v468;
+    u64 v469, v470, v471, v472, v473, v474, v475, v476, v477, v478, v479, v480, v481, v498, v499, v500;
+    u64 v501, v502, v503, v504, v505, v506, v507, v508, v509, v510, v511, v512, v513, v514, v515, v516;
+    u64 v517, v518, v519, v522, v539, v540, v541, v542, v543, v544, v545, v546, v547, v548, v549, v550;
+    u64 v551, v552, v553, v554, v555, v556, v557, v558, v559, v560, v577, v578, v579, v580, v581, v582;
+    u64 v583, v584, v585, v586, v587, v588, v589, v590, v591, v592, v593, v594, v595, v596, v597, v598;
+    u64 v617, v618, v619, v620, v621, v622, v623, v624, v625, v626, v627, v628, v629, v630, v631, v632;
+    u64 v633, v634, v635, v636, v637, v638, v655, v656, v657, v658, v659, v660, v661, v662, v663, v664;
+    u64 v665, v666, v667, v668, v669, v670, v671, v672, v673, v674, v675, v676, v680, v690, v705, v706;
+    u64 v724, v748, v751, v752, v755, v758, v762, v766, v768, v771, v775, v781, v783, v786, v788, v794;
+    u64 v803, v806, v808, v811, v813, v821, v822, v825, v828, v832, v844, v846, v850, v869, v908, v947;
+    u64 v951, v960, v964, v973, v977, v980, v982, v986, v991, v992, v996, v1011, v1015, v1028, v1032, v1035;
+    u64 v1037, v1041, v1053, v1057, v1062, v1068, v1069, v1073, v1075, v1079, v1081, v1083, v1086, v1089, v1090, v1094;
+    u64 v1096, v1100, v1102, v1104, v1107, v1109, v1113, v1117, v1130, v1141, v1145, v1159, v1160, v1164, v1166, v1170;
+    u64 v1172, v1174, v1177, v1180, v1181, v1185, v1190, v1191, v1195, v1197, v1201, v1203, v1205, v1208, v1214, v1215;
+    u64 v1217, v1220, v1222, v1224, v1234, v1238;
+    address v10, v19, v20, v21, v22, v24, v25, v41, v48, v63, v64, v65, v66, v68, v69, v71;
+    address v72, v73, v74, v76, v85, v86, v87, v88, v89, v92, v94, v99, v112, v113, v114, v115;
+    address v116, v117, v118, v119, v120, v121, v122, v123, v124, v125, v126, v127, v128, v129, v130, v131;
+    address v134, v135, v138, v141, v143, v145, v146, v147, v150, v152, v153, v155, v157, v158, v159, v161;
+    address v162, v163, v166, v167, v168, v170, v171, v172, v174, v175, v176, v178, v179, v181, v183, v184;
+    address v185, v187, v188, v190, v192, v193, v194, v195, v196, v198, v200, v201, v202, v205, v206, v208;
+    address v210, v211, v212, v213, v214, v216, v218, v219, v220, v223, v228, v232, v233, v235, v236, v238;
+    address v239, v240, v244, v245, v246, v248, v252, v253, v254, v256, v262, v264, v266, v276, v278, v280;
+    address v282, v301, v303, v305, v314, v316, v318, v320, v342, v349, v355, v361, v369, v371, v373, v375;
+    address v377, v379, v381, v406, v408, v410, v412, v414, v416, v418, v444, v446, v448, v450, v452, v454;
+    address v456, v458, v482, v484, v486, v488, v490, v492, v494, v496, v523, v525, v527, v529, v531, v533;
+    address v535, v537, v561, v563, v565, v567, v569, v571, v573, v575, v601, v603, v605, v607, v609, v611;
+    address v613, v615, v639, v641, v643, v645, v647, v649, v651, v653, v684, v686, v691, v693, v697, v699;
+    address v708, v710, v725, v727, v745, v746, v747, v750, v754, v756, v757, v759, v760, v761, v765, v767;
+    address v769, v770, v777, v778, v780, v782, v784, v785, v790, v791, v805, v807, v809, v810, v815, v816;
+    address v823, v826, v827, v830, v831, v833, v835, v837, v841, v842, v843, v845, v848, v849, v851, v853;
+    address v856, v858, v860, v862, v864, v866, v867, v868, v884, v885, v890, v891, v896, v897, v903, v904;
+    address v919, v922, v926, v928, v934, v937, v938, v939, v940, v941, v942, v943, v944, v945, v946, v950;
+    address v952, v953, v954, v955, v956, v957, v958, v959, v963, v965, v966, v967, v968, v969, v970, v971;
+    address v972, v976, v978, v981, v984, v985, v987, v988, v990, v994, v995, v997, v998, v1000, v1001, v1002;
+    address v1003, v1004, v1005, v1006, v1007, v1008, v1009, v1010, v1014, v1016, v1018, v1019, v1020, v1021, v1022, v1023;
+    address v1024, v1025, v1026, v1027, v1031, v1033, v1036, v1039, v1040, v1042, v1043, v1044, v1045, v1046, v1047, v1048;
+    address v1049, v1050, v1051, v1052, v1056, v1058, v1059, v1060, v1061, v1064, v1067, v1071, v1072, v1074, v1076, v1077;
+    address v1078, v1082, v1088, v1092, v1093, v1095, v1097, v1098, v1099, v1103, v1112, v1115, v1116, v1118, v1119, v1125;
+    address v1126, v1127, v1128, v1132, v1133, v1134, v1135, v1137, v1138, v1139, v1140, v1144, v1146, v1147, v1148, v1149;
+    address v1158, v1162, v1163, v1165, v1167, v1168, v1169, v1173, v1179, v1183, v1184, v1186, v1187, v1189, v1193, v1194;
+    address v1196, v1198, v1199, v1200, v1204, v1211, v1212, v1213, v1218, v1219, v1221, v1223, v1226, v1230, v1233, v1236;
+    address v1237, v1240, v1250, v1260, v1261, v1262;
+    u32 v105, v107, v110, v111, v142, v1244, v1245, v1255, v1258, v1259;
+    struct v16u8 v681, v682, v683, v685, v687, v688, v689, v692, v694, v695, v696, v698, v700, v701, v702, v714;
+    struct v16u8 v715, v716, v717, v718, v719, v720, v721, v731, v732, v733, v734, v735, v736, v737, v738;
+    struct v64u8 v709, v711, v712, v713, v726, v728, v729, v730;
     u64 block0[4];
     u64 block1[4];
     u64 block2[4];
@@ -45254,50 +43610,50 @@ u32 portable_ptpm_rollout_turn(address a0, address a1, address a2, u64 a3, addre
     u64 block17[6];
     u64 block18[6];
     u64 block19[4];
-    v107 = ADDRESS(block0);
-    v108 = ADDRESS(block1);
-    v109 = ADDRESS(block2);
-    v110 = ADDRESS(block3);
-    v111 = ADDRESS(block4);
-    v112 = ADDRESS(block5);
-    v113 = ADDRESS(block6);
-    v114 = ADDRESS(block7);
-    v115 = ADDRESS(block8);
-    v116 = ADDRESS(block9);
-    v117 = ADDRESS(block10);
-    v118 = ADDRESS(block11);
-    v119 = ADDRESS(block12);
-    v120 = ADDRESS(block13);
-    v121 = ADDRESS(block14);
-    v122 = ADDRESS(block15);
-    v123 = ADDRESS(block16);
-    v124 = ADDRESS(block17);
-    v125 = ADDRESS(block18);
-    v126 = ADDRESS(block19);
-    v127 = a2 == 0u;
-    v128 = v127 ? 4096u : 0u;
-    v129 = a2 + v128 * 1u;
+    v112 = ADDRESS(block0);
+    v113 = ADDRESS(block1);
+    v114 = ADDRESS(block2);
+    v115 = ADDRESS(block3);
+    v116 = ADDRESS(block4);
+    v117 = ADDRESS(block5);
+    v118 = ADDRESS(block6);
+    v119 = ADDRESS(block7);
+    v120 = ADDRESS(block8);
+    v121 = ADDRESS(block9);
+    v122 = ADDRESS(block10);
+    v123 = ADDRESS(block11);
+    v124 = ADDRESS(block12);
+    v125 = ADDRESS(block13);
+    v126 = ADDRESS(block14);
+    v127 = ADDRESS(block15);
+    v128 = ADDRESS(block16);
+    v129 = ADDRESS(block17);
+    v130 = ADDRESS(block18);
+    v131 = ADDRESS(block19);
+    v132 = a2 == 0u;
+    v133 = v132 ? 4096u : 0u;
+    v134 = a2 + v133 * 1u;
     memory_set(a4, 0u, 12u);
-    v130 = a0 + 8u * 1u;
-    v131 = load8(v130);
-    v132 = (u8)((v131) & UINT64_C(1));
-    if (v132) { goto L1; }
-    else { v106 = 130u; goto L227; }
+    v135 = a0 + 8u * 1u;
+    v136 = load8(v135);
+    v137 = (u8)((v136) & UINT64_C(1));
+    if (v137) { goto L1; }
+    else { v111 = 130u; goto L229; }
 L1:;
-    v133 = load_address(a0);
-    v134 = load8(v133);
-    v135 = v134 == 7u;
-    if (v135) { goto L2; }
-    else { v106 = 130u; goto L227; }
+    v138 = load_address(a0);
+    v139 = load8(v138);
+    v140 = v139 == 7u;
+    if (v140) { goto L2; }
+    else { v111 = 130u; goto L229; }
 L2:;
-    v136 = a1 + 8u * 1u;
-    v137 = load32(v136);
-    switch (v137) {
+    v141 = a1 + 8u * 1u;
+    v142 = load32(v141);
+    switch (v142) {
     case 0u: goto L5;
     case 1u: goto L23;
     case 2u: goto L6;
     case 3u: goto L9;
-    case 4u: v6 = 1u; v7 = 4u; v8 = 0u; v9 = a3; v10 = v129; goto L19;
+    case 4u: v6 = 1u; v7 = 4u; v8 = 0u; v9 = a3; v10 = v134; goto L19;
     case 5u: goto L3;
     case 6u: goto L11;
     case 7u: goto L16;
@@ -45305,92 +43661,92 @@ L2:;
     case 9u: goto L8;
     case 10u: v5 = 9u; goto L18;
     case 11u: goto L4;
-    default: v106 = 132u; goto L227;
+    default: v111 = 132u; goto L229;
     }
 L3:;
-    v138 = a1 + 14u * 1u;
-    v139 = load16(v138);
-    v6 = 0u; v7 = 5u; v8 = v139; v9 = 0u; v10 = 0u; goto L19;
+    v143 = a1 + 14u * 1u;
+    v144 = load16(v143);
+    v6 = 0u; v7 = 5u; v8 = v144; v9 = 0u; v10 = 0u; goto L19;
 L4:;
     v5 = 10u; goto L18;
 L5:;
-    v140 = v133 + 8u * 1u;
-    v141 = load_address(v140);
-    v142 = v141 + 172u * 1u;
-    v143 = load8(v142);
-    v144 = v143 == 0u;
-    if (v144) { goto L54; }
-    else { v106 = 132u; goto L227; }
+    v145 = v138 + 8u * 1u;
+    v146 = load_address(v145);
+    v147 = v146 + 172u * 1u;
+    v148 = load8(v147);
+    v149 = v148 == 0u;
+    if (v149) { goto L54; }
+    else { v111 = 132u; goto L229; }
 L6:;
-    v145 = a1 + 12u * 1u;
-    v146 = load16(v145);
-    v147 = v133 + 8u * 1u;
-    v148 = load_address(v147);
-    v149 = load64(a1);
-    v150 = v148 + 172u * 1u;
-    v151 = load8(v150);
-    v152 = v148 + 174u * 1u;
-    v153 = v148 + 176u * 1u;
-    v154 = v148 + 178u * 1u;
-    v155 = v151 == 8u;
-    if (v155) { goto L144; }
-    else { v106 = 132u; goto L227; }
+    v150 = a1 + 12u * 1u;
+    v151 = load16(v150);
+    v152 = v138 + 8u * 1u;
+    v153 = load_address(v152);
+    v154 = load64(a1);
+    v155 = v153 + 172u * 1u;
+    v156 = load8(v155);
+    v157 = v153 + 174u * 1u;
+    v158 = v153 + 176u * 1u;
+    v159 = v153 + 178u * 1u;
+    v160 = v156 == 8u;
+    if (v160) { goto L146; }
+    else { v111 = 132u; goto L229; }
 L7:;
-    v156 = v133 + 8u * 1u;
-    v157 = load_address(v156);
-    v158 = v157 + 172u * 1u;
-    v159 = load8(v158);
-    v160 = v159 == 6u;
-    if (v160) { goto L178; }
-    else { v106 = 132u; goto L227; }
-L8:;
-    v161 = v133 + 8u * 1u;
+    v161 = v138 + 8u * 1u;
     v162 = load_address(v161);
     v163 = v162 + 172u * 1u;
     v164 = load8(v163);
-    v165 = v162 + 174u * 1u;
-    v166 = v162 + 176u * 1u;
-    v167 = v162 + 178u * 1u;
-    v168 = v164 == 6u;
-    if (v168) { goto L179; }
-    else { v106 = 132u; goto L227; }
+    v165 = v164 == 6u;
+    if (v165) { goto L180; }
+    else { v111 = 132u; goto L229; }
+L8:;
+    v166 = v138 + 8u * 1u;
+    v167 = load_address(v166);
+    v168 = v167 + 172u * 1u;
+    v169 = load8(v168);
+    v170 = v167 + 174u * 1u;
+    v171 = v167 + 176u * 1u;
+    v172 = v167 + 178u * 1u;
+    v173 = v169 == 6u;
+    if (v173) { goto L181; }
+    else { v111 = 132u; goto L229; }
 L9:;
-    v169 = v133 + 8u * 1u;
-    v170 = load_address(v169);
-    v171 = v170 + 172u * 1u;
-    v172 = load8(v171);
-    switch (v172) {
-    case 2u: goto L149;
-    case 3u: goto L149;
-    case 9u: goto L149;
-    case 8u: goto L149;
-    case 0u: v106 = 132u; goto L227;
-    case 1u: v106 = 132u; goto L227;
-    case 4u: v106 = 132u; goto L227;
-    case 5u: v106 = 132u; goto L227;
-    case 6u: v106 = 132u; goto L227;
-    case 7u: v106 = 132u; goto L227;
-    case 10u: v106 = 132u; goto L227;
-    case 11u: v106 = 132u; goto L227;
-    case 12u: v106 = 132u; goto L227;
-    case 13u: v106 = 132u; goto L227;
+    v174 = v138 + 8u * 1u;
+    v175 = load_address(v174);
+    v176 = v175 + 172u * 1u;
+    v177 = load8(v176);
+    switch (v177) {
+    case 2u: goto L151;
+    case 3u: goto L151;
+    case 9u: goto L151;
+    case 8u: goto L151;
+    case 0u: v111 = 132u; goto L229;
+    case 1u: v111 = 132u; goto L229;
+    case 4u: v111 = 132u; goto L229;
+    case 5u: v111 = 132u; goto L229;
+    case 6u: v111 = 132u; goto L229;
+    case 7u: v111 = 132u; goto L229;
+    case 10u: v111 = 132u; goto L229;
+    case 11u: v111 = 132u; goto L229;
+    case 12u: v111 = 132u; goto L229;
+    case 13u: v111 = 132u; goto L229;
     default: goto L10;
     }
 L10:;
     UNREACHABLE;
 L11:;
-    v173 = v133 + 8u * 1u;
-    v174 = load_address(v173);
-    v175 = load64(a1);
-    v176 = v174 + 172u * 1u;
-    v177 = load8(v176);
-    v178 = v174 + 174u * 1u;
-    v179 = v174 + 176u * 1u;
-    v180 = v174 + 178u * 1u;
-    switch (v177) {
-    case 2u: goto L154;
-    case 3u: goto L154;
-    case 9u: goto L154;
+    v178 = v138 + 8u * 1u;
+    v179 = load_address(v178);
+    v180 = load64(a1);
+    v181 = v179 + 172u * 1u;
+    v182 = load8(v181);
+    v183 = v179 + 174u * 1u;
+    v184 = v179 + 176u * 1u;
+    v185 = v179 + 178u * 1u;
+    switch (v182) {
+    case 2u: goto L156;
+    case 3u: goto L156;
+    case 9u: goto L156;
     case 0u: goto L13;
     case 1u: goto L13;
     case 4u: goto L13;
@@ -45407,9 +43763,9 @@ L11:;
 L12:;
     UNREACHABLE;
 L13:;
-    switch (v177) {
-    case 7u: goto L154;
-    case 12u: goto L154;
+    switch (v182) {
+    case 7u: goto L156;
+    case 12u: goto L156;
     case 0u: goto L15;
     case 1u: goto L15;
     case 2u: goto L15;
@@ -45427,60 +43783,60 @@ L13:;
 L14:;
     UNREACHABLE;
 L15:;
-    v181 = v177 == 8u;
-    if (v181) { goto L154; }
-    else { v106 = 132u; goto L227; }
+    v186 = v182 == 8u;
+    if (v186) { goto L156; }
+    else { v111 = 132u; goto L229; }
 L16:;
-    v182 = v133 + 8u * 1u;
-    v183 = load_address(v182);
-    v184 = load64(a1);
-    v185 = v183 + 172u * 1u;
-    v186 = load8(v185);
-    v187 = v183 + 174u * 1u;
-    v188 = v183 + 176u * 1u;
-    v189 = v183 + 178u * 1u;
-    switch (v186) {
-    case 13u: v106 = 132u; goto L227;
-    case 12u: v106 = 132u; goto L227;
-    case 9u: v106 = 132u; goto L227;
-    case 8u: v106 = 132u; goto L227;
-    case 0u: v106 = 132u; goto L227;
-    case 1u: v106 = 132u; goto L227;
-    case 2u: v106 = 132u; goto L227;
-    case 3u: v106 = 132u; goto L227;
-    case 6u: v106 = 132u; goto L227;
-    case 7u: v106 = 132u; goto L227;
-    case 5u: goto L155;
-    case 4u: goto L177;
-    case 10u: goto L177;
-    case 11u: goto L177;
+    v187 = v138 + 8u * 1u;
+    v188 = load_address(v187);
+    v189 = load64(a1);
+    v190 = v188 + 172u * 1u;
+    v191 = load8(v190);
+    v192 = v188 + 174u * 1u;
+    v193 = v188 + 176u * 1u;
+    v194 = v188 + 178u * 1u;
+    switch (v191) {
+    case 13u: v111 = 132u; goto L229;
+    case 12u: v111 = 132u; goto L229;
+    case 9u: v111 = 132u; goto L229;
+    case 8u: v111 = 132u; goto L229;
+    case 0u: v111 = 132u; goto L229;
+    case 1u: v111 = 132u; goto L229;
+    case 2u: v111 = 132u; goto L229;
+    case 3u: v111 = 132u; goto L229;
+    case 6u: v111 = 132u; goto L229;
+    case 7u: v111 = 132u; goto L229;
+    case 5u: goto L157;
+    case 4u: goto L179;
+    case 10u: goto L179;
+    case 11u: goto L179;
     default: goto L17;
     }
 L17:;
     UNREACHABLE;
 L18:;
-    v190 = v133 + 8u * 1u;
-    v191 = load_address(v190);
-    v192 = load64(a1);
-    v193 = v191 + 172u * 1u;
-    v194 = load8(v193);
-    v195 = v191 + 174u * 1u;
-    v196 = v191 + 176u * 1u;
-    v197 = v191 + 178u * 1u;
-    v198 = (u8)((u32)v194 + (u32)255u);
-    v199 = v198 < 12u;
-    if (v199) { v19 = v197; v20 = v196; v21 = v195; v22 = v193; v23 = v192; v24 = v191; v25 = 0u; v26 = 0u; v27 = 0u; v28 = v5; v29 = 0u; goto L53; }
-    else { v106 = 132u; goto L227; }
+    v195 = v138 + 8u * 1u;
+    v196 = load_address(v195);
+    v197 = load64(a1);
+    v198 = v196 + 172u * 1u;
+    v199 = load8(v198);
+    v200 = v196 + 174u * 1u;
+    v201 = v196 + 176u * 1u;
+    v202 = v196 + 178u * 1u;
+    v203 = (u8)((u32)v199 + (u32)255u);
+    v204 = v203 < 12u;
+    if (v204) { v19 = v202; v20 = v201; v21 = v200; v22 = v198; v23 = v197; v24 = v196; v25 = 0u; v26 = 0u; v27 = 0u; v28 = v5; v29 = 0u; goto L53; }
+    else { v111 = 132u; goto L229; }
 L19:;
-    v200 = v133 + 8u * 1u;
-    v201 = load_address(v200);
-    v202 = load64(a1);
-    v203 = v201 + 172u * 1u;
-    v204 = load8(v203);
-    v205 = v201 + 174u * 1u;
-    v206 = v201 + 176u * 1u;
-    v207 = v201 + 178u * 1u;
-    switch (v204) {
+    v205 = v138 + 8u * 1u;
+    v206 = load_address(v205);
+    v207 = load64(a1);
+    v208 = v206 + 172u * 1u;
+    v209 = load8(v208);
+    v210 = v206 + 174u * 1u;
+    v211 = v206 + 176u * 1u;
+    v212 = v206 + 178u * 1u;
+    switch (v209) {
     case 2u: goto L24;
     case 3u: goto L24;
     case 9u: goto L24;
@@ -45500,673 +43856,623 @@ L19:;
 L20:;
     UNREACHABLE;
 L21:;
-    switch (v204) {
+    switch (v209) {
     case 7u: goto L24;
     case 12u: goto L24;
-    case 0u: v106 = 132u; goto L227;
-    case 1u: v106 = 132u; goto L227;
-    case 2u: v106 = 132u; goto L227;
-    case 3u: v106 = 132u; goto L227;
-    case 4u: v106 = 132u; goto L227;
-    case 5u: v106 = 132u; goto L227;
-    case 6u: v106 = 132u; goto L227;
-    case 8u: v106 = 132u; goto L227;
-    case 9u: v106 = 132u; goto L227;
-    case 10u: v106 = 132u; goto L227;
-    case 11u: v106 = 132u; goto L227;
-    case 13u: v106 = 132u; goto L227;
+    case 0u: v111 = 132u; goto L229;
+    case 1u: v111 = 132u; goto L229;
+    case 2u: v111 = 132u; goto L229;
+    case 3u: v111 = 132u; goto L229;
+    case 4u: v111 = 132u; goto L229;
+    case 5u: v111 = 132u; goto L229;
+    case 6u: v111 = 132u; goto L229;
+    case 8u: v111 = 132u; goto L229;
+    case 9u: v111 = 132u; goto L229;
+    case 10u: v111 = 132u; goto L229;
+    case 11u: v111 = 132u; goto L229;
+    case 13u: v111 = 132u; goto L229;
     default: goto L22;
     }
 L22:;
     UNREACHABLE;
 L23:;
-    v208 = v133 + 8u * 1u;
-    v209 = load_address(v208);
-    v210 = load64(a1);
-    v211 = v209 + 172u * 1u;
-    v212 = load8(v211);
-    v213 = v209 + 174u * 1u;
-    v214 = v209 + 176u * 1u;
-    v215 = v209 + 178u * 1u;
-    v216 = v212 == 1u;
-    if (v216) { goto L55; }
-    else { v106 = 132u; goto L227; }
+    v213 = v138 + 8u * 1u;
+    v214 = load_address(v213);
+    v215 = load64(a1);
+    v216 = v214 + 172u * 1u;
+    v217 = load8(v216);
+    v218 = v214 + 174u * 1u;
+    v219 = v214 + 176u * 1u;
+    v220 = v214 + 178u * 1u;
+    v221 = v217 == 1u;
+    if (v221) { goto L55; }
+    else { v111 = 132u; goto L229; }
 L24:;
     if (v6) { goto L25; }
-    else { v66 = v207; v67 = v206; v68 = v205; v69 = v203; v70 = v202; v71 = v201; v72 = v8; goto L153; }
+    else { v71 = v212; v72 = v211; v73 = v210; v74 = v208; v75 = v207; v76 = v206; v77 = v8; goto L155; }
 L25:;
-    switch (v204) {
+    switch (v209) {
     case 7u: goto L26;
     case 9u: goto L27;
     case 2u: goto L27;
     case 12u: goto L27;
-    case 11u: v58 = v207; v59 = v206; v60 = v205; v61 = v203; v62 = v202; v63 = v201; v64 = v10; v65 = v9; goto L152;
-    case 10u: v58 = v207; v59 = v206; v60 = v205; v61 = v203; v62 = v202; v63 = v201; v64 = v10; v65 = v9; goto L152;
-    case 3u: v58 = v207; v59 = v206; v60 = v205; v61 = v203; v62 = v202; v63 = v201; v64 = v10; v65 = v9; goto L152;
-    case 4u: v58 = v207; v59 = v206; v60 = v205; v61 = v203; v62 = v202; v63 = v201; v64 = v10; v65 = v9; goto L152;
-    case 5u: v58 = v207; v59 = v206; v60 = v205; v61 = v203; v62 = v202; v63 = v201; v64 = v10; v65 = v9; goto L152;
-    case 6u: v58 = v207; v59 = v206; v60 = v205; v61 = v203; v62 = v202; v63 = v201; v64 = v10; v65 = v9; goto L152;
-    case 8u: v58 = v207; v59 = v206; v60 = v205; v61 = v203; v62 = v202; v63 = v201; v64 = v10; v65 = v9; goto L152;
+    case 11u: v63 = v212; v64 = v211; v65 = v210; v66 = v208; v67 = v207; v68 = v206; v69 = v10; v70 = v9; goto L154;
+    case 10u: v63 = v212; v64 = v211; v65 = v210; v66 = v208; v67 = v207; v68 = v206; v69 = v10; v70 = v9; goto L154;
+    case 3u: v63 = v212; v64 = v211; v65 = v210; v66 = v208; v67 = v207; v68 = v206; v69 = v10; v70 = v9; goto L154;
+    case 4u: v63 = v212; v64 = v211; v65 = v210; v66 = v208; v67 = v207; v68 = v206; v69 = v10; v70 = v9; goto L154;
+    case 5u: v63 = v212; v64 = v211; v65 = v210; v66 = v208; v67 = v207; v68 = v206; v69 = v10; v70 = v9; goto L154;
+    case 6u: v63 = v212; v64 = v211; v65 = v210; v66 = v208; v67 = v207; v68 = v206; v69 = v10; v70 = v9; goto L154;
+    case 8u: v63 = v212; v64 = v211; v65 = v210; v66 = v208; v67 = v207; v68 = v206; v69 = v10; v70 = v9; goto L154;
     default: goto L50;
     }
 L26:;
-    v217 = load16(v205);
-    v218 = v201 + 104u * 1u;
-    v219 = load64(v218);
-    v220 = (u64)v217;
-    v221 = v219 > v220;
-    if (v221) { v11 = v220; v12 = 16u; v13 = 24u; goto L28; }
-    else { v58 = v207; v59 = v206; v60 = v205; v61 = v203; v62 = v202; v63 = v201; v64 = v10; v65 = v9; goto L152; }
-L27:;
-    v222 = load16(v205);
-    v223 = v201 + 104u * 1u;
+    v222 = load16(v210);
+    v223 = v206 + 104u * 1u;
     v224 = load64(v223);
     v225 = (u64)v222;
     v226 = v224 > v225;
-    if (v226) { v11 = v225; v12 = 40u; v13 = 48u; goto L28; }
-    else { v58 = v207; v59 = v206; v60 = v205; v61 = v203; v62 = v202; v63 = v201; v64 = v10; v65 = v9; goto L152; }
+    if (v226) { v11 = v225; v12 = 16u; v13 = 24u; goto L28; }
+    else { v63 = v212; v64 = v211; v65 = v210; v66 = v208; v67 = v207; v68 = v206; v69 = v10; v70 = v9; goto L154; }
+L27:;
+    v227 = load16(v210);
+    v228 = v206 + 104u * 1u;
+    v229 = load64(v228);
+    v230 = (u64)v227;
+    v231 = v229 > v230;
+    if (v231) { v11 = v230; v12 = 40u; v13 = 48u; goto L28; }
+    else { v63 = v212; v64 = v211; v65 = v210; v66 = v208; v67 = v207; v68 = v206; v69 = v10; v70 = v9; goto L154; }
 L28:;
-    v227 = v201 + 96u * 1u;
-    v228 = load_address(v227);
-    v229 = (u64)((u64)v11 << (6u & 63u));
-    v230 = v228 + v229 * 1u;
-    v231 = v230 + 12u * 1u;
-    v232 = load16(v231);
-    v233 = v230 + v12 * 1u;
-    v234 = load_address(v233);
-    v235 = v230 + v13 * 1u;
-    v236 = load64(v235);
-    memory_set(v107, 0u, 32u);
-    memory_set(v108, 0u, 32u);
-    f109(v107, v232, v234, v236);
-    v237 = load8(v107);
-    v238 = v237 == 0u;
-    if (v238) { goto L29; }
-    else { goto L226; }
+    v232 = v206 + 96u * 1u;
+    v233 = load_address(v232);
+    v234 = (u64)((u64)v11 << (6u & 63u));
+    v235 = v233 + v234 * 1u;
+    v236 = v235 + 12u * 1u;
+    v237 = load16(v236);
+    v238 = v235 + v12 * 1u;
+    v239 = load_address(v238);
+    v240 = v235 + v13 * 1u;
+    v241 = load64(v240);
+    memory_set(v112, 0u, 32u);
+    memory_set(v113, 0u, 32u);
+    f109(v112, v237, v239, v241);
+    v242 = load8(v112);
+    v243 = v242 == 0u;
+    if (v243) { goto L29; }
+    else { goto L228; }
 L29:;
-    v239 = v107 + 8u * 1u;
-    v240 = load_address(v239);
-    v241 = v107 + 16u * 1u;
-    v242 = load64(v241);
-    v243 = v107 + 24u * 1u;
-    v244 = load64(v243);
-    f109(v108, v232, v10, v9);
-    v245 = load8(v108);
-    v246 = v245 == 0u;
-    if (v246) { goto L30; }
+    v244 = v112 + 8u * 1u;
+    v245 = load_address(v244);
+    v246 = v112 + 16u * 1u;
+    v247 = load64(v246);
+    v248 = v112 + 24u * 1u;
+    v249 = load64(v248);
+    f109(v113, v237, v10, v9);
+    v250 = load8(v113);
+    v251 = v250 == 0u;
+    if (v251) { goto L30; }
     else { goto L48; }
 L30:;
-    v247 = v108 + 8u * 1u;
-    v248 = load_address(v247);
-    v249 = v108 + 16u * 1u;
-    v250 = load64(v249);
-    v251 = v108 + 24u * 1u;
-    v252 = load64(v251);
-    v253 = v242 == v250;
-    if (v253) { goto L31; }
+    v252 = v113 + 8u * 1u;
+    v253 = load_address(v252);
+    v254 = v113 + 16u * 1u;
+    v255 = load64(v254);
+    v256 = v113 + 24u * 1u;
+    v257 = load64(v256);
+    v258 = v247 == v255;
+    if (v258) { goto L31; }
     else { v18 = 0u; goto L45; }
 L31:;
-    v254 = v242 < 8u;
-    if (v254) { goto L32; }
+    v259 = v247 < 8u;
+    if (v259) { goto L32; }
     else { goto L37; }
 L32:;
-    v255 = v242 > 3u;
-    if (v255) { goto L33; }
+    v260 = v247 > 3u;
+    if (v260) { goto L33; }
     else { goto L34; }
 L33:;
-    v256 = load8(v240);
-    v257 = v240 + 1u * 1u;
-    v258 = load8(v257);
-    v259 = v240 + 2u * 1u;
-    v260 = load8(v259);
-    v261 = v240 + 3u * 1u;
-    v262 = load8(v261);
-    v263 = (u64)v262;
-    v264 = (u64)((u64)v263 << (24u & 63u));
-    v265 = (u64)v260;
-    v266 = (u64)((u64)v265 << (16u & 63u));
-    v267 = (u64)v258;
-    v268 = (u64)((u64)v267 << (8u & 63u));
-    v269 = (u64)v256;
-    v270 = (u64)((u64)v242 + (u64)UINT64_C(18446744073709551612));
-    v271 = v240 + v270 * 1u;
-    v272 = load8(v271);
-    v273 = v271 + 1u * 1u;
-    v274 = load8(v273);
-    v275 = v271 + 2u * 1u;
-    v276 = load8(v275);
-    v277 = v271 + 3u * 1u;
-    v278 = load8(v277);
-    v279 = (u64)v278;
-    v280 = (u64)v276;
-    v281 = (u64)v274;
-    v282 = (u64)v272;
-    v283 = (u64)((u64)v279 << (56u & 63u));
-    v284 = (u64)((u64)v280 << (48u & 63u));
-    v285 = (u64)((u64)v281 << (40u & 63u));
-    v286 = (u64)((u64)v282 << (32u & 63u));
-    v287 = (u64)((u64)v268 | (u64)v269);
-    v288 = (u64)((u64)v287 | (u64)v266);
-    v289 = (u64)((u64)v288 | (u64)v264);
-    v290 = (u64)((u64)v289 | (u64)v286);
-    v291 = (u64)((u64)v290 | (u64)v285);
-    v292 = (u64)((u64)v291 | (u64)v284);
-    v293 = (u64)((u64)v292 | (u64)v283);
-    v294 = swap64(v293);
-    v295 = load8(v248);
-    v296 = v248 + 1u * 1u;
-    v297 = load8(v296);
-    v298 = v248 + 2u * 1u;
-    v299 = load8(v298);
-    v300 = v248 + 3u * 1u;
-    v301 = load8(v300);
-    v302 = (u64)v301;
-    v303 = (u64)((u64)v302 << (24u & 63u));
-    v304 = (u64)v299;
-    v305 = (u64)((u64)v304 << (16u & 63u));
-    v306 = (u64)v297;
-    v307 = (u64)((u64)v306 << (8u & 63u));
-    v308 = (u64)v295;
-    v309 = v248 + v270 * 1u;
-    v310 = load8(v309);
-    v311 = v309 + 1u * 1u;
-    v312 = load8(v311);
-    v313 = v309 + 2u * 1u;
-    v314 = load8(v313);
-    v315 = v309 + 3u * 1u;
-    v316 = load8(v315);
-    v317 = (u64)v316;
-    v318 = (u64)v314;
-    v319 = (u64)v312;
-    v320 = (u64)v310;
-    v321 = (u64)((u64)v317 << (56u & 63u));
-    v322 = (u64)((u64)v318 << (48u & 63u));
-    v323 = (u64)((u64)v319 << (40u & 63u));
-    v324 = (u64)((u64)v320 << (32u & 63u));
-    v325 = (u64)((u64)v307 | (u64)v308);
-    v326 = (u64)((u64)v325 | (u64)v305);
-    v327 = (u64)((u64)v326 | (u64)v303);
-    v328 = (u64)((u64)v327 | (u64)v324);
-    v329 = (u64)((u64)v328 | (u64)v323);
-    v330 = (u64)((u64)v329 | (u64)v322);
-    v331 = (u64)((u64)v330 | (u64)v321);
-    v332 = swap64(v331);
-    v14 = v332; v15 = v294; goto L36;
+    v261 = load8(v245);
+    v262 = v245 + 1u * 1u;
+    v263 = load8(v262);
+    v264 = v245 + 2u * 1u;
+    v265 = load8(v264);
+    v266 = v245 + 3u * 1u;
+    v267 = load8(v266);
+    v268 = (u64)v267;
+    v269 = (u64)((u64)v268 << (24u & 63u));
+    v270 = (u64)v265;
+    v271 = (u64)((u64)v270 << (16u & 63u));
+    v272 = (u64)v263;
+    v273 = (u64)((u64)v272 << (8u & 63u));
+    v274 = (u64)v261;
+    v275 = (u64)((u64)v247 + (u64)UINT64_C(18446744073709551612));
+    v276 = v245 + v275 * 1u;
+    v277 = load8(v276);
+    v278 = v276 + 1u * 1u;
+    v279 = load8(v278);
+    v280 = v276 + 2u * 1u;
+    v281 = load8(v280);
+    v282 = v276 + 3u * 1u;
+    v283 = load8(v282);
+    v284 = (u64)v283;
+    v285 = (u64)v281;
+    v286 = (u64)v279;
+    v287 = (u64)v277;
+    v288 = (u64)((u64)v284 << (56u & 63u));
+    v289 = (u64)((u64)v285 << (48u & 63u));
+    v290 = (u64)((u64)v286 << (40u & 63u));
+    v291 = (u64)((u64)v287 << (32u & 63u));
+    v292 = (u64)((u64)v273 | (u64)v274);
+    v293 = (u64)((u64)v292 | (u64)v271);
+    v294 = (u64)((u64)v293 | (u64)v269);
+    v295 = (u64)((u64)v294 | (u64)v291);
+    v296 = (u64)((u64)v295 | (u64)v290);
+    v297 = (u64)((u64)v296 | (u64)v289);
+    v298 = (u64)((u64)v297 | (u64)v288);
+    v299 = swap64(v298);
+    v300 = load8(v253);
+    v301 = v253 + 1u * 1u;
+    v302 = load8(v301);
+    v303 = v253 + 2u * 1u;
+    v304 = load8(v303);
+    v305 = v253 + 3u * 1u;
+    v306 = load8(v305);
+    v307 = (u64)v306;
+    v308 = (u64)((u64)v307 << (24u & 63u));
+    v309 = (u64)v304;
+    v310 = (u64)((u64)v309 << (16u & 63u));
+    v311 = (u64)v302;
+    v312 = (u64)((u64)v311 << (8u & 63u));
+    v313 = (u64)v300;
+    v314 = v253 + v275 * 1u;
+    v315 = load8(v314);
+    v316 = v314 + 1u * 1u;
+    v317 = load8(v316);
+    v318 = v314 + 2u * 1u;
+    v319 = load8(v318);
+    v320 = v314 + 3u * 1u;
+    v321 = load8(v320);
+    v322 = (u64)v321;
+    v323 = (u64)v319;
+    v324 = (u64)v317;
+    v325 = (u64)v315;
+    v326 = (u64)((u64)v322 << (56u & 63u));
+    v327 = (u64)((u64)v323 << (48u & 63u));
+    v328 = (u64)((u64)v324 << (40u & 63u));
+    v329 = (u64)((u64)v325 << (32u & 63u));
+    v330 = (u64)((u64)v312 | (u64)v313);
+    v331 = (u64)((u64)v330 | (u64)v310);
+    v332 = (u64)((u64)v331 | (u64)v308);
+    v333 = (u64)((u64)v332 | (u64)v329);
+    v334 = (u64)((u64)v333 | (u64)v328);
+    v335 = (u64)((u64)v334 | (u64)v327);
+    v336 = (u64)((u64)v335 | (u64)v326);
+    v337 = swap64(v336);
+    v14 = v337; v15 = v299; goto L36;
 L34:;
-    v333 = v242 == 0u;
-    if (v333) { v14 = 0u; v15 = 0u; goto L36; }
+    v338 = v247 == 0u;
+    if (v338) { v14 = 0u; v15 = 0u; goto L36; }
     else { goto L35; }
 L35:;
-    v334 = load8(v240);
-    v335 = (u64)v334;
-    v336 = (u64)((u64)v242 >> (1u & 63u));
-    v337 = v240 + v336 * 1u;
-    v338 = load8(v337);
-    v339 = (u64)v338;
-    v340 = (u64)((u64)v335 << (16u & 63u));
-    v341 = (u64)((u64)v339 << (8u & 63u));
-    v342 = (u64)((u64)v341 | (u64)v340);
-    v343 = (u64)((u64)v242 + (u64)UINT64_C(18446744073709551615));
-    v344 = v240 + v343 * 1u;
-    v345 = load8(v344);
-    v346 = (u64)v345;
-    v347 = (u64)((u64)v342 | (u64)v346);
-    v348 = load8(v248);
-    v349 = (u64)v348;
-    v350 = v248 + v336 * 1u;
-    v351 = load8(v350);
-    v352 = (u64)v351;
-    v353 = (u64)((u64)v349 << (16u & 63u));
-    v354 = (u64)((u64)v352 << (8u & 63u));
-    v355 = (u64)((u64)v354 | (u64)v353);
-    v356 = v248 + v343 * 1u;
-    v357 = load8(v356);
-    v358 = (u64)v357;
-    v359 = (u64)((u64)v355 | (u64)v358);
-    v14 = v359; v15 = v347; goto L36;
+    v339 = load8(v245);
+    v340 = (u64)v339;
+    v341 = (u64)((u64)v247 >> (1u & 63u));
+    v342 = v245 + v341 * 1u;
+    v343 = load8(v342);
+    v344 = (u64)v343;
+    v345 = (u64)((u64)v340 << (16u & 63u));
+    v346 = (u64)((u64)v344 << (8u & 63u));
+    v347 = (u64)((u64)v346 | (u64)v345);
+    v348 = (u64)((u64)v247 + (u64)UINT64_C(18446744073709551615));
+    v349 = v245 + v348 * 1u;
+    v350 = load8(v349);
+    v351 = (u64)v350;
+    v352 = (u64)((u64)v347 | (u64)v351);
+    v353 = load8(v253);
+    v354 = (u64)v353;
+    v355 = v253 + v341 * 1u;
+    v356 = load8(v355);
+    v357 = (u64)v356;
+    v358 = (u64)((u64)v354 << (16u & 63u));
+    v359 = (u64)((u64)v357 << (8u & 63u));
+    v360 = (u64)((u64)v359 | (u64)v358);
+    v361 = v253 + v348 * 1u;
+    v362 = load8(v361);
+    v363 = (u64)v362;
+    v364 = (u64)((u64)v360 | (u64)v363);
+    v14 = v364; v15 = v352; goto L36;
 L36:;
-    v360 = v15 == v14;
-    v18 = v360; goto L45;
+    v365 = v15 == v14;
+    v18 = v365; goto L45;
 L37:;
-    v361 = v242 < 33u;
-    if (v361) { goto L38; }
+    v366 = v247 < 33u;
+    if (v366) { goto L38; }
     else { goto L39; }
 L38:;
-    v362 = (u64)((u64)v242 + (u64)UINT64_C(18446744073709551608));
-    v363 = load8(v240);
-    v364 = v240 + 1u * 1u;
-    v365 = load8(v364);
-    v366 = v240 + 2u * 1u;
-    v367 = load8(v366);
-    v368 = v240 + 3u * 1u;
-    v369 = load8(v368);
-    v370 = v240 + 4u * 1u;
-    v371 = load8(v370);
-    v372 = v240 + 5u * 1u;
-    v373 = load8(v372);
-    v374 = v240 + 6u * 1u;
-    v375 = load8(v374);
-    v376 = v240 + 7u * 1u;
-    v377 = load8(v376);
-    v378 = (u64)v377;
-    v379 = (u64)((u64)v378 << (56u & 63u));
-    v380 = (u64)v375;
-    v381 = (u64)((u64)v380 << (48u & 63u));
-    v382 = (u64)v373;
-    v383 = (u64)((u64)v382 << (40u & 63u));
-    v384 = (u64)v371;
-    v385 = (u64)((u64)v384 << (32u & 63u));
-    v386 = (u64)v369;
-    v387 = (u64)((u64)v386 << (24u & 63u));
-    v388 = (u64)v367;
-    v389 = (u64)((u64)v388 << (16u & 63u));
-    v390 = (u64)v365;
-    v391 = (u64)((u64)v390 << (8u & 63u));
-    v392 = (u64)v363;
-    v393 = (u64)((u64)v391 | (u64)v392);
-    v394 = (u64)((u64)v393 | (u64)v389);
-    v395 = (u64)((u64)v394 | (u64)v387);
-    v396 = (u64)((u64)v395 | (u64)v385);
-    v397 = (u64)((u64)v396 | (u64)v383);
-    v398 = (u64)((u64)v397 | (u64)v381);
-    v399 = (u64)((u64)v398 | (u64)v379);
-    v400 = load8(v248);
-    v401 = v248 + 1u * 1u;
-    v402 = load8(v401);
-    v403 = v248 + 2u * 1u;
-    v404 = load8(v403);
-    v405 = v248 + 3u * 1u;
-    v406 = load8(v405);
-    v407 = v248 + 4u * 1u;
-    v408 = load8(v407);
-    v409 = v248 + 5u * 1u;
-    v410 = load8(v409);
-    v411 = v248 + 6u * 1u;
-    v412 = load8(v411);
-    v413 = v248 + 7u * 1u;
-    v414 = load8(v413);
-    v415 = (u64)v414;
-    v416 = (u64)((u64)v415 << (56u & 63u));
-    v417 = (u64)v412;
-    v418 = (u64)((u64)v417 << (48u & 63u));
-    v419 = (u64)v410;
-    v420 = (u64)((u64)v419 << (40u & 63u));
-    v421 = (u64)v408;
-    v422 = (u64)((u64)v421 << (32u & 63u));
-    v423 = (u64)v406;
-    v424 = (u64)((u64)v423 << (24u & 63u));
-    v425 = (u64)v404;
-    v426 = (u64)((u64)v425 << (16u & 63u));
-    v427 = (u64)v402;
-    v428 = (u64)((u64)v427 << (8u & 63u));
-    v429 = (u64)v400;
-    v430 = (u64)((u64)v428 | (u64)v429);
-    v431 = (u64)((u64)v430 | (u64)v426);
-    v432 = (u64)((u64)v431 | (u64)v424);
-    v433 = (u64)((u64)v432 | (u64)v422);
-    v434 = (u64)((u64)v433 | (u64)v420);
-    v435 = (u64)((u64)v434 | (u64)v418);
-    v436 = (u64)((u64)v435 | (u64)v416);
-    v437 = v399 == v436;
-    v438 = v362 < 8u ? v362 : 8u;
-    v439 = v240 + v438 * 1u;
-    v440 = load8(v439);
-    v441 = v439 + 1u * 1u;
-    v442 = load8(v441);
-    v443 = v439 + 2u * 1u;
-    v444 = load8(v443);
-    v445 = v439 + 3u * 1u;
-    v446 = load8(v445);
-    v447 = v439 + 4u * 1u;
-    v448 = load8(v447);
-    v449 = v439 + 5u * 1u;
-    v450 = load8(v449);
-    v451 = v439 + 6u * 1u;
-    v452 = load8(v451);
-    v453 = v439 + 7u * 1u;
-    v454 = load8(v453);
-    v455 = (u64)v454;
-    v456 = (u64)((u64)v455 << (56u & 63u));
-    v457 = (u64)v452;
-    v458 = (u64)((u64)v457 << (48u & 63u));
-    v459 = (u64)v450;
-    v460 = (u64)((u64)v459 << (40u & 63u));
-    v461 = (u64)v448;
-    v462 = (u64)((u64)v461 << (32u & 63u));
-    v463 = (u64)v446;
-    v464 = (u64)((u64)v463 << (24u & 63u));
-    v465 = (u64)v444;
-    v466 = (u64)((u64)v465 << (16u & 63u));
-    v467 = (u64)v442;
-    v468 = (u64)((u64)v467 << (8u & 63u));
-    v469 = (u64)v440;
-    v470 = (u64)((u64)v468 | (u64)v469);
-    v471 = (u64)((u64)v470 | (u64)v466);
-    v472 = (u64)((u64)v471 | (u64)v464);
-    v473 = (u64)((u64)v472 | (u64)v462);
-    v474 = (u64)((u64)v473 | (u64)v460);
-    v475 = (u64)((u64)v474 | (u64)v458);
-    v476 = (u64)((u64)v475 | (u64)v456);
-    v477 = v248 + v438 * 1u;
-    v478 = load8(v477);
-    v479 = v477 + 1u * 1u;
-    v480 = load8(v479);
-    v481 = v477 + 2u * 1u;
-    v482 = load8(v481);
-    v483 = v477 + 3u * 1u;
-    v484 = load8(v483);
-    v485 = v477 + 4u * 1u;
-    v486 = load8(v485);
-    v487 = v477 + 5u * 1u;
-    v488 = load8(v487);
-    v489 = v477 + 6u * 1u;
-    v490 = load8(v489);
-    v491 = v477 + 7u * 1u;
-    v492 = load8(v491);
-    v493 = (u64)v492;
-    v494 = (u64)((u64)v493 << (56u & 63u));
-    v495 = (u64)v490;
-    v496 = (u64)((u64)v495 << (48u & 63u));
-    v497 = (u64)v488;
-    v498 = (u64)((u64)v497 << (40u & 63u));
-    v499 = (u64)v486;
-    v500 = (u64)((u64)v499 << (32u & 63u));
-    v501 = (u64)v484;
-    v502 = (u64)((u64)v501 << (24u & 63u));
-    v503 = (u64)v482;
-    v504 = (u64)((u64)v503 << (16u & 63u));
-    v505 = (u64)v480;
-    v506 = (u64)((u64)v505 << (8u & 63u));
-    v507 = (u64)v478;
-    v508 = (u64)((u64)v506 | (u64)v507);
-    v509 = (u64)((u64)v508 | (u64)v504);
-    v510 = (u64)((u64)v509 | (u64)v502);
-    v511 = (u64)((u64)v510 | (u64)v500);
-    v512 = (u64)((u64)v511 | (u64)v498);
-    v513 = (u64)((u64)v512 | (u64)v496);
-    v514 = (u64)((u64)v513 | (u64)v494);
-    v515 = v476 == v514;
-    v516 = (u8)(((u32)v437 & (u32)v515) & UINT64_C(1));
-    v517 = v362 < 16u ? v362 : 16u;
-    v518 = v240 + v517 * 1u;
-    v519 = load8(v518);
-    v520 = v518 + 1u * 1u;
-    v521 = load8(v520);
-    v522 = v518 + 2u * 1u;
-    v523 = load8(v522);
-    v524 = v518 + 3u * 1u;
-    v525 = load8(v524);
-    v526 = v518 + 4u * 1u;
-    v527 = load8(v526);
-    v528 = v518 + 5u * 1u;
-    v529 = load8(v528);
-    v530 = v518 + 6u * 1u;
-    v531 = load8(v530);
-    v532 = v518 + 7u * 1u;
-    v533 = load8(v532);
-    v534 = (u64)v533;
-    v535 = (u64)((u64)v534 << (56u & 63u));
-    v536 = (u64)v531;
-    v537 = (u64)((u64)v536 << (48u & 63u));
-    v538 = (u64)v529;
-    v539 = (u64)((u64)v538 << (40u & 63u));
-    v540 = (u64)v527;
-    v541 = (u64)((u64)v540 << (32u & 63u));
-    v542 = (u64)v525;
-    v543 = (u64)((u64)v542 << (24u & 63u));
-    v544 = (u64)v523;
-    v545 = (u64)((u64)v544 << (16u & 63u));
-    v546 = (u64)v521;
-    v547 = (u64)((u64)v546 << (8u & 63u));
-    v548 = (u64)v519;
-    v549 = (u64)((u64)v547 | (u64)v548);
-    v550 = (u64)((u64)v549 | (u64)v545);
-    v551 = (u64)((u64)v550 | (u64)v543);
-    v552 = (u64)((u64)v551 | (u64)v541);
-    v553 = (u64)((u64)v552 | (u64)v539);
-    v554 = (u64)((u64)v553 | (u64)v537);
-    v555 = (u64)((u64)v554 | (u64)v535);
-    v556 = v248 + v517 * 1u;
-    v557 = load8(v556);
-    v558 = v556 + 1u * 1u;
-    v559 = load8(v558);
-    v560 = v556 + 2u * 1u;
-    v561 = load8(v560);
-    v562 = v556 + 3u * 1u;
-    v563 = load8(v562);
-    v564 = v556 + 4u * 1u;
-    v565 = load8(v564);
-    v566 = v556 + 5u * 1u;
-    v567 = load8(v566);
-    v568 = v556 + 6u * 1u;
-    v569 = load8(v568);
-    v570 = v556 + 7u * 1u;
-    v571 = load8(v570);
-    v572 = (u64)v571;
-    v573 = (u64)((u64)v572 << (56u & 63u));
-    v574 = (u64)v569;
-    v575 = (u64)((u64)v574 << (48u & 63u));
-    v576 = (u64)v567;
-    v577 = (u64)((u64)v576 << (40u & 63u));
-    v578 = (u64)v565;
-    v579 = (u64)((u64)v578 << (32u & 63u));
-    v580 = (u64)v563;
-    v581 = (u64)((u64)v580 << (24u & 63u));
-    v582 = (u64)v561;
-    v583 = (u64)((u64)v582 << (16u & 63u));
-    v584 = (u64)v559;
-    v585 = (u64)((u64)v584 << (8u & 63u));
-    v586 = (u64)v557;
-    v587 = (u64)((u64)v585 | (u64)v586);
-    v588 = (u64)((u64)v587 | (u64)v583);
-    v589 = (u64)((u64)v588 | (u64)v581);
-    v590 = (u64)((u64)v589 | (u64)v579);
-    v591 = (u64)((u64)v590 | (u64)v577);
-    v592 = (u64)((u64)v591 | (u64)v575);
-    v593 = (u64)((u64)v592 | (u64)v573);
-    v594 = v555 == v593;
-    v595 = (u8)(((u32)v516 & (u32)v594) & UINT64_C(1));
-    v596 = v240 + v362 * 1u;
-    v597 = load8(v596);
-    v598 = v596 + 1u * 1u;
-    v599 = load8(v598);
-    v600 = v596 + 2u * 1u;
-    v601 = load8(v600);
-    v602 = v596 + 3u * 1u;
-    v603 = load8(v602);
-    v604 = v596 + 4u * 1u;
-    v605 = load8(v604);
-    v606 = v596 + 5u * 1u;
-    v607 = load8(v606);
-    v608 = v596 + 6u * 1u;
-    v609 = load8(v608);
-    v610 = v596 + 7u * 1u;
-    v611 = load8(v610);
-    v612 = (u64)v611;
-    v613 = (u64)((u64)v612 << (56u & 63u));
-    v614 = (u64)v609;
-    v615 = (u64)((u64)v614 << (48u & 63u));
-    v616 = (u64)v607;
-    v617 = (u64)((u64)v616 << (40u & 63u));
-    v618 = (u64)v605;
-    v619 = (u64)((u64)v618 << (32u & 63u));
-    v620 = (u64)v603;
-    v621 = (u64)((u64)v620 << (24u & 63u));
-    v622 = (u64)v601;
-    v623 = (u64)((u64)v622 << (16u & 63u));
-    v624 = (u64)v599;
-    v625 = (u64)((u64)v624 << (8u & 63u));
-    v626 = (u64)v597;
-    v627 = (u64)((u64)v625 | (u64)v626);
-    v628 = (u64)((u64)v627 | (u64)v623);
-    v629 = (u64)((u64)v628 | (u64)v621);
-    v630 = (u64)((u64)v629 | (u64)v619);
-    v631 = (u64)((u64)v630 | (u64)v617);
-    v632 = (u64)((u64)v631 | (u64)v615);
-    v633 = (u64)((u64)v632 | (u64)v613);
-    v634 = v248 + v362 * 1u;
-    v635 = load8(v634);
-    v636 = v634 + 1u * 1u;
-    v637 = load8(v636);
-    v638 = v634 + 2u * 1u;
-    v639 = load8(v638);
-    v640 = v634 + 3u * 1u;
-    v641 = load8(v640);
-    v642 = v634 + 4u * 1u;
-    v643 = load8(v642);
-    v644 = v634 + 5u * 1u;
-    v645 = load8(v644);
-    v646 = v634 + 6u * 1u;
-    v647 = load8(v646);
-    v648 = v634 + 7u * 1u;
-    v649 = load8(v648);
-    v650 = (u64)v649;
-    v651 = (u64)((u64)v650 << (56u & 63u));
-    v652 = (u64)v647;
-    v653 = (u64)((u64)v652 << (48u & 63u));
-    v654 = (u64)v645;
-    v655 = (u64)((u64)v654 << (40u & 63u));
-    v656 = (u64)v643;
-    v657 = (u64)((u64)v656 << (32u & 63u));
-    v658 = (u64)v641;
-    v659 = (u64)((u64)v658 << (24u & 63u));
-    v660 = (u64)v639;
-    v661 = (u64)((u64)v660 << (16u & 63u));
-    v662 = (u64)v637;
-    v663 = (u64)((u64)v662 << (8u & 63u));
-    v664 = (u64)v635;
-    v665 = (u64)((u64)v663 | (u64)v664);
-    v666 = (u64)((u64)v665 | (u64)v661);
-    v667 = (u64)((u64)v666 | (u64)v659);
-    v668 = (u64)((u64)v667 | (u64)v657);
-    v669 = (u64)((u64)v668 | (u64)v655);
-    v670 = (u64)((u64)v669 | (u64)v653);
-    v671 = (u64)((u64)v670 | (u64)v651);
-    v672 = v633 == v671;
-    v673 = (u8)(((u32)v595 & (u32)v672) & UINT64_C(1));
-    v18 = v673; goto L45;
+    v367 = (u64)((u64)v247 + (u64)UINT64_C(18446744073709551608));
+    v368 = load8(v245);
+    v369 = v245 + 1u * 1u;
+    v370 = load8(v369);
+    v371 = v245 + 2u * 1u;
+    v372 = load8(v371);
+    v373 = v245 + 3u * 1u;
+    v374 = load8(v373);
+    v375 = v245 + 4u * 1u;
+    v376 = load8(v375);
+    v377 = v245 + 5u * 1u;
+    v378 = load8(v377);
+    v379 = v245 + 6u * 1u;
+    v380 = load8(v379);
+    v381 = v245 + 7u * 1u;
+    v382 = load8(v381);
+    v383 = (u64)v382;
+    v384 = (u64)((u64)v383 << (56u & 63u));
+    v385 = (u64)v380;
+    v386 = (u64)((u64)v385 << (48u & 63u));
+    v387 = (u64)v378;
+    v388 = (u64)((u64)v387 << (40u & 63u));
+    v389 = (u64)v376;
+    v390 = (u64)((u64)v389 << (32u & 63u));
+    v391 = (u64)v374;
+    v392 = (u64)((u64)v391 << (24u & 63u));
+    v393 = (u64)v372;
+    v394 = (u64)((u64)v393 << (16u & 63u));
+    v395 = (u64)v370;
+    v396 = (u64)((u64)v395 << (8u & 63u));
+    v397 = (u64)v368;
+    v398 = (u64)((u64)v396 | (u64)v397);
+    v399 = (u64)((u64)v398 | (u64)v394);
+    v400 = (u64)((u64)v399 | (u64)v392);
+    v401 = (u64)((u64)v400 | (u64)v390);
+    v402 = (u64)((u64)v401 | (u64)v388);
+    v403 = (u64)((u64)v402 | (u64)v386);
+    v404 = (u64)((u64)v403 | (u64)v384);
+    v405 = load8(v253);
+    v406 = v253 + 1u * 1u;
+    v407 = load8(v406);
+    v408 = v253 + 2u * 1u;
+    v409 = load8(v408);
+    v410 = v253 + 3u * 1u;
+    v411 = load8(v410);
+    v412 = v253 + 4u * 1u;
+    v413 = load8(v412);
+    v414 = v253 + 5u * 1u;
+    v415 = load8(v414);
+    v416 = v253 + 6u * 1u;
+    v417 = load8(v416);
+    v418 = v253 + 7u * 1u;
+    v419 = load8(v418);
+    v420 = (u64)v419;
+    v421 = (u64)((u64)v420 << (56u & 63u));
+    v422 = (u64)v417;
+    v423 = (u64)((u64)v422 << (48u & 63u));
+    v424 = (u64)v415;
+    v425 = (u64)((u64)v424 << (40u & 63u));
+    v426 = (u64)v413;
+    v427 = (u64)((u64)v426 << (32u & 63u));
+    v428 = (u64)v411;
+    v429 = (u64)((u64)v428 << (24u & 63u));
+    v430 = (u64)v409;
+    v431 = (u64)((u64)v430 << (16u & 63u));
+    v432 = (u64)v407;
+    v433 = (u64)((u64)v432 << (8u & 63u));
+    v434 = (u64)v405;
+    v435 = (u64)((u64)v433 | (u64)v434);
+    v436 = (u64)((u64)v435 | (u64)v431);
+    v437 = (u64)((u64)v436 | (u64)v429);
+    v438 = (u64)((u64)v437 | (u64)v427);
+    v439 = (u64)((u64)v438 | (u64)v425);
+    v440 = (u64)((u64)v439 | (u64)v423);
+    v441 = (u64)((u64)v440 | (u64)v421);
+    v442 = v404 == v441;
+    v443 = v367 < 8u ? v367 : 8u;
+    v444 = v245 + v443 * 1u;
+    v445 = load8(v444);
+    v446 = v444 + 1u * 1u;
+    v447 = load8(v446);
+    v448 = v444 + 2u * 1u;
+    v449 = load8(v448);
+    v450 = v444 + 3u * 1u;
+    v451 = load8(v450);
+    v452 = v444 + 4u * 1u;
+    v453 = load8(v452);
+    v454 = v444 + 5u * 1u;
+    v455 = load8(v454);
+    v456 = v444 + 6u * 1u;
+    v457 = load8(v456);
+    v458 = v444 + 7u * 1u;
+    v459 = load8(v458);
+    v460 = (u64)v459;
+    v461 = (u64)((u64)v460 << (56u & 63u));
+    v462 = (u64)v457;
+    v463 = (u64)((u64)v462 << (48u & 63u));
+    v464 = (u64)v455;
+    v465 = (u64)((u64)v464 << (40u & 63u));
+    v466 = (u64)v453;
+    v467 = (u64)((u64)v466 << (32u & 63u));
+    v468 = (u64)v451;
+    v469 = (u64)((u64)v468 << (24u & 63u));
+    v470 = (u64)v449;
+    v471 = (u64)((u64)v470 << (16u & 63u));
+    v472 = (u64)v447;
+    v473 = (u64)((u64)v472 << (8u & 63u));
+    v474 = (u64)v445;
+    v475 = (u64)((u64)v473 | (u64)v474);
+    v476 = (u64)((u64)v475 | (u64)v471);
+    v477 = (u64)((u64)v476 | (u64)v469);
+    v478 = (u64)((u64)v477 | (u64)v467);
+    v479 = (u64)((u64)v478 | (u64)v465);
+    v480 = (u64)((u64)v479 | (u64)v463);
+    v481 = (u64)((u64)v480 | (u64)v461);
+    v482 = v253 + v443 * 1u;
+    v483 = load8(v482);
+    v484 = v482 + 1u * 1u;
+    v485 = load8(v484);
+    v486 = v482 + 2u * 1u;
+    v487 = load8(v486);
+    v488 = v482 + 3u * 1u;
+    v489 = load8(v488);
+    v490 = v482 + 4u * 1u;
+    v491 = load8(v490);
+    v492 = v482 + 5u * 1u;
+    v493 = load8(v492);
+    v494 = v482 + 6u * 1u;
+    v495 = load8(v494);
+    v496 = v482 + 7u * 1u;
+    v497 = load8(v496);
+    v498 = (u64)v497;
+    v499 = (u64)((u64)v498 << (56u & 63u));
+    v500 = (u64)v495;
+    v501 = (u64)((u64)v500 << (48u & 63u));
+    v502 = (u64)v493;
+    v503 = (u64)((u64)v502 << (40u & 63u));
+    v504 = (u64)v491;
+    v505 = (u64)((u64)v504 << (32u & 63u));
+    v506 = (u64)v489;
+    v507 = (u64)((u64)v506 << (24u & 63u));
+    v508 = (u64)v487;
+    v509 = (u64)((u64)v508 << (16u & 63u));
+    v510 = (u64)v485;
+    v511 = (u64)((u64)v510 << (8u & 63u));
+    v512 = (u64)v483;
+    v513 = (u64)((u64)v511 | (u64)v512);
+    v514 = (u64)((u64)v513 | (u64)v509);
+    v515 = (u64)((u64)v514 | (u64)v507);
+    v516 = (u64)((u64)v515 | (u64)v505);
+    v517 = (u64)((u64)v516 | (u64)v503);
+    v518 = (u64)((u64)v517 | (u64)v501);
+    v519 = (u64)((u64)v518 | (u64)v499);
+    v520 = v481 == v519;
+    v521 = (u8)(((u32)v442 & (u32)v520) & UINT64_C(1));
+    v522 = v367 < 16u ? v367 : 16u;
+    v523 = v245 + v522 * 1u;
+    v524 = load8(v523);
+    v525 = v523 + 1u * 1u;
+    v526 = load8(v525);
+    v527 = v523 + 2u * 1u;
+    v528 = load8(v527);
+    v529 = v523 + 3u * 1u;
+    v530 = load8(v529);
+    v531 = v523 + 4u * 1u;
+    v532 = load8(v531);
+    v533 = v523 + 5u * 1u;
+    v534 = load8(v533);
+    v535 = v523 + 6u * 1u;
+    v536 = load8(v535);
+    v537 = v523 + 7u * 1u;
+    v538 = load8(v537);
+    v539 = (u64)v538;
+    v540 = (u64)((u64)v539 << (56u & 63u));
+    v541 = (u64)v536;
+    v542 = (u64)((u64)v541 << (48u & 63u));
+    v543 = (u64)v534;
+    v544 = (u64)((u64)v543 << (40u & 63u));
+    v545 = (u64)v532;
+    v546 = (u64)((u64)v545 << (32u & 63u));
+    v547 = (u64)v530;
+    v548 = (u64)((u64)v547 << (24u & 63u));
+    v549 = (u64)v528;
+    v550 = (u64)((u64)v549 << (16u & 63u));
+    v551 = (u64)v526;
+    v552 = (u64)((u64)v551 << (8u & 63u));
+    v553 = (u64)v524;
+    v554 = (u64)((u64)v552 | (u64)v553);
+    v555 = (u64)((u64)v554 | (u64)v550);
+    v556 = (u64)((u64)v555 | (u64)v548);
+    v557 = (u64)((u64)v556 | (u64)v546);
+    v558 = (u64)((u64)v557 | (u64)v544);
+    v559 = (u64)((u64)v558 | (u64)v542);
+    v560 = (u64)((u64)v559 | (u64)v540);
+    v561 = v253 + v522 * 1u;
+    v562 = load8(v561);
+    v563 = v561 + 1u * 1u;
+    v564 = load8(v563);
+    v565 = v561 + 2u * 1u;
+    v566 = load8(v565);
+    v567 = v561 + 3u * 1u;
+    v568 = load8(v567);
+    v569 = v561 + 4u * 1u;
+    v570 = load8(v569);
+    v571 = v561 + 5u * 1u;
+    v572 = load8(v571);
+    v573 = v561 + 6u * 1u;
+    v574 = load8(v573);
+    v575 = v561 + 7u * 1u;
+    v576 = load8(v575);
+    v577 = (u64)v576;
+    v578 = (u64)((u64)v577 << (56u & 63u));
+    v579 = (u64)v574;
+    v580 = (u64)((u64)v579 << (48u & 63u));
+    v581 = (u64)v572;
+    v582 = (u64)((u64)v581 << (40u & 63u));
+    v583 = (u64)v570;
+    v584 = (u64)((u64)v583 << (32u & 63u));
+    v585 = (u64)v568;
+    v586 = (u64)((u64)v585 << (24u & 63u));
+    v587 = (u64)v566;
+    v588 = (u64)((u64)v587 << (16u & 63u));
+    v589 = (u64)v564;
+    v590 = (u64)((u64)v589 << (8u & 63u));
+    v591 = (u64)v562;
+    v592 = (u64)((u64)v590 | (u64)v591);
+    v593 = (u64)((u64)v592 | (u64)v588);
+    v594 = (u64)((u64)v593 | (u64)v586);
+    v595 = (u64)((u64)v594 | (u64)v584);
+    v596 = (u64)((u64)v595 | (u64)v582);
+    v597 = (u64)((u64)v596 | (u64)v580);
+    v598 = (u64)((u64)v597 | (u64)v578);
+    v599 = v560 == v598;
+    v600 = (u8)(((u32)v521 & (u32)v599) & UINT64_C(1));
+    v601 = v245 + v367 * 1u;
+    v602 = load8(v601);
+    v603 = v601 + 1u * 1u;
+    v604 = load8(v603);
+    v605 = v601 + 2u * 1u;
+    v606 = load8(v605);
+    v607 = v601 + 3u * 1u;
+    v608 = load8(v607);
+    v609 = v601 + 4u * 1u;
+    v610 = load8(v609);
+    v611 = v601 + 5u * 1u;
+    v612 = load8(v611);
+    v613 = v601 + 6u * 1u;
+    v614 = load8(v613);
+    v615 = v601 + 7u * 1u;
+    v616 = load8(v615);
+    v617 = (u64)v616;
+    v618 = (u64)((u64)v617 << (56u & 63u));
+    v619 = (u64)v614;
+    v620 = (u64)((u64)v619 << (48u & 63u));
+    v621 = (u64)v612;
+    v622 = (u64)((u64)v621 << (40u & 63u));
+    v623 = (u64)v610;
+    v624 = (u64)((u64)v623 << (32u & 63u));
+    v625 = (u64)v608;
+    v626 = (u64)((u64)v625 << (24u & 63u));
+    v627 = (u64)v606;
+    v628 = (u64)((u64)v627 << (16u & 63u));
+    v629 = (u64)v604;
+    v630 = (u64)((u64)v629 << (8u & 63u));
+    v631 = (u64)v602;
+    v632 = (u64)((u64)v630 | (u64)v631);
+    v633 = (u64)((u64)v632 | (u64)v628);
+    v634 = (u64)((u64)v633 | (u64)v626);
+    v635 = (u64)((u64)v634 | (u64)v624);
+    v636 = (u64)((u64)v635 | (u64)v622);
+    v637 = (u64)((u64)v636 | (u64)v620);
+    v638 = (u64)((u64)v637 | (u64)v618);
+    v639 = v253 + v367 * 1u;
+    v640 = load8(v639);
+    v641 = v639 + 1u * 1u;
+    v642 = load8(v641);
+    v643 = v639 + 2u * 1u;
+    v644 = load8(v643);
+    v645 = v639 + 3u * 1u;
+    v646 = load8(v645);
+    v647 = v639 + 4u * 1u;
+    v648 = load8(v647);
+    v649 = v639 + 5u * 1u;
+    v650 = load8(v649);
+    v651 = v639 + 6u * 1u;
+    v652 = load8(v651);
+    v653 = v639 + 7u * 1u;
+    v654 = load8(v653);
+    v655 = (u64)v654;
+    v656 = (u64)((u64)v655 << (56u & 63u));
+    v657 = (u64)v652;
+    v658 = (u64)((u64)v657 << (48u & 63u));
+    v659 = (u64)v650;
+    v660 = (u64)((u64)v659 << (40u & 63u));
+    v661 = (u64)v648;
+    v662 = (u64)((u64)v661 << (32u & 63u));
+    v663 = (u64)v646;
+    v664 = (u64)((u64)v663 << (24u & 63u));
+    v665 = (u64)v644;
+    v666 = (u64)((u64)v665 << (16u & 63u));
+    v667 = (u64)v642;
+    v668 = (u64)((u64)v667 << (8u & 63u));
+    v669 = (u64)v640;
+    v670 = (u64)((u64)v668 | (u64)v669);
+    v671 = (u64)((u64)v670 | (u64)v666);
+    v672 = (u64)((u64)v671 | (u64)v664);
+    v673 = (u64)((u64)v672 | (u64)v662);
+    v674 = (u64)((u64)v673 | (u64)v660);
+    v675 = (u64)((u64)v674 | (u64)v658);
+    v676 = (u64)((u64)v675 | (u64)v656);
+    v677 = v638 == v676;
+    v678 = (u8)(((u32)v600 & (u32)v677) & UINT64_C(1));
+    v18 = v678; goto L45;
 L39:;
-    v674 = v242 < 65u;
-    if (v674) { goto L40; }
+    v679 = v247 < 65u;
+    if (v679) { goto L40; }
     else { v16 = 0u; goto L42; }
 L40:;
-    v675 = (u64)((u64)v242 + (u64)UINT64_C(18446744073709551600));
-    v676.e[0] = load8(v240 + 0u);
-    v676.e[1] = load8(v240 + 1u);
-    v676.e[2] = load8(v240 + 2u);
-    v676.e[3] = load8(v240 + 3u);
-    v676.e[4] = load8(v240 + 4u);
-    v676.e[5] = load8(v240 + 5u);
-    v676.e[6] = load8(v240 + 6u);
-    v676.e[7] = load8(v240 + 7u);
-    v676.e[8] = load8(v240 + 8u);
-    v676.e[9] = load8(v240 + 9u);
-    v676.e[10] = load8(v240 + 10u);
-    v676.e[11] = load8(v240 + 11u);
-    v676.e[12] = load8(v240 + 12u);
-    v676.e[13] = load8(v240 + 13u);
-    v676.e[14] = load8(v240 + 14u);
-    v676.e[15] = load8(v240 + 15u);
-    v677.e[0] = load8(v248 + 0u);
-    v677.e[1] = load8(v248 + 1u);
-    v677.e[2] = load8(v248 + 2u);
-    v677.e[3] = load8(v248 + 3u);
-    v677.e[4] = load8(v248 + 4u);
-    v677.e[5] = load8(v248 + 5u);
-    v677.e[6] = load8(v248 + 6u);
-    v677.e[7] = load8(v248 + 7u);
-    v677.e[8] = load8(v248 + 8u);
-    v677.e[9] = load8(v248 + 9u);
-    v677.e[10] = load8(v248 + 10u);
-    v677.e[11] = load8(v248 + 11u);
-    v677.e[12] = load8(v248 + 12u);
-    v677.e[13] = load8(v248 + 13u);
-    v677.e[14] = load8(v248 + 14u);
-    v677.e[15] = load8(v248 + 15u);
-    v678.e[0] = v676.e[0] != v677.e[0];
-    v678.e[1] = v676.e[1] != v677.e[1];
-    v678.e[2] = v676.e[2] != v677.e[2];
-    v678.e[3] = v676.e[3] != v677.e[3];
-    v678.e[4] = v676.e[4] != v677.e[4];
-    v678.e[5] = v676.e[5] != v677.e[5];
-    v678.e[6] = v676.e[6] != v677.e[6];
-    v678.e[7] = v676.e[7] != v677.e[7];
-    v678.e[8] = v676.e[8] != v677.e[8];
-    v678.e[9] = v676.e[9] != v677.e[9];
-    v678.e[10] = v676.e[10] != v677.e[10];
-    v678.e[11] = v676.e[11] != v677.e[11];
-    v678.e[12] = v676.e[12] != v677.e[12];
-    v678.e[13] = v676.e[13] != v677.e[13];
-    v678.e[14] = v676.e[14] != v677.e[14];
-    v678.e[15] = v676.e[15] != v677.e[15];
-    v679 = v240 + 16u * 1u;
-    v680.e[0] = load8(v679 + 0u);
-    v680.e[1] = load8(v679 + 1u);
-    v680.e[2] = load8(v679 + 2u);
-    v680.e[3] = load8(v679 + 3u);
-    v680.e[4] = load8(v679 + 4u);
-    v680.e[5] = load8(v679 + 5u);
-    v680.e[6] = load8(v679 + 6u);
-    v680.e[7] = load8(v679 + 7u);
-    v680.e[8] = load8(v679 + 8u);
-    v680.e[9] = load8(v679 + 9u);
-    v680.e[10] = load8(v679 + 10u);
-    v680.e[11] = load8(v679 + 11u);
-    v680.e[12] = load8(v679 + 12u);
-    v680.e[13] = load8(v679 + 13u);
-    v680.e[14] = load8(v679 + 14u);
-    v680.e[15] = load8(v679 + 15u);
-    v681 = v248 + 16u * 1u;
-    v682.e[0] = load8(v681 + 0u);
-    v682.e[1] = load8(v681 + 1u);
-    v682.e[2] = load8(v681 + 2u);
-    v682.e[3] = load8(v681 + 3u);
-    v682.e[4] = load8(v681 + 4u);
-    v682.e[5] = load8(v681 + 5u);
-    v682.e[6] = load8(v681 + 6u);
-    v682.e[7] = load8(v681 + 7u);
-    v682.e[8] = load8(v681 + 8u);
-    v682.e[9] = load8(v681 + 9u);
-    v682.e[10] = load8(v681 + 10u);
-    v682.e[11] = load8(v681 + 11u);
-    v682.e[12] = load8(v681 + 12u);
-    v682.e[13] = load8(v681 + 13u);
-    v682.e[14] = load8(v681 + 14u);
-    v682.e[15] = load8(v681 + 15u);
-    v683.e[0] = v680.e[0] != v682.e[0];
-    v683.e[1] = v680.e[1] != v682.e[1];
-    v683.e[2] = v680.e[2] != v682.e[2];
-    v683.e[3] = v680.e[3] != v682.e[3];
-    v683.e[4] = v680.e[4] != v682.e[4];
-    v683.e[5] = v680.e[5] != v682.e[5];
-    v683.e[6] = v680.e[6] != v682.e[6];
-    v683.e[7] = v680.e[7] != v682.e[7];
-    v683.e[8] = v680.e[8] != v682.e[8];
-    v683.e[9] = v680.e[9] != v682.e[9];
-    v683.e[10] = v680.e[10] != v682.e[10];
-    v683.e[11] = v680.e[11] != v682.e[11];
-    v683.e[12] = v680.e[12] != v682.e[12];
-    v683.e[13] = v680.e[13] != v682.e[13];
-    v683.e[14] = v680.e[14] != v682.e[14];
-    v683.e[15] = v680.e[15] != v682.e[15];
-    v684.e[0] = (u8)(((u32)v678.e[0] | (u32)v683.e[0]) & UINT64_C(1));
-    v684.e[1] = (u8)(((u32)v678.e[1] | (u32)v683.e[1]) & UINT64_C(1));
-    v684.e[2] = (u8)(((u32)v678.e[2] | (u32)v683.e[2]) & UINT64_C(1));
-    v684.e[3] = (u8)(((u32)v678.e[3] | (u32)v683.e[3]) & UINT64_C(1));
-    v684.e[4] = (u8)(((u32)v678.e[4] | (u32)v683.e[4]) & UINT64_C(1));
-    v684.e[5] = (u8)(((u32)v678.e[5] | (u32)v683.e[5]) & UINT64_C(1));
-    v684.e[6] = (u8)(((u32)v678.e[6] | (u32)v683.e[6]) & UINT64_C(1));
-    v684.e[7] = (u8)(((u32)v678.e[7] | (u32)v683.e[7]) & UINT64_C(1));
-    v684.e[8] = (u8)(((u32)v678.e[8] | (u32)v683.e[8]) & UINT64_C(1));
-    v684.e[9] = (u8)(((u32)v678.e[9] | (u32)v683.e[9]) & UINT64_C(1));
-    v684.e[10] = (u8)(((u32)v678.e[10] | (u32)v683.e[10]) & UINT64_C(1));
-    v684.e[11] = (u8)(((u32)v678.e[11] | (u32)v683.e[11]) & UINT64_C(1));
-    v684.e[12] = (u8)(((u32)v678.e[12] | (u32)v683.e[12]) & UINT64_C(1));
-    v684.e[13] = (u8)(((u32)v678.e[13] | (u32)v683.e[13]) & UINT64_C(1));
-    v684.e[14] = (u8)(((u32)v678.e[14] | (u32)v683.e[14]) & UINT64_C(1));
-    v684.e[15] = (u8)(((u32)v678.e[15] | (u32)v683.e[15]) & UINT64_C(1));
-    v685 = v675 < 32u ? v675 : 32u;
-    v686 = v240 + v685 * 1u;
+    v680 = (u64)((u64)v247 + (u64)UINT64_C(18446744073709551600));
+    v681.e[0] = load8(v245 + 0u);
+    v681.e[1] = load8(v245 + 1u);
+    v681.e[2] = load8(v245 + 2u);
+    v681.e[3] = load8(v245 + 3u);
+    v681.e[4] = load8(v245 + 4u);
+    v681.e[5] = load8(v245 + 5u);
+    v681.e[6] = load8(v245 + 6u);
+    v681.e[7] = load8(v245 + 7u);
+    v681.e[8] = load8(v245 + 8u);
+    v681.e[9] = load8(v245 + 9u);
+    v681.e[10] = load8(v245 + 10u);
+    v681.e[11] = load8(v245 + 11u);
+    v681.e[12] = load8(v245 + 12u);
+    v681.e[13] = load8(v245 + 13u);
+    v681.e[14] = load8(v245 + 14u);
+    v681.e[15] = load8(v245 + 15u);
+    v682.e[0] = load8(v253 + 0u);
+    v682.e[1] = load8(v253 + 1u);
+    v682.e[2] = load8(v253 + 2u);
+    v682.e[3] = load8(v253 + 3u);
+    v682.e[4] = load8(v253 + 4u);
+    v682.e[5] = load8(v253 + 5u);
+    v682.e[6] = load8(v253 + 6u);
+    v682.e[7] = load8(v253 + 7u);
+    v682.e[8] = load8(v253 + 8u);
+    v682.e[9] = load8(v253 + 9u);
+    v682.e[10] = load8(v253 + 10u);
+    v682.e[11] = load8(v253 + 11u);
+    v682.e[12] = load8(v253 + 12u);
+    v682.e[13] = load8(v253 + 13u);
+    v682.e[14] = load8(v253 + 14u);
+    v682.e[15] = load8(v253 + 15u);
+    v683.e[0] = v681.e[0] != v682.e[0];
+    v683.e[1] = v681.e[1] != v682.e[1];
+    v683.e[2] = v681.e[2] != v682.e[2];
+    v683.e[3] = v681.e[3] != v682.e[3];
+    v683.e[4] = v681.e[4] != v682.e[4];
+    v683.e[5] = v681.e[5] != v682.e[5];
+    v683.e[6] = v681.e[6] != v682.e[6];
+    v683.e[7] = v681.e[7] != v682.e[7];
+    v683.e[8] = v681.e[8] != v682.e[8];
+    v683.e[9] = v681.e[9] != v682.e[9];
+    v683.e[10] = v681.e[10] != v682.e[10];
+    v683.e[11] = v681.e[11] != v682.e[11];
+    v683.e[12] = v681.e[12] != v682.e[12];
+    v683.e[13] = v681.e[13] != v682.e[13];
+    v683.e[14] = v681.e[14] != v682.e[14];
+    v683.e[15] = v681.e[15] != v682.e[15];
+    v684 = v245 + 16u * 1u;
+    v685.e[0] = load8(v684 + 0u);
+    v685.e[1] = load8(v684 + 1u);
+    v685.e[2] = load8(v684 + 2u);
+    v685.e[3] = load8(v684 + 3u);
+    v685.e[4] = load8(v684 + 4u);
+    v685.e[5] = load8(v684 + 5u);
+    v685.e[6] = load8(v684 + 6u);
+    v685.e[7] = load8(v684 + 7u);
+    v685.e[8] = load8(v684 + 8u);
+    v685.e[9] = load8(v684 + 9u);
+    v685.e[10] = load8(v684 + 10u);
+    v685.e[11] = load8(v684 + 11u);
+    v685.e[12] = load8(v684 + 12u);
+    v685.e[13] = load8(v684 + 13u);
+    v685.e[14] = load8(v684 + 14u);
+    v685.e[15] = load8(v684 + 15u);
+    v686 = v253 + 16u * 1u;
     v687.e[0] = load8(v686 + 0u);
     v687.e[1] = load8(v686 + 1u);
     v687.e[2] = load8(v686 + 2u);
@@ -46183,2140 +44489,2200 @@ L40:;
     v687.e[13] = load8(v686 + 13u);
     v687.e[14] = load8(v686 + 14u);
     v687.e[15] = load8(v686 + 15u);
-    v688 = v248 + v685 * 1u;
-    v689.e[0] = load8(v688 + 0u);
-    v689.e[1] = load8(v688 + 1u);
-    v689.e[2] = load8(v688 + 2u);
-    v689.e[3] = load8(v688 + 3u);
-    v689.e[4] = load8(v688 + 4u);
-    v689.e[5] = load8(v688 + 5u);
-    v689.e[6] = load8(v688 + 6u);
-    v689.e[7] = load8(v688 + 7u);
-    v689.e[8] = load8(v688 + 8u);
-    v689.e[9] = load8(v688 + 9u);
-    v689.e[10] = load8(v688 + 10u);
-    v689.e[11] = load8(v688 + 11u);
-    v689.e[12] = load8(v688 + 12u);
-    v689.e[13] = load8(v688 + 13u);
-    v689.e[14] = load8(v688 + 14u);
-    v689.e[15] = load8(v688 + 15u);
-    v690.e[0] = v687.e[0] != v689.e[0];
-    v690.e[1] = v687.e[1] != v689.e[1];
-    v690.e[2] = v687.e[2] != v689.e[2];
-    v690.e[3] = v687.e[3] != v689.e[3];
-    v690.e[4] = v687.e[4] != v689.e[4];
-    v690.e[5] = v687.e[5] != v689.e[5];
-    v690.e[6] = v687.e[6] != v689.e[6];
-    v690.e[7] = v687.e[7] != v689.e[7];
-    v690.e[8] = v687.e[8] != v689.e[8];
-    v690.e[9] = v687.e[9] != v689.e[9];
-    v690.e[10] = v687.e[10] != v689.e[10];
-    v690.e[11] = v687.e[11] != v689.e[11];
-    v690.e[12] = v687.e[12] != v689.e[12];
-    v690.e[13] = v687.e[13] != v689.e[13];
-    v690.e[14] = v687.e[14] != v689.e[14];
-    v690.e[15] = v687.e[15] != v689.e[15];
-    v691.e[0] = (u8)(((u32)v684.e[0] | (u32)v690.e[0]) & UINT64_C(1));
-    v691.e[1] = (u8)(((u32)v684.e[1] | (u32)v690.e[1]) & UINT64_C(1));
-    v691.e[2] = (u8)(((u32)v684.e[2] | (u32)v690.e[2]) & UINT64_C(1));
-    v691.e[3] = (u8)(((u32)v684.e[3] | (u32)v690.e[3]) & UINT64_C(1));
-    v691.e[4] = (u8)(((u32)v684.e[4] | (u32)v690.e[4]) & UINT64_C(1));
-    v691.e[5] = (u8)(((u32)v684.e[5] | (u32)v690.e[5]) & UINT64_C(1));
-    v691.e[6] = (u8)(((u32)v684.e[6] | (u32)v690.e[6]) & UINT64_C(1));
-    v691.e[7] = (u8)(((u32)v684.e[7] | (u32)v690.e[7]) & UINT64_C(1));
-    v691.e[8] = (u8)(((u32)v684.e[8] | (u32)v690.e[8]) & UINT64_C(1));
-    v691.e[9] = (u8)(((u32)v684.e[9] | (u32)v690.e[9]) & UINT64_C(1));
-    v691.e[10] = (u8)(((u32)v684.e[10] | (u32)v690.e[10]) & UINT64_C(1));
-    v691.e[11] = (u8)(((u32)v684.e[11] | (u32)v690.e[11]) & UINT64_C(1));
-    v691.e[12] = (u8)(((u32)v684.e[12] | (u32)v690.e[12]) & UINT64_C(1));
-    v691.e[13] = (u8)(((u32)v684.e[13] | (u32)v690.e[13]) & UINT64_C(1));
-    v691.e[14] = (u8)(((u32)v684.e[14] | (u32)v690.e[14]) & UINT64_C(1));
-    v691.e[15] = (u8)(((u32)v684.e[15] | (u32)v690.e[15]) & UINT64_C(1));
-    v692 = v240 + v675 * 1u;
-    v693.e[0] = load8(v692 + 0u);
-    v693.e[1] = load8(v692 + 1u);
-    v693.e[2] = load8(v692 + 2u);
-    v693.e[3] = load8(v692 + 3u);
-    v693.e[4] = load8(v692 + 4u);
-    v693.e[5] = load8(v692 + 5u);
-    v693.e[6] = load8(v692 + 6u);
-    v693.e[7] = load8(v692 + 7u);
-    v693.e[8] = load8(v692 + 8u);
-    v693.e[9] = load8(v692 + 9u);
-    v693.e[10] = load8(v692 + 10u);
-    v693.e[11] = load8(v692 + 11u);
-    v693.e[12] = load8(v692 + 12u);
-    v693.e[13] = load8(v692 + 13u);
-    v693.e[14] = load8(v692 + 14u);
-    v693.e[15] = load8(v692 + 15u);
-    v694 = v248 + v675 * 1u;
-    v695.e[0] = load8(v694 + 0u);
-    v695.e[1] = load8(v694 + 1u);
-    v695.e[2] = load8(v694 + 2u);
-    v695.e[3] = load8(v694 + 3u);
-    v695.e[4] = load8(v694 + 4u);
-    v695.e[5] = load8(v694 + 5u);
-    v695.e[6] = load8(v694 + 6u);
-    v695.e[7] = load8(v694 + 7u);
-    v695.e[8] = load8(v694 + 8u);
-    v695.e[9] = load8(v694 + 9u);
-    v695.e[10] = load8(v694 + 10u);
-    v695.e[11] = load8(v694 + 11u);
-    v695.e[12] = load8(v694 + 12u);
-    v695.e[13] = load8(v694 + 13u);
-    v695.e[14] = load8(v694 + 14u);
-    v695.e[15] = load8(v694 + 15u);
-    v696.e[0] = v693.e[0] != v695.e[0];
-    v696.e[1] = v693.e[1] != v695.e[1];
-    v696.e[2] = v693.e[2] != v695.e[2];
-    v696.e[3] = v693.e[3] != v695.e[3];
-    v696.e[4] = v693.e[4] != v695.e[4];
-    v696.e[5] = v693.e[5] != v695.e[5];
-    v696.e[6] = v693.e[6] != v695.e[6];
-    v696.e[7] = v693.e[7] != v695.e[7];
-    v696.e[8] = v693.e[8] != v695.e[8];
-    v696.e[9] = v693.e[9] != v695.e[9];
-    v696.e[10] = v693.e[10] != v695.e[10];
-    v696.e[11] = v693.e[11] != v695.e[11];
-    v696.e[12] = v693.e[12] != v695.e[12];
-    v696.e[13] = v693.e[13] != v695.e[13];
-    v696.e[14] = v693.e[14] != v695.e[14];
-    v696.e[15] = v693.e[15] != v695.e[15];
-    v697.e[0] = (u8)(((u32)v691.e[0] | (u32)v696.e[0]) & UINT64_C(1));
-    v697.e[1] = (u8)(((u32)v691.e[1] | (u32)v696.e[1]) & UINT64_C(1));
-    v697.e[2] = (u8)(((u32)v691.e[2] | (u32)v696.e[2]) & UINT64_C(1));
-    v697.e[3] = (u8)(((u32)v691.e[3] | (u32)v696.e[3]) & UINT64_C(1));
-    v697.e[4] = (u8)(((u32)v691.e[4] | (u32)v696.e[4]) & UINT64_C(1));
-    v697.e[5] = (u8)(((u32)v691.e[5] | (u32)v696.e[5]) & UINT64_C(1));
-    v697.e[6] = (u8)(((u32)v691.e[6] | (u32)v696.e[6]) & UINT64_C(1));
-    v697.e[7] = (u8)(((u32)v691.e[7] | (u32)v696.e[7]) & UINT64_C(1));
-    v697.e[8] = (u8)(((u32)v691.e[8] | (u32)v696.e[8]) & UINT64_C(1));
-    v697.e[9] = (u8)(((u32)v691.e[9] | (u32)v696.e[9]) & UINT64_C(1));
-    v697.e[10] = (u8)(((u32)v691.e[10] | (u32)v696.e[10]) & UINT64_C(1));
-    v697.e[11] = (u8)(((u32)v691.e[11] | (u32)v696.e[11]) & UINT64_C(1));
-    v697.e[12] = (u8)(((u32)v691.e[12] | (u32)v696.e[12]) & UINT64_C(1));
-    v697.e[13] = (u8)(((u32)v691.e[13] | (u32)v696.e[13]) & UINT64_C(1));
-    v697.e[14] = (u8)(((u32)v691.e[14] | (u32)v696.e[14]) & UINT64_C(1));
-    v697.e[15] = (u8)(((u32)v691.e[15] | (u32)v696.e[15]) & UINT64_C(1));
-    v698 = (u16)((u32)v697.e[0] << 0 | (u32)v697.e[1] << 1 | (u32)v697.e[2] << 2 | (u32)v697.e[3] << 3 | (u32)v697.e[4] << 4 | (u32)v697.e[5] << 5 | (u32)v697.e[6] << 6 | (u32)v697.e[7] << 7 | (u32)v697.e[8] << 8 | (u32)v697.e[9] << 9 | (u32)v697.e[10] << 10 | (u32)v697.e[11] << 11 | (u32)v697.e[12] << 12 | (u32)v697.e[13] << 13 | (u32)v697.e[14] << 14 | (u32)v697.e[15] << 15);
-    v699 = v698 != 0u;
-    v17 = v699; goto L44;
+    v688.e[0] = v685.e[0] != v687.e[0];
+    v688.e[1] = v685.e[1] != v687.e[1];
+    v688.e[2] = v685.e[2] != v687.e[2];
+    v688.e[3] = v685.e[3] != v687.e[3];
+    v688.e[4] = v685.e[4] != v687.e[4];
+    v688.e[5] = v685.e[5] != v687.e[5];
+    v688.e[6] = v685.e[6] != v687.e[6];
+    v688.e[7] = v685.e[7] != v687.e[7];
+    v688.e[8] = v685.e[8] != v687.e[8];
+    v688.e[9] = v685.e[9] != v687.e[9];
+    v688.e[10] = v685.e[10] != v687.e[10];
+    v688.e[11] = v685.e[11] != v687.e[11];
+    v688.e[12] = v685.e[12] != v687.e[12];
+    v688.e[13] = v685.e[13] != v687.e[13];
+    v688.e[14] = v685.e[14] != v687.e[14];
+    v688.e[15] = v685.e[15] != v687.e[15];
+    v689.e[0] = (u8)(((u32)v683.e[0] | (u32)v688.e[0]) & UINT64_C(1));
+    v689.e[1] = (u8)(((u32)v683.e[1] | (u32)v688.e[1]) & UINT64_C(1));
+    v689.e[2] = (u8)(((u32)v683.e[2] | (u32)v688.e[2]) & UINT64_C(1));
+    v689.e[3] = (u8)(((u32)v683.e[3] | (u32)v688.e[3]) & UINT64_C(1));
+    v689.e[4] = (u8)(((u32)v683.e[4] | (u32)v688.e[4]) & UINT64_C(1));
+    v689.e[5] = (u8)(((u32)v683.e[5] | (u32)v688.e[5]) & UINT64_C(1));
+    v689.e[6] = (u8)(((u32)v683.e[6] | (u32)v688.e[6]) & UINT64_C(1));
+    v689.e[7] = (u8)(((u32)v683.e[7] | (u32)v688.e[7]) & UINT64_C(1));
+    v689.e[8] = (u8)(((u32)v683.e[8] | (u32)v688.e[8]) & UINT64_C(1));
+    v689.e[9] = (u8)(((u32)v683.e[9] | (u32)v688.e[9]) & UINT64_C(1));
+    v689.e[10] = (u8)(((u32)v683.e[10] | (u32)v688.e[10]) & UINT64_C(1));
+    v689.e[11] = (u8)(((u32)v683.e[11] | (u32)v688.e[11]) & UINT64_C(1));
+    v689.e[12] = (u8)(((u32)v683.e[12] | (u32)v688.e[12]) & UINT64_C(1));
+    v689.e[13] = (u8)(((u32)v683.e[13] | (u32)v688.e[13]) & UINT64_C(1));
+    v689.e[14] = (u8)(((u32)v683.e[14] | (u32)v688.e[14]) & UINT64_C(1));
+    v689.e[15] = (u8)(((u32)v683.e[15] | (u32)v688.e[15]) & UINT64_C(1));
+    v690 = v680 < 32u ? v680 : 32u;
+    v691 = v245 + v690 * 1u;
+    v692.e[0] = load8(v691 + 0u);
+    v692.e[1] = load8(v691 + 1u);
+    v692.e[2] = load8(v691 + 2u);
+    v692.e[3] = load8(v691 + 3u);
+    v692.e[4] = load8(v691 + 4u);
+    v692.e[5] = load8(v691 + 5u);
+    v692.e[6] = load8(v691 + 6u);
+    v692.e[7] = load8(v691 + 7u);
+    v692.e[8] = load8(v691 + 8u);
+    v692.e[9] = load8(v691 + 9u);
+    v692.e[10] = load8(v691 + 10u);
+    v692.e[11] = load8(v691 + 11u);
+    v692.e[12] = load8(v691 + 12u);
+    v692.e[13] = load8(v691 + 13u);
+    v692.e[14] = load8(v691 + 14u);
+    v692.e[15] = load8(v691 + 15u);
+    v693 = v253 + v690 * 1u;
+    v694.e[0] = load8(v693 + 0u);
+    v694.e[1] = load8(v693 + 1u);
+    v694.e[2] = load8(v693 + 2u);
+    v694.e[3] = load8(v693 + 3u);
+    v694.e[4] = load8(v693 + 4u);
+    v694.e[5] = load8(v693 + 5u);
+    v694.e[6] = load8(v693 + 6u);
+    v694.e[7] = load8(v693 + 7u);
+    v694.e[8] = load8(v693 + 8u);
+    v694.e[9] = load8(v693 + 9u);
+    v694.e[10] = load8(v693 + 10u);
+    v694.e[11] = load8(v693 + 11u);
+    v694.e[12] = load8(v693 + 12u);
+    v694.e[13] = load8(v693 + 13u);
+    v694.e[14] = load8(v693 + 14u);
+    v694.e[15] = load8(v693 + 15u);
+    v695.e[0] = v692.e[0] != v694.e[0];
+    v695.e[1] = v692.e[1] != v694.e[1];
+    v695.e[2] = v692.e[2] != v694.e[2];
+    v695.e[3] = v692.e[3] != v694.e[3];
+    v695.e[4] = v692.e[4] != v694.e[4];
+    v695.e[5] = v692.e[5] != v694.e[5];
+    v695.e[6] = v692.e[6] != v694.e[6];
+    v695.e[7] = v692.e[7] != v694.e[7];
+    v695.e[8] = v692.e[8] != v694.e[8];
+    v695.e[9] = v692.e[9] != v694.e[9];
+    v695.e[10] = v692.e[10] != v694.e[10];
+    v695.e[11] = v692.e[11] != v694.e[11];
+    v695.e[12] = v692.e[12] != v694.e[12];
+    v695.e[13] = v692.e[13] != v694.e[13];
+    v695.e[14] = v692.e[14] != v694.e[14];
+    v695.e[15] = v692.e[15] != v694.e[15];
+    v696.e[0] = (u8)(((u32)v689.e[0] | (u32)v695.e[0]) & UINT64_C(1));
+    v696.e[1] = (u8)(((u32)v689.e[1] | (u32)v695.e[1]) & UINT64_C(1));
+    v696.e[2] = (u8)(((u32)v689.e[2] | (u32)v695.e[2]) & UINT64_C(1));
+    v696.e[3] = (u8)(((u32)v689.e[3] | (u32)v695.e[3]) & UINT64_C(1));
+    v696.e[4] = (u8)(((u32)v689.e[4] | (u32)v695.e[4]) & UINT64_C(1));
+    v696.e[5] = (u8)(((u32)v689.e[5] | (u32)v695.e[5]) & UINT64_C(1));
+    v696.e[6] = (u8)(((u32)v689.e[6] | (u32)v695.e[6]) & UINT64_C(1));
+    v696.e[7] = (u8)(((u32)v689.e[7] | (u32)v695.e[7]) & UINT64_C(1));
+    v696.e[8] = (u8)(((u32)v689.e[8] | (u32)v695.e[8]) & UINT64_C(1));
+    v696.e[9] = (u8)(((u32)v689.e[9] | (u32)v695.e[9]) & UINT64_C(1));
+    v696.e[10] = (u8)(((u32)v689.e[10] | (u32)v695.e[10]) & UINT64_C(1));
+    v696.e[11] = (u8)(((u32)v689.e[11] | (u32)v695.e[11]) & UINT64_C(1));
+    v696.e[12] = (u8)(((u32)v689.e[12] | (u32)v695.e[12]) & UINT64_C(1));
+    v696.e[13] = (u8)(((u32)v689.e[13] | (u32)v695.e[13]) & UINT64_C(1));
+    v696.e[14] = (u8)(((u32)v689.e[14] | (u32)v695.e[14]) & UINT64_C(1));
+    v696.e[15] = (u8)(((u32)v689.e[15] | (u32)v695.e[15]) & UINT64_C(1));
+    v697 = v245 + v680 * 1u;
+    v698.e[0] = load8(v697 + 0u);
+    v698.e[1] = load8(v697 + 1u);
+    v698.e[2] = load8(v697 + 2u);
+    v698.e[3] = load8(v697 + 3u);
+    v698.e[4] = load8(v697 + 4u);
+    v698.e[5] = load8(v697 + 5u);
+    v698.e[6] = load8(v697 + 6u);
+    v698.e[7] = load8(v697 + 7u);
+    v698.e[8] = load8(v697 + 8u);
+    v698.e[9] = load8(v697 + 9u);
+    v698.e[10] = load8(v697 + 10u);
+    v698.e[11] = load8(v697 + 11u);
+    v698.e[12] = load8(v697 + 12u);
+    v698.e[13] = load8(v697 + 13u);
+    v698.e[14] = load8(v697 + 14u);
+    v698.e[15] = load8(v697 + 15u);
+    v699 = v253 + v680 * 1u;
+    v700.e[0] = load8(v699 + 0u);
+    v700.e[1] = load8(v699 + 1u);
+    v700.e[2] = load8(v699 + 2u);
+    v700.e[3] = load8(v699 + 3u);
+    v700.e[4] = load8(v699 + 4u);
+    v700.e[5] = load8(v699 + 5u);
+    v700.e[6] = load8(v699 + 6u);
+    v700.e[7] = load8(v699 + 7u);
+    v700.e[8] = load8(v699 + 8u);
+    v700.e[9] = load8(v699 + 9u);
+    v700.e[10] = load8(v699 + 10u);
+    v700.e[11] = load8(v699 + 11u);
+    v700.e[12] = load8(v699 + 12u);
+    v700.e[13] = load8(v699 + 13u);
+    v700.e[14] = load8(v699 + 14u);
+    v700.e[15] = load8(v699 + 15u);
+    v701.e[0] = v698.e[0] != v700.e[0];
+    v701.e[1] = v698.e[1] != v700.e[1];
+    v701.e[2] = v698.e[2] != v700.e[2];
+    v701.e[3] = v698.e[3] != v700.e[3];
+    v701.e[4] = v698.e[4] != v700.e[4];
+    v701.e[5] = v698.e[5] != v700.e[5];
+    v701.e[6] = v698.e[6] != v700.e[6];
+    v701.e[7] = v698.e[7] != v700.e[7];
+    v701.e[8] = v698.e[8] != v700.e[8];
+    v701.e[9] = v698.e[9] != v700.e[9];
+    v701.e[10] = v698.e[10] != v700.e[10];
+    v701.e[11] = v698.e[11] != v700.e[11];
+    v701.e[12] = v698.e[12] != v700.e[12];
+    v701.e[13] = v698.e[13] != v700.e[13];
+    v701.e[14] = v698.e[14] != v700.e[14];
+    v701.e[15] = v698.e[15] != v700.e[15];
+    v702.e[0] = (u8)(((u32)v696.e[0] | (u32)v701.e[0]) & UINT64_C(1));
+    v702.e[1] = (u8)(((u32)v696.e[1] | (u32)v701.e[1]) & UINT64_C(1));
+    v702.e[2] = (u8)(((u32)v696.e[2] | (u32)v701.e[2]) & UINT64_C(1));
+    v702.e[3] = (u8)(((u32)v696.e[3] | (u32)v701.e[3]) & UINT64_C(1));
+    v702.e[4] = (u8)(((u32)v696.e[4] | (u32)v701.e[4]) & UINT64_C(1));
+    v702.e[5] = (u8)(((u32)v696.e[5] | (u32)v701.e[5]) & UINT64_C(1));
+    v702.e[6] = (u8)(((u32)v696.e[6] | (u32)v701.e[6]) & UINT64_C(1));
+    v702.e[7] = (u8)(((u32)v696.e[7] | (u32)v701.e[7]) & UINT64_C(1));
+    v702.e[8] = (u8)(((u32)v696.e[8] | (u32)v701.e[8]) & UINT64_C(1));
+    v702.e[9] = (u8)(((u32)v696.e[9] | (u32)v701.e[9]) & UINT64_C(1));
+    v702.e[10] = (u8)(((u32)v696.e[10] | (u32)v701.e[10]) & UINT64_C(1));
+    v702.e[11] = (u8)(((u32)v696.e[11] | (u32)v701.e[11]) & UINT64_C(1));
+    v702.e[12] = (u8)(((u32)v696.e[12] | (u32)v701.e[12]) & UINT64_C(1));
+    v702.e[13] = (u8)(((u32)v696.e[13] | (u32)v701.e[13]) & UINT64_C(1));
+    v702.e[14] = (u8)(((u32)v696.e[14] | (u32)v701.e[14]) & UINT64_C(1));
+    v702.e[15] = (u8)(((u32)v696.e[15] | (u32)v701.e[15]) & UINT64_C(1));
+    v703 = (u16)((u32)v702.e[0] << 0 | (u32)v702.e[1] << 1 | (u32)v702.e[2] << 2 | (u32)v702.e[3] << 3 | (u32)v702.e[4] << 4 | (u32)v702.e[5] << 5 | (u32)v702.e[6] << 6 | (u32)v702.e[7] << 7 | (u32)v702.e[8] << 8 | (u32)v702.e[9] << 9 | (u32)v702.e[10] << 10 | (u32)v702.e[11] << 11 | (u32)v702.e[12] << 12 | (u32)v702.e[13] << 13 | (u32)v702.e[14] << 14 | (u32)v702.e[15] << 15);
+    v704 = v703 != 0u;
+    v17 = v704; goto L44;
 L41:;
-    v700 = (u64)((u64)v16 + (u64)64u);
-    v701 = (u64)((u64)v242 - (u64)v700);
-    v702 = v701 > 64u;
-    if (v702) { v16 = v700; goto L42; }
+    v705 = (u64)((u64)v16 + (u64)64u);
+    v706 = (u64)((u64)v247 - (u64)v705);
+    v707 = v706 > 64u;
+    if (v707) { v16 = v705; goto L42; }
     else { goto L43; }
 L42:;
-    v703 = v240 + v16 * 1u;
-    v704.e[0] = load8(v703 + 0u);
-    v704.e[1] = load8(v703 + 1u);
-    v704.e[2] = load8(v703 + 2u);
-    v704.e[3] = load8(v703 + 3u);
-    v704.e[4] = load8(v703 + 4u);
-    v704.e[5] = load8(v703 + 5u);
-    v704.e[6] = load8(v703 + 6u);
-    v704.e[7] = load8(v703 + 7u);
-    v704.e[8] = load8(v703 + 8u);
-    v704.e[9] = load8(v703 + 9u);
-    v704.e[10] = load8(v703 + 10u);
-    v704.e[11] = load8(v703 + 11u);
-    v704.e[12] = load8(v703 + 12u);
-    v704.e[13] = load8(v703 + 13u);
-    v704.e[14] = load8(v703 + 14u);
-    v704.e[15] = load8(v703 + 15u);
-    v704.e[16] = load8(v703 + 16u);
-    v704.e[17] = load8(v703 + 17u);
-    v704.e[18] = load8(v703 + 18u);
-    v704.e[19] = load8(v703 + 19u);
-    v704.e[20] = load8(v703 + 20u);
-    v704.e[21] = load8(v703 + 21u);
-    v704.e[22] = load8(v703 + 22u);
-    v704.e[23] = load8(v703 + 23u);
-    v704.e[24] = load8(v703 + 24u);
-    v704.e[25] = load8(v703 + 25u);
-    v704.e[26] = load8(v703 + 26u);
-    v704.e[27] = load8(v703 + 27u);
-    v704.e[28] = load8(v703 + 28u);
-    v704.e[29] = load8(v703 + 29u);
-    v704.e[30] = load8(v703 + 30u);
-    v704.e[31] = load8(v703 + 31u);
-    v704.e[32] = load8(v703 + 32u);
-    v704.e[33] = load8(v703 + 33u);
-    v704.e[34] = load8(v703 + 34u);
-    v704.e[35] = load8(v703 + 35u);
-    v704.e[36] = load8(v703 + 36u);
-    v704.e[37] = load8(v703 + 37u);
-    v704.e[38] = load8(v703 + 38u);
-    v704.e[39] = load8(v703 + 39u);
-    v704.e[40] = load8(v703 + 40u);
-    v704.e[41] = load8(v703 + 41u);
-    v704.e[42] = load8(v703 + 42u);
-    v704.e[43] = load8(v703 + 43u);
-    v704.e[44] = load8(v703 + 44u);
-    v704.e[45] = load8(v703 + 45u);
-    v704.e[46] = load8(v703 + 46u);
-    v704.e[47] = load8(v703 + 47u);
-    v704.e[48] = load8(v703 + 48u);
-    v704.e[49] = load8(v703 + 49u);
-    v704.e[50] = load8(v703 + 50u);
-    v704.e[51] = load8(v703 + 51u);
-    v704.e[52] = load8(v703 + 52u);
-    v704.e[53] = load8(v703 + 53u);
-    v704.e[54] = load8(v703 + 54u);
-    v704.e[55] = load8(v703 + 55u);
-    v704.e[56] = load8(v703 + 56u);
-    v704.e[57] = load8(v703 + 57u);
-    v704.e[58] = load8(v703 + 58u);
-    v704.e[59] = load8(v703 + 59u);
-    v704.e[60] = load8(v703 + 60u);
-    v704.e[61] = load8(v703 + 61u);
-    v704.e[62] = load8(v703 + 62u);
-    v704.e[63] = load8(v703 + 63u);
-    v705 = v248 + v16 * 1u;
-    v706.e[0] = load8(v705 + 0u);
-    v706.e[1] = load8(v705 + 1u);
-    v706.e[2] = load8(v705 + 2u);
-    v706.e[3] = load8(v705 + 3u);
-    v706.e[4] = load8(v705 + 4u);
-    v706.e[5] = load8(v705 + 5u);
-    v706.e[6] = load8(v705 + 6u);
-    v706.e[7] = load8(v705 + 7u);
-    v706.e[8] = load8(v705 + 8u);
-    v706.e[9] = load8(v705 + 9u);
-    v706.e[10] = load8(v705 + 10u);
-    v706.e[11] = load8(v705 + 11u);
-    v706.e[12] = load8(v705 + 12u);
-    v706.e[13] = load8(v705 + 13u);
-    v706.e[14] = load8(v705 + 14u);
-    v706.e[15] = load8(v705 + 15u);
-    v706.e[16] = load8(v705 + 16u);
-    v706.e[17] = load8(v705 + 17u);
-    v706.e[18] = load8(v705 + 18u);
-    v706.e[19] = load8(v705 + 19u);
-    v706.e[20] = load8(v705 + 20u);
-    v706.e[21] = load8(v705 + 21u);
-    v706.e[22] = load8(v705 + 22u);
-    v706.e[23] = load8(v705 + 23u);
-    v706.e[24] = load8(v705 + 24u);
-    v706.e[25] = load8(v705 + 25u);
-    v706.e[26] = load8(v705 + 26u);
-    v706.e[27] = load8(v705 + 27u);
-    v706.e[28] = load8(v705 + 28u);
-    v706.e[29] = load8(v705 + 29u);
-    v706.e[30] = load8(v705 + 30u);
-    v706.e[31] = load8(v705 + 31u);
-    v706.e[32] = load8(v705 + 32u);
-    v706.e[33] = load8(v705 + 33u);
-    v706.e[34] = load8(v705 + 34u);
-    v706.e[35] = load8(v705 + 35u);
-    v706.e[36] = load8(v705 + 36u);
-    v706.e[37] = load8(v705 + 37u);
-    v706.e[38] = load8(v705 + 38u);
-    v706.e[39] = load8(v705 + 39u);
-    v706.e[40] = load8(v705 + 40u);
-    v706.e[41] = load8(v705 + 41u);
-    v706.e[42] = load8(v705 + 42u);
-    v706.e[43] = load8(v705 + 43u);
-    v706.e[44] = load8(v705 + 44u);
-    v706.e[45] = load8(v705 + 45u);
-    v706.e[46] = load8(v705 + 46u);
-    v706.e[47] = load8(v705 + 47u);
-    v706.e[48] = load8(v705 + 48u);
-    v706.e[49] = load8(v705 + 49u);
-    v706.e[50] = load8(v705 + 50u);
-    v706.e[51] = load8(v705 + 51u);
-    v706.e[52] = load8(v705 + 52u);
-    v706.e[53] = load8(v705 + 53u);
-    v706.e[54] = load8(v705 + 54u);
-    v706.e[55] = load8(v705 + 55u);
-    v706.e[56] = load8(v705 + 56u);
-    v706.e[57] = load8(v705 + 57u);
-    v706.e[58] = load8(v705 + 58u);
-    v706.e[59] = load8(v705 + 59u);
-    v706.e[60] = load8(v705 + 60u);
-    v706.e[61] = load8(v705 + 61u);
-    v706.e[62] = load8(v705 + 62u);
-    v706.e[63] = load8(v705 + 63u);
-    v707.e[0] = v704.e[0] != v706.e[0];
-    v707.e[1] = v704.e[1] != v706.e[1];
-    v707.e[2] = v704.e[2] != v706.e[2];
-    v707.e[3] = v704.e[3] != v706.e[3];
-    v707.e[4] = v704.e[4] != v706.e[4];
-    v707.e[5] = v704.e[5] != v706.e[5];
-    v707.e[6] = v704.e[6] != v706.e[6];
-    v707.e[7] = v704.e[7] != v706.e[7];
-    v707.e[8] = v704.e[8] != v706.e[8];
-    v707.e[9] = v704.e[9] != v706.e[9];
-    v707.e[10] = v704.e[10] != v706.e[10];
-    v707.e[11] = v704.e[11] != v706.e[11];
-    v707.e[12] = v704.e[12] != v706.e[12];
-    v707.e[13] = v704.e[13] != v706.e[13];
-    v707.e[14] = v704.e[14] != v706.e[14];
-    v707.e[15] = v704.e[15] != v706.e[15];
-    v707.e[16] = v704.e[16] != v706.e[16];
-    v707.e[17] = v704.e[17] != v706.e[17];
-    v707.e[18] = v704.e[18] != v706.e[18];
-    v707.e[19] = v704.e[19] != v706.e[19];
-    v707.e[20] = v704.e[20] != v706.e[20];
-    v707.e[21] = v704.e[21] != v706.e[21];
-    v707.e[22] = v704.e[22] != v706.e[22];
-    v707.e[23] = v704.e[23] != v706.e[23];
-    v707.e[24] = v704.e[24] != v706.e[24];
-    v707.e[25] = v704.e[25] != v706.e[25];
-    v707.e[26] = v704.e[26] != v706.e[26];
-    v707.e[27] = v704.e[27] != v706.e[27];
-    v707.e[28] = v704.e[28] != v706.e[28];
-    v707.e[29] = v704.e[29] != v706.e[29];
-    v707.e[30] = v704.e[30] != v706.e[30];
-    v707.e[31] = v704.e[31] != v706.e[31];
-    v707.e[32] = v704.e[32] != v706.e[32];
-    v707.e[33] = v704.e[33] != v706.e[33];
-    v707.e[34] = v704.e[34] != v706.e[34];
-    v707.e[35] = v704.e[35] != v706.e[35];
-    v707.e[36] = v704.e[36] != v706.e[36];
-    v707.e[37] = v704.e[37] != v706.e[37];
-    v707.e[38] = v704.e[38] != v706.e[38];
-    v707.e[39] = v704.e[39] != v706.e[39];
-    v707.e[40] = v704.e[40] != v706.e[40];
-    v707.e[41] = v704.e[41] != v706.e[41];
-    v707.e[42] = v704.e[42] != v706.e[42];
-    v707.e[43] = v704.e[43] != v706.e[43];
-    v707.e[44] = v704.e[44] != v706.e[44];
-    v707.e[45] = v704.e[45] != v706.e[45];
-    v707.e[46] = v704.e[46] != v706.e[46];
-    v707.e[47] = v704.e[47] != v706.e[47];
-    v707.e[48] = v704.e[48] != v706.e[48];
-    v707.e[49] = v704.e[49] != v706.e[49];
-    v707.e[50] = v704.e[50] != v706.e[50];
-    v707.e[51] = v704.e[51] != v706.e[51];
-    v707.e[52] = v704.e[52] != v706.e[52];
-    v707.e[53] = v704.e[53] != v706.e[53];
-    v707.e[54] = v704.e[54] != v706.e[54];
-    v707.e[55] = v704.e[55] != v706.e[55];
-    v707.e[56] = v704.e[56] != v706.e[56];
-    v707.e[57] = v704.e[57] != v706.e[57];
-    v707.e[58] = v704.e[58] != v706.e[58];
-    v707.e[59] = v704.e[59] != v706.e[59];
-    v707.e[60] = v704.e[60] != v706.e[60];
-    v707.e[61] = v704.e[61] != v706.e[61];
-    v707.e[62] = v704.e[62] != v706.e[62];
-    v707.e[63] = v704.e[63] != v706.e[63];
-    v708.e[0] = (u8)((i8)((i8)(u8)((u32)v707.e[0] << 7) >> 7));
-    v708.e[1] = (u8)((i8)((i8)(u8)((u32)v707.e[1] << 7) >> 7));
-    v708.e[2] = (u8)((i8)((i8)(u8)((u32)v707.e[2] << 7) >> 7));
-    v708.e[3] = (u8)((i8)((i8)(u8)((u32)v707.e[3] << 7) >> 7));
-    v708.e[4] = (u8)((i8)((i8)(u8)((u32)v707.e[4] << 7) >> 7));
-    v708.e[5] = (u8)((i8)((i8)(u8)((u32)v707.e[5] << 7) >> 7));
-    v708.e[6] = (u8)((i8)((i8)(u8)((u32)v707.e[6] << 7) >> 7));
-    v708.e[7] = (u8)((i8)((i8)(u8)((u32)v707.e[7] << 7) >> 7));
-    v708.e[8] = (u8)((i8)((i8)(u8)((u32)v707.e[8] << 7) >> 7));
-    v708.e[9] = (u8)((i8)((i8)(u8)((u32)v707.e[9] << 7) >> 7));
-    v708.e[10] = (u8)((i8)((i8)(u8)((u32)v707.e[10] << 7) >> 7));
-    v708.e[11] = (u8)((i8)((i8)(u8)((u32)v707.e[11] << 7) >> 7));
-    v708.e[12] = (u8)((i8)((i8)(u8)((u32)v707.e[12] << 7) >> 7));
-    v708.e[13] = (u8)((i8)((i8)(u8)((u32)v707.e[13] << 7) >> 7));
-    v708.e[14] = (u8)((i8)((i8)(u8)((u32)v707.e[14] << 7) >> 7));
-    v708.e[15] = (u8)((i8)((i8)(u8)((u32)v707.e[15] << 7) >> 7));
-    v708.e[16] = (u8)((i8)((i8)(u8)((u32)v707.e[16] << 7) >> 7));
-    v708.e[17] = (u8)((i8)((i8)(u8)((u32)v707.e[17] << 7) >> 7));
-    v708.e[18] = (u8)((i8)((i8)(u8)((u32)v707.e[18] << 7) >> 7));
-    v708.e[19] = (u8)((i8)((i8)(u8)((u32)v707.e[19] << 7) >> 7));
-    v708.e[20] = (u8)((i8)((i8)(u8)((u32)v707.e[20] << 7) >> 7));
-    v708.e[21] = (u8)((i8)((i8)(u8)((u32)v707.e[21] << 7) >> 7));
-    v708.e[22] = (u8)((i8)((i8)(u8)((u32)v707.e[22] << 7) >> 7));
-    v708.e[23] = (u8)((i8)((i8)(u8)((u32)v707.e[23] << 7) >> 7));
-    v708.e[24] = (u8)((i8)((i8)(u8)((u32)v707.e[24] << 7) >> 7));
-    v708.e[25] = (u8)((i8)((i8)(u8)((u32)v707.e[25] << 7) >> 7));
-    v708.e[26] = (u8)((i8)((i8)(u8)((u32)v707.e[26] << 7) >> 7));
-    v708.e[27] = (u8)((i8)((i8)(u8)((u32)v707.e[27] << 7) >> 7));
-    v708.e[28] = (u8)((i8)((i8)(u8)((u32)v707.e[28] << 7) >> 7));
-    v708.e[29] = (u8)((i8)((i8)(u8)((u32)v707.e[29] << 7) >> 7));
-    v708.e[30] = (u8)((i8)((i8)(u8)((u32)v707.e[30] << 7) >> 7));
-    v708.e[31] = (u8)((i8)((i8)(u8)((u32)v707.e[31] << 7) >> 7));
-    v708.e[32] = (u8)((i8)((i8)(u8)((u32)v707.e[32] << 7) >> 7));
-    v708.e[33] = (u8)((i8)((i8)(u8)((u32)v707.e[33] << 7) >> 7));
-    v708.e[34] = (u8)((i8)((i8)(u8)((u32)v707.e[34] << 7) >> 7));
-    v708.e[35] = (u8)((i8)((i8)(u8)((u32)v707.e[35] << 7) >> 7));
-    v708.e[36] = (u8)((i8)((i8)(u8)((u32)v707.e[36] << 7) >> 7));
-    v708.e[37] = (u8)((i8)((i8)(u8)((u32)v707.e[37] << 7) >> 7));
-    v708.e[38] = (u8)((i8)((i8)(u8)((u32)v707.e[38] << 7) >> 7));
-    v708.e[39] = (u8)((i8)((i8)(u8)((u32)v707.e[39] << 7) >> 7));
-    v708.e[40] = (u8)((i8)((i8)(u8)((u32)v707.e[40] << 7) >> 7));
-    v708.e[41] = (u8)((i8)((i8)(u8)((u32)v707.e[41] << 7) >> 7));
-    v708.e[42] = (u8)((i8)((i8)(u8)((u32)v707.e[42] << 7) >> 7));
-    v708.e[43] = (u8)((i8)((i8)(u8)((u32)v707.e[43] << 7) >> 7));
-    v708.e[44] = (u8)((i8)((i8)(u8)((u32)v707.e[44] << 7) >> 7));
-    v708.e[45] = (u8)((i8)((i8)(u8)((u32)v707.e[45] << 7) >> 7));
-    v708.e[46] = (u8)((i8)((i8)(u8)((u32)v707.e[46] << 7) >> 7));
-    v708.e[47] = (u8)((i8)((i8)(u8)((u32)v707.e[47] << 7) >> 7));
-    v708.e[48] = (u8)((i8)((i8)(u8)((u32)v707.e[48] << 7) >> 7));
-    v708.e[49] = (u8)((i8)((i8)(u8)((u32)v707.e[49] << 7) >> 7));
-    v708.e[50] = (u8)((i8)((i8)(u8)((u32)v707.e[50] << 7) >> 7));
-    v708.e[51] = (u8)((i8)((i8)(u8)((u32)v707.e[51] << 7) >> 7));
-    v708.e[52] = (u8)((i8)((i8)(u8)((u32)v707.e[52] << 7) >> 7));
-    v708.e[53] = (u8)((i8)((i8)(u8)((u32)v707.e[53] << 7) >> 7));
-    v708.e[54] = (u8)((i8)((i8)(u8)((u32)v707.e[54] << 7) >> 7));
-    v708.e[55] = (u8)((i8)((i8)(u8)((u32)v707.e[55] << 7) >> 7));
-    v708.e[56] = (u8)((i8)((i8)(u8)((u32)v707.e[56] << 7) >> 7));
-    v708.e[57] = (u8)((i8)((i8)(u8)((u32)v707.e[57] << 7) >> 7));
-    v708.e[58] = (u8)((i8)((i8)(u8)((u32)v707.e[58] << 7) >> 7));
-    v708.e[59] = (u8)((i8)((i8)(u8)((u32)v707.e[59] << 7) >> 7));
-    v708.e[60] = (u8)((i8)((i8)(u8)((u32)v707.e[60] << 7) >> 7));
-    v708.e[61] = (u8)((i8)((i8)(u8)((u32)v707.e[61] << 7) >> 7));
-    v708.e[62] = (u8)((i8)((i8)(u8)((u32)v707.e[62] << 7) >> 7));
-    v708.e[63] = (u8)((i8)((i8)(u8)((u32)v707.e[63] << 7) >> 7));
-    v709.e[0] = v708.e[0];
-    v709.e[1] = v708.e[1];
-    v709.e[2] = v708.e[2];
-    v709.e[3] = v708.e[3];
-    v709.e[4] = v708.e[4];
-    v709.e[5] = v708.e[5];
-    v709.e[6] = v708.e[6];
-    v709.e[7] = v708.e[7];
-    v709.e[8] = v708.e[8];
-    v709.e[9] = v708.e[9];
-    v709.e[10] = v708.e[10];
-    v709.e[11] = v708.e[11];
-    v709.e[12] = v708.e[12];
-    v709.e[13] = v708.e[13];
-    v709.e[14] = v708.e[14];
-    v709.e[15] = v708.e[15];
-    v710.e[0] = v708.e[16];
-    v710.e[1] = v708.e[17];
-    v710.e[2] = v708.e[18];
-    v710.e[3] = v708.e[19];
-    v710.e[4] = v708.e[20];
-    v710.e[5] = v708.e[21];
-    v710.e[6] = v708.e[22];
-    v710.e[7] = v708.e[23];
-    v710.e[8] = v708.e[24];
-    v710.e[9] = v708.e[25];
-    v710.e[10] = v708.e[26];
-    v710.e[11] = v708.e[27];
-    v710.e[12] = v708.e[28];
-    v710.e[13] = v708.e[29];
-    v710.e[14] = v708.e[30];
-    v710.e[15] = v708.e[31];
-    v711.e[0] = v708.e[32];
-    v711.e[1] = v708.e[33];
-    v711.e[2] = v708.e[34];
-    v711.e[3] = v708.e[35];
-    v711.e[4] = v708.e[36];
-    v711.e[5] = v708.e[37];
-    v711.e[6] = v708.e[38];
-    v711.e[7] = v708.e[39];
-    v711.e[8] = v708.e[40];
-    v711.e[9] = v708.e[41];
-    v711.e[10] = v708.e[42];
-    v711.e[11] = v708.e[43];
-    v711.e[12] = v708.e[44];
-    v711.e[13] = v708.e[45];
-    v711.e[14] = v708.e[46];
-    v711.e[15] = v708.e[47];
-    v712.e[0] = v708.e[48];
-    v712.e[1] = v708.e[49];
-    v712.e[2] = v708.e[50];
-    v712.e[3] = v708.e[51];
-    v712.e[4] = v708.e[52];
-    v712.e[5] = v708.e[53];
-    v712.e[6] = v708.e[54];
-    v712.e[7] = v708.e[55];
-    v712.e[8] = v708.e[56];
-    v712.e[9] = v708.e[57];
-    v712.e[10] = v708.e[58];
-    v712.e[11] = v708.e[59];
-    v712.e[12] = v708.e[60];
-    v712.e[13] = v708.e[61];
-    v712.e[14] = v708.e[62];
-    v712.e[15] = v708.e[63];
-    v713.e[0] = (u8)((u32)v710.e[0] | (u32)v709.e[0]);
-    v713.e[1] = (u8)((u32)v710.e[1] | (u32)v709.e[1]);
-    v713.e[2] = (u8)((u32)v710.e[2] | (u32)v709.e[2]);
-    v713.e[3] = (u8)((u32)v710.e[3] | (u32)v709.e[3]);
-    v713.e[4] = (u8)((u32)v710.e[4] | (u32)v709.e[4]);
-    v713.e[5] = (u8)((u32)v710.e[5] | (u32)v709.e[5]);
-    v713.e[6] = (u8)((u32)v710.e[6] | (u32)v709.e[6]);
-    v713.e[7] = (u8)((u32)v710.e[7] | (u32)v709.e[7]);
-    v713.e[8] = (u8)((u32)v710.e[8] | (u32)v709.e[8]);
-    v713.e[9] = (u8)((u32)v710.e[9] | (u32)v709.e[9]);
-    v713.e[10] = (u8)((u32)v710.e[10] | (u32)v709.e[10]);
-    v713.e[11] = (u8)((u32)v710.e[11] | (u32)v709.e[11]);
-    v713.e[12] = (u8)((u32)v710.e[12] | (u32)v709.e[12]);
-    v713.e[13] = (u8)((u32)v710.e[13] | (u32)v709.e[13]);
-    v713.e[14] = (u8)((u32)v710.e[14] | (u32)v709.e[14]);
-    v713.e[15] = (u8)((u32)v710.e[15] | (u32)v709.e[15]);
-    v714.e[0] = (u8)((u32)v713.e[0] | (u32)v711.e[0]);
-    v714.e[1] = (u8)((u32)v713.e[1] | (u32)v711.e[1]);
-    v714.e[2] = (u8)((u32)v713.e[2] | (u32)v711.e[2]);
-    v714.e[3] = (u8)((u32)v713.e[3] | (u32)v711.e[3]);
-    v714.e[4] = (u8)((u32)v713.e[4] | (u32)v711.e[4]);
-    v714.e[5] = (u8)((u32)v713.e[5] | (u32)v711.e[5]);
-    v714.e[6] = (u8)((u32)v713.e[6] | (u32)v711.e[6]);
-    v714.e[7] = (u8)((u32)v713.e[7] | (u32)v711.e[7]);
-    v714.e[8] = (u8)((u32)v713.e[8] | (u32)v711.e[8]);
-    v714.e[9] = (u8)((u32)v713.e[9] | (u32)v711.e[9]);
-    v714.e[10] = (u8)((u32)v713.e[10] | (u32)v711.e[10]);
-    v714.e[11] = (u8)((u32)v713.e[11] | (u32)v711.e[11]);
-    v714.e[12] = (u8)((u32)v713.e[12] | (u32)v711.e[12]);
-    v714.e[13] = (u8)((u32)v713.e[13] | (u32)v711.e[13]);
-    v714.e[14] = (u8)((u32)v713.e[14] | (u32)v711.e[14]);
-    v714.e[15] = (u8)((u32)v713.e[15] | (u32)v711.e[15]);
-    v715.e[0] = (u8)((u32)v714.e[0] | (u32)v712.e[0]);
-    v715.e[1] = (u8)((u32)v714.e[1] | (u32)v712.e[1]);
-    v715.e[2] = (u8)((u32)v714.e[2] | (u32)v712.e[2]);
-    v715.e[3] = (u8)((u32)v714.e[3] | (u32)v712.e[3]);
-    v715.e[4] = (u8)((u32)v714.e[4] | (u32)v712.e[4]);
-    v715.e[5] = (u8)((u32)v714.e[5] | (u32)v712.e[5]);
-    v715.e[6] = (u8)((u32)v714.e[6] | (u32)v712.e[6]);
-    v715.e[7] = (u8)((u32)v714.e[7] | (u32)v712.e[7]);
-    v715.e[8] = (u8)((u32)v714.e[8] | (u32)v712.e[8]);
-    v715.e[9] = (u8)((u32)v714.e[9] | (u32)v712.e[9]);
-    v715.e[10] = (u8)((u32)v714.e[10] | (u32)v712.e[10]);
-    v715.e[11] = (u8)((u32)v714.e[11] | (u32)v712.e[11]);
-    v715.e[12] = (u8)((u32)v714.e[12] | (u32)v712.e[12]);
-    v715.e[13] = (u8)((u32)v714.e[13] | (u32)v712.e[13]);
-    v715.e[14] = (u8)((u32)v714.e[14] | (u32)v712.e[14]);
-    v715.e[15] = (u8)((u32)v714.e[15] | (u32)v712.e[15]);
-    v716.e[0] = (i8)v715.e[0] < (i8)0u;
-    v716.e[1] = (i8)v715.e[1] < (i8)0u;
-    v716.e[2] = (i8)v715.e[2] < (i8)0u;
-    v716.e[3] = (i8)v715.e[3] < (i8)0u;
-    v716.e[4] = (i8)v715.e[4] < (i8)0u;
-    v716.e[5] = (i8)v715.e[5] < (i8)0u;
-    v716.e[6] = (i8)v715.e[6] < (i8)0u;
-    v716.e[7] = (i8)v715.e[7] < (i8)0u;
-    v716.e[8] = (i8)v715.e[8] < (i8)0u;
-    v716.e[9] = (i8)v715.e[9] < (i8)0u;
-    v716.e[10] = (i8)v715.e[10] < (i8)0u;
-    v716.e[11] = (i8)v715.e[11] < (i8)0u;
-    v716.e[12] = (i8)v715.e[12] < (i8)0u;
-    v716.e[13] = (i8)v715.e[13] < (i8)0u;
-    v716.e[14] = (i8)v715.e[14] < (i8)0u;
-    v716.e[15] = (i8)v715.e[15] < (i8)0u;
-    v717 = (u16)((u32)v716.e[0] << 0 | (u32)v716.e[1] << 1 | (u32)v716.e[2] << 2 | (u32)v716.e[3] << 3 | (u32)v716.e[4] << 4 | (u32)v716.e[5] << 5 | (u32)v716.e[6] << 6 | (u32)v716.e[7] << 7 | (u32)v716.e[8] << 8 | (u32)v716.e[9] << 9 | (u32)v716.e[10] << 10 | (u32)v716.e[11] << 11 | (u32)v716.e[12] << 12 | (u32)v716.e[13] << 13 | (u32)v716.e[14] << 14 | (u32)v716.e[15] << 15);
-    v718 = v717 == 0u;
-    if (v718) { goto L41; }
+    v708 = v245 + v16 * 1u;
+    v709.e[0] = load8(v708 + 0u);
+    v709.e[1] = load8(v708 + 1u);
+    v709.e[2] = load8(v708 + 2u);
+    v709.e[3] = load8(v708 + 3u);
+    v709.e[4] = load8(v708 + 4u);
+    v709.e[5] = load8(v708 + 5u);
+    v709.e[6] = load8(v708 + 6u);
+    v709.e[7] = load8(v708 + 7u);
+    v709.e[8] = load8(v708 + 8u);
+    v709.e[9] = load8(v708 + 9u);
+    v709.e[10] = load8(v708 + 10u);
+    v709.e[11] = load8(v708 + 11u);
+    v709.e[12] = load8(v708 + 12u);
+    v709.e[13] = load8(v708 + 13u);
+    v709.e[14] = load8(v708 + 14u);
+    v709.e[15] = load8(v708 + 15u);
+    v709.e[16] = load8(v708 + 16u);
+    v709.e[17] = load8(v708 + 17u);
+    v709.e[18] = load8(v708 + 18u);
+    v709.e[19] = load8(v708 + 19u);
+    v709.e[20] = load8(v708 + 20u);
+    v709.e[21] = load8(v708 + 21u);
+    v709.e[22] = load8(v708 + 22u);
+    v709.e[23] = load8(v708 + 23u);
+    v709.e[24] = load8(v708 + 24u);
+    v709.e[25] = load8(v708 + 25u);
+    v709.e[26] = load8(v708 + 26u);
+    v709.e[27] = load8(v708 + 27u);
+    v709.e[28] = load8(v708 + 28u);
+    v709.e[29] = load8(v708 + 29u);
+    v709.e[30] = load8(v708 + 30u);
+    v709.e[31] = load8(v708 + 31u);
+    v709.e[32] = load8(v708 + 32u);
+    v709.e[33] = load8(v708 + 33u);
+    v709.e[34] = load8(v708 + 34u);
+    v709.e[35] = load8(v708 + 35u);
+    v709.e[36] = load8(v708 + 36u);
+    v709.e[37] = load8(v708 + 37u);
+    v709.e[38] = load8(v708 + 38u);
+    v709.e[39] = load8(v708 + 39u);
+    v709.e[40] = load8(v708 + 40u);
+    v709.e[41] = load8(v708 + 41u);
+    v709.e[42] = load8(v708 + 42u);
+    v709.e[43] = load8(v708 + 43u);
+    v709.e[44] = load8(v708 + 44u);
+    v709.e[45] = load8(v708 + 45u);
+    v709.e[46] = load8(v708 + 46u);
+    v709.e[47] = load8(v708 + 47u);
+    v709.e[48] = load8(v708 + 48u);
+    v709.e[49] = load8(v708 + 49u);
+    v709.e[50] = load8(v708 + 50u);
+    v709.e[51] = load8(v708 + 51u);
+    v709.e[52] = load8(v708 + 52u);
+    v709.e[53] = load8(v708 + 53u);
+    v709.e[54] = load8(v708 + 54u);
+    v709.e[55] = load8(v708 + 55u);
+    v709.e[56] = load8(v708 + 56u);
+    v709.e[57] = load8(v708 + 57u);
+    v709.e[58] = load8(v708 + 58u);
+    v709.e[59] = load8(v708 + 59u);
+    v709.e[60] = load8(v708 + 60u);
+    v709.e[61] = load8(v708 + 61u);
+    v709.e[62] = load8(v708 + 62u);
+    v709.e[63] = load8(v708 + 63u);
+    v710 = v253 + v16 * 1u;
+    v711.e[0] = load8(v710 + 0u);
+    v711.e[1] = load8(v710 + 1u);
+    v711.e[2] = load8(v710 + 2u);
+    v711.e[3] = load8(v710 + 3u);
+    v711.e[4] = load8(v710 + 4u);
+    v711.e[5] = load8(v710 + 5u);
+    v711.e[6] = load8(v710 + 6u);
+    v711.e[7] = load8(v710 + 7u);
+    v711.e[8] = load8(v710 + 8u);
+    v711.e[9] = load8(v710 + 9u);
+    v711.e[10] = load8(v710 + 10u);
+    v711.e[11] = load8(v710 + 11u);
+    v711.e[12] = load8(v710 + 12u);
+    v711.e[13] = load8(v710 + 13u);
+    v711.e[14] = load8(v710 + 14u);
+    v711.e[15] = load8(v710 + 15u);
+    v711.e[16] = load8(v710 + 16u);
+    v711.e[17] = load8(v710 + 17u);
+    v711.e[18] = load8(v710 + 18u);
+    v711.e[19] = load8(v710 + 19u);
+    v711.e[20] = load8(v710 + 20u);
+    v711.e[21] = load8(v710 + 21u);
+    v711.e[22] = load8(v710 + 22u);
+    v711.e[23] = load8(v710 + 23u);
+    v711.e[24] = load8(v710 + 24u);
+    v711.e[25] = load8(v710 + 25u);
+    v711.e[26] = load8(v710 + 26u);
+    v711.e[27] = load8(v710 + 27u);
+    v711.e[28] = load8(v710 + 28u);
+    v711.e[29] = load8(v710 + 29u);
+    v711.e[30] = load8(v710 + 30u);
+    v711.e[31] = load8(v710 + 31u);
+    v711.e[32] = load8(v710 + 32u);
+    v711.e[33] = load8(v710 + 33u);
+    v711.e[34] = load8(v710 + 34u);
+    v711.e[35] = load8(v710 + 35u);
+    v711.e[36] = load8(v710 + 36u);
+    v711.e[37] = load8(v710 + 37u);
+    v711.e[38] = load8(v710 + 38u);
+    v711.e[39] = load8(v710 + 39u);
+    v711.e[40] = load8(v710 + 40u);
+    v711.e[41] = load8(v710 + 41u);
+    v711.e[42] = load8(v710 + 42u);
+    v711.e[43] = load8(v710 + 43u);
+    v711.e[44] = load8(v710 + 44u);
+    v711.e[45] = load8(v710 + 45u);
+    v711.e[46] = load8(v710 + 46u);
+    v711.e[47] = load8(v710 + 47u);
+    v711.e[48] = load8(v710 + 48u);
+    v711.e[49] = load8(v710 + 49u);
+    v711.e[50] = load8(v710 + 50u);
+    v711.e[51] = load8(v710 + 51u);
+    v711.e[52] = load8(v710 + 52u);
+    v711.e[53] = load8(v710 + 53u);
+    v711.e[54] = load8(v710 + 54u);
+    v711.e[55] = load8(v710 + 55u);
+    v711.e[56] = load8(v710 + 56u);
+    v711.e[57] = load8(v710 + 57u);
+    v711.e[58] = load8(v710 + 58u);
+    v711.e[59] = load8(v710 + 59u);
+    v711.e[60] = load8(v710 + 60u);
+    v711.e[61] = load8(v710 + 61u);
+    v711.e[62] = load8(v710 + 62u);
+    v711.e[63] = load8(v710 + 63u);
+    v712.e[0] = v709.e[0] != v711.e[0];
+    v712.e[1] = v709.e[1] != v711.e[1];
+    v712.e[2] = v709.e[2] != v711.e[2];
+    v712.e[3] = v709.e[3] != v711.e[3];
+    v712.e[4] = v709.e[4] != v711.e[4];
+    v712.e[5] = v709.e[5] != v711.e[5];
+    v712.e[6] = v709.e[6] != v711.e[6];
+    v712.e[7] = v709.e[7] != v711.e[7];
+    v712.e[8] = v709.e[8] != v711.e[8];
+    v712.e[9] = v709.e[9] != v711.e[9];
+    v712.e[10] = v709.e[10] != v711.e[10];
+    v712.e[11] = v709.e[11] != v711.e[11];
+    v712.e[12] = v709.e[12] != v711.e[12];
+    v712.e[13] = v709.e[13] != v711.e[13];
+    v712.e[14] = v709.e[14] != v711.e[14];
+    v712.e[15] = v709.e[15] != v711.e[15];
+    v712.e[16] = v709.e[16] != v711.e[16];
+    v712.e[17] = v709.e[17] != v711.e[17];
+    v712.e[18] = v709.e[18] != v711.e[18];
+    v712.e[19] = v709.e[19] != v711.e[19];
+    v712.e[20] = v709.e[20] != v711.e[20];
+    v712.e[21] = v709.e[21] != v711.e[21];
+    v712.e[22] = v709.e[22] != v711.e[22];
+    v712.e[23] = v709.e[23] != v711.e[23];
+    v712.e[24] = v709.e[24] != v711.e[24];
+    v712.e[25] = v709.e[25] != v711.e[25];
+    v712.e[26] = v709.e[26] != v711.e[26];
+    v712.e[27] = v709.e[27] != v711.e[27];
+    v712.e[28] = v709.e[28] != v711.e[28];
+    v712.e[29] = v709.e[29] != v711.e[29];
+    v712.e[30] = v709.e[30] != v711.e[30];
+    v712.e[31] = v709.e[31] != v711.e[31];
+    v712.e[32] = v709.e[32] != v711.e[32];
+    v712.e[33] = v709.e[33] != v711.e[33];
+    v712.e[34] = v709.e[34] != v711.e[34];
+    v712.e[35] = v709.e[35] != v711.e[35];
+    v712.e[36] = v709.e[36] != v711.e[36];
+    v712.e[37] = v709.e[37] != v711.e[37];
+    v712.e[38] = v709.e[38] != v711.e[38];
+    v712.e[39] = v709.e[39] != v711.e[39];
+    v712.e[40] = v709.e[40] != v711.e[40];
+    v712.e[41] = v709.e[41] != v711.e[41];
+    v712.e[42] = v709.e[42] != v711.e[42];
+    v712.e[43] = v709.e[43] != v711.e[43];
+    v712.e[44] = v709.e[44] != v711.e[44];
+    v712.e[45] = v709.e[45] != v711.e[45];
+    v712.e[46] = v709.e[46] != v711.e[46];
+    v712.e[47] = v709.e[47] != v711.e[47];
+    v712.e[48] = v709.e[48] != v711.e[48];
+    v712.e[49] = v709.e[49] != v711.e[49];
+    v712.e[50] = v709.e[50] != v711.e[50];
+    v712.e[51] = v709.e[51] != v711.e[51];
+    v712.e[52] = v709.e[52] != v711.e[52];
+    v712.e[53] = v709.e[53] != v711.e[53];
+    v712.e[54] = v709.e[54] != v711.e[54];
+    v712.e[55] = v709.e[55] != v711.e[55];
+    v712.e[56] = v709.e[56] != v711.e[56];
+    v712.e[57] = v709.e[57] != v711.e[57];
+    v712.e[58] = v709.e[58] != v711.e[58];
+    v712.e[59] = v709.e[59] != v711.e[59];
+    v712.e[60] = v709.e[60] != v711.e[60];
+    v712.e[61] = v709.e[61] != v711.e[61];
+    v712.e[62] = v709.e[62] != v711.e[62];
+    v712.e[63] = v709.e[63] != v711.e[63];
+    v713.e[0] = (u8)((i8)((i8)(u8)((u32)v712.e[0] << 7) >> 7));
+    v713.e[1] = (u8)((i8)((i8)(u8)((u32)v712.e[1] << 7) >> 7));
+    v713.e[2] = (u8)((i8)((i8)(u8)((u32)v712.e[2] << 7) >> 7));
+    v713.e[3] = (u8)((i8)((i8)(u8)((u32)v712.e[3] << 7) >> 7));
+    v713.e[4] = (u8)((i8)((i8)(u8)((u32)v712.e[4] << 7) >> 7));
+    v713.e[5] = (u8)((i8)((i8)(u8)((u32)v712.e[5] << 7) >> 7));
+    v713.e[6] = (u8)((i8)((i8)(u8)((u32)v712.e[6] << 7) >> 7));
+    v713.e[7] = (u8)((i8)((i8)(u8)((u32)v712.e[7] << 7) >> 7));
+    v713.e[8] = (u8)((i8)((i8)(u8)((u32)v712.e[8] << 7) >> 7));
+    v713.e[9] = (u8)((i8)((i8)(u8)((u32)v712.e[9] << 7) >> 7));
+    v713.e[10] = (u8)((i8)((i8)(u8)((u32)v712.e[10] << 7) >> 7));
+    v713.e[11] = (u8)((i8)((i8)(u8)((u32)v712.e[11] << 7) >> 7));
+    v713.e[12] = (u8)((i8)((i8)(u8)((u32)v712.e[12] << 7) >> 7));
+    v713.e[13] = (u8)((i8)((i8)(u8)((u32)v712.e[13] << 7) >> 7));
+    v713.e[14] = (u8)((i8)((i8)(u8)((u32)v712.e[14] << 7) >> 7));
+    v713.e[15] = (u8)((i8)((i8)(u8)((u32)v712.e[15] << 7) >> 7));
+    v713.e[16] = (u8)((i8)((i8)(u8)((u32)v712.e[16] << 7) >> 7));
+    v713.e[17] = (u8)((i8)((i8)(u8)((u32)v712.e[17] << 7) >> 7));
+    v713.e[18] = (u8)((i8)((i8)(u8)((u32)v712.e[18] << 7) >> 7));
+    v713.e[19] = (u8)((i8)((i8)(u8)((u32)v712.e[19] << 7) >> 7));
+    v713.e[20] = (u8)((i8)((i8)(u8)((u32)v712.e[20] << 7) >> 7));
+    v713.e[21] = (u8)((i8)((i8)(u8)((u32)v712.e[21] << 7) >> 7));
+    v713.e[22] = (u8)((i8)((i8)(u8)((u32)v712.e[22] << 7) >> 7));
+    v713.e[23] = (u8)((i8)((i8)(u8)((u32)v712.e[23] << 7) >> 7));
+    v713.e[24] = (u8)((i8)((i8)(u8)((u32)v712.e[24] << 7) >> 7));
+    v713.e[25] = (u8)((i8)((i8)(u8)((u32)v712.e[25] << 7) >> 7));
+    v713.e[26] = (u8)((i8)((i8)(u8)((u32)v712.e[26] << 7) >> 7));
+    v713.e[27] = (u8)((i8)((i8)(u8)((u32)v712.e[27] << 7) >> 7));
+    v713.e[28] = (u8)((i8)((i8)(u8)((u32)v712.e[28] << 7) >> 7));
+    v713.e[29] = (u8)((i8)((i8)(u8)((u32)v712.e[29] << 7) >> 7));
+    v713.e[30] = (u8)((i8)((i8)(u8)((u32)v712.e[30] << 7) >> 7));
+    v713.e[31] = (u8)((i8)((i8)(u8)((u32)v712.e[31] << 7) >> 7));
+    v713.e[32] = (u8)((i8)((i8)(u8)((u32)v712.e[32] << 7) >> 7));
+    v713.e[33] = (u8)((i8)((i8)(u8)((u32)v712.e[33] << 7) >> 7));
+    v713.e[34] = (u8)((i8)((i8)(u8)((u32)v712.e[34] << 7) >> 7));
+    v713.e[35] = (u8)((i8)((i8)(u8)((u32)v712.e[35] << 7) >> 7));
+    v713.e[36] = (u8)((i8)((i8)(u8)((u32)v712.e[36] << 7) >> 7));
+    v713.e[37] = (u8)((i8)((i8)(u8)((u32)v712.e[37] << 7) >> 7));
+    v713.e[38] = (u8)((i8)((i8)(u8)((u32)v712.e[38] << 7) >> 7));
+    v713.e[39] = (u8)((i8)((i8)(u8)((u32)v712.e[39] << 7) >> 7));
+    v713.e[40] = (u8)((i8)((i8)(u8)((u32)v712.e[40] << 7) >> 7));
+    v713.e[41] = (u8)((i8)((i8)(u8)((u32)v712.e[41] << 7) >> 7));
+    v713.e[42] = (u8)((i8)((i8)(u8)((u32)v712.e[42] << 7) >> 7));
+    v713.e[43] = (u8)((i8)((i8)(u8)((u32)v712.e[43] << 7) >> 7));
+    v713.e[44] = (u8)((i8)((i8)(u8)((u32)v712.e[44] << 7) >> 7));
+    v713.e[45] = (u8)((i8)((i8)(u8)((u32)v712.e[45] << 7) >> 7));
+    v713.e[46] = (u8)((i8)((i8)(u8)((u32)v712.e[46] << 7) >> 7));
+    v713.e[47] = (u8)((i8)((i8)(u8)((u32)v712.e[47] << 7) >> 7));
+    v713.e[48] = (u8)((i8)((i8)(u8)((u32)v712.e[48] << 7) >> 7));
+    v713.e[49] = (u8)((i8)((i8)(u8)((u32)v712.e[49] << 7) >> 7));
+    v713.e[50] = (u8)((i8)((i8)(u8)((u32)v712.e[50] << 7) >> 7));
+    v713.e[51] = (u8)((i8)((i8)(u8)((u32)v712.e[51] << 7) >> 7));
+    v713.e[52] = (u8)((i8)((i8)(u8)((u32)v712.e[52] << 7) >> 7));
+    v713.e[53] = (u8)((i8)((i8)(u8)((u32)v712.e[53] << 7) >> 7));
+    v713.e[54] = (u8)((i8)((i8)(u8)((u32)v712.e[54] << 7) >> 7));
+    v713.e[55] = (u8)((i8)((i8)(u8)((u32)v712.e[55] << 7) >> 7));
+    v713.e[56] = (u8)((i8)((i8)(u8)((u32)v712.e[56] << 7) >> 7));
+    v713.e[57] = (u8)((i8)((i8)(u8)((u32)v712.e[57] << 7) >> 7));
+    v713.e[58] = (u8)((i8)((i8)(u8)((u32)v712.e[58] << 7) >> 7));
+    v713.e[59] = (u8)((i8)((i8)(u8)((u32)v712.e[59] << 7) >> 7));
+    v713.e[60] = (u8)((i8)((i8)(u8)((u32)v712.e[60] << 7) >> 7));
+    v713.e[61] = (u8)((i8)((i8)(u8)((u32)v712.e[61] << 7) >> 7));
+    v713.e[62] = (u8)((i8)((i8)(u8)((u32)v712.e[62] << 7) >> 7));
+    v713.e[63] = (u8)((i8)((i8)(u8)((u32)v712.e[63] << 7) >> 7));
+    v714.e[0] = v713.e[0];
+    v714.e[1] = v713.e[1];
+    v714.e[2] = v713.e[2];
+    v714.e[3] = v713.e[3];
+    v714.e[4] = v713.e[4];
+    v714.e[5] = v713.e[5];
+    v714.e[6] = v713.e[6];
+    v714.e[7] = v713.e[7];
+    v714.e[8] = v713.e[8];
+    v714.e[9] = v713.e[9];
+    v714.e[10] = v713.e[10];
+    v714.e[11] = v713.e[11];
+    v714.e[12] = v713.e[12];
+    v714.e[13] = v713.e[13];
+    v714.e[14] = v713.e[14];
+    v714.e[15] = v713.e[15];
+    v715.e[0] = v713.e[16];
+    v715.e[1] = v713.e[17];
+    v715.e[2] = v713.e[18];
+    v715.e[3] = v713.e[19];
+    v715.e[4] = v713.e[20];
+    v715.e[5] = v713.e[21];
+    v715.e[6] = v713.e[22];
+    v715.e[7] = v713.e[23];
+    v715.e[8] = v713.e[24];
+    v715.e[9] = v713.e[25];
+    v715.e[10] = v713.e[26];
+    v715.e[11] = v713.e[27];
+    v715.e[12] = v713.e[28];
+    v715.e[13] = v713.e[29];
+    v715.e[14] = v713.e[30];
+    v715.e[15] = v713.e[31];
+    v716.e[0] = v713.e[32];
+    v716.e[1] = v713.e[33];
+    v716.e[2] = v713.e[34];
+    v716.e[3] = v713.e[35];
+    v716.e[4] = v713.e[36];
+    v716.e[5] = v713.e[37];
+    v716.e[6] = v713.e[38];
+    v716.e[7] = v713.e[39];
+    v716.e[8] = v713.e[40];
+    v716.e[9] = v713.e[41];
+    v716.e[10] = v713.e[42];
+    v716.e[11] = v713.e[43];
+    v716.e[12] = v713.e[44];
+    v716.e[13] = v713.e[45];
+    v716.e[14] = v713.e[46];
+    v716.e[15] = v713.e[47];
+    v717.e[0] = v713.e[48];
+    v717.e[1] = v713.e[49];
+    v717.e[2] = v713.e[50];
+    v717.e[3] = v713.e[51];
+    v717.e[4] = v713.e[52];
+    v717.e[5] = v713.e[53];
+    v717.e[6] = v713.e[54];
+    v717.e[7] = v713.e[55];
+    v717.e[8] = v713.e[56];
+    v717.e[9] = v713.e[57];
+    v717.e[10] = v713.e[58];
+    v717.e[11] = v713.e[59];
+    v717.e[12] = v713.e[60];
+    v717.e[13] = v713.e[61];
+    v717.e[14] = v713.e[62];
+    v717.e[15] = v713.e[63];
+    v718.e[0] = (u8)((u32)v715.e[0] | (u32)v714.e[0]);
+    v718.e[1] = (u8)((u32)v715.e[1] | (u32)v714.e[1]);
+    v718.e[2] = (u8)((u32)v715.e[2] | (u32)v714.e[2]);
+    v718.e[3] = (u8)((u32)v715.e[3] | (u32)v714.e[3]);
+    v718.e[4] = (u8)((u32)v715.e[4] | (u32)v714.e[4]);
+    v718.e[5] = (u8)((u32)v715.e[5] | (u32)v714.e[5]);
+    v718.e[6] = (u8)((u32)v715.e[6] | (u32)v714.e[6]);
+    v718.e[7] = (u8)((u32)v715.e[7] | (u32)v714.e[7]);
+    v718.e[8] = (u8)((u32)v715.e[8] | (u32)v714.e[8]);
+    v718.e[9] = (u8)((u32)v715.e[9] | (u32)v714.e[9]);
+    v718.e[10] = (u8)((u32)v715.e[10] | (u32)v714.e[10]);
+    v718.e[11] = (u8)((u32)v715.e[11] | (u32)v714.e[11]);
+    v718.e[12] = (u8)((u32)v715.e[12] | (u32)v714.e[12]);
+    v718.e[13] = (u8)((u32)v715.e[13] | (u32)v714.e[13]);
+    v718.e[14] = (u8)((u32)v715.e[14] | (u32)v714.e[14]);
+    v718.e[15] = (u8)((u32)v715.e[15] | (u32)v714.e[15]);
+    v719.e[0] = (u8)((u32)v718.e[0] | (u32)v716.e[0]);
+    v719.e[1] = (u8)((u32)v718.e[1] | (u32)v716.e[1]);
+    v719.e[2] = (u8)((u32)v718.e[2] | (u32)v716.e[2]);
+    v719.e[3] = (u8)((u32)v718.e[3] | (u32)v716.e[3]);
+    v719.e[4] = (u8)((u32)v718.e[4] | (u32)v716.e[4]);
+    v719.e[5] = (u8)((u32)v718.e[5] | (u32)v716.e[5]);
+    v719.e[6] = (u8)((u32)v718.e[6] | (u32)v716.e[6]);
+    v719.e[7] = (u8)((u32)v718.e[7] | (u32)v716.e[7]);
+    v719.e[8] = (u8)((u32)v718.e[8] | (u32)v716.e[8]);
+    v719.e[9] = (u8)((u32)v718.e[9] | (u32)v716.e[9]);
+    v719.e[10] = (u8)((u32)v718.e[10] | (u32)v716.e[10]);
+    v719.e[11] = (u8)((u32)v718.e[11] | (u32)v716.e[11]);
+    v719.e[12] = (u8)((u32)v718.e[12] | (u32)v716.e[12]);
+    v719.e[13] = (u8)((u32)v718.e[13] | (u32)v716.e[13]);
+    v719.e[14] = (u8)((u32)v718.e[14] | (u32)v716.e[14]);
+    v719.e[15] = (u8)((u32)v718.e[15] | (u32)v716.e[15]);
+    v720.e[0] = (u8)((u32)v719.e[0] | (u32)v717.e[0]);
+    v720.e[1] = (u8)((u32)v719.e[1] | (u32)v717.e[1]);
+    v720.e[2] = (u8)((u32)v719.e[2] | (u32)v717.e[2]);
+    v720.e[3] = (u8)((u32)v719.e[3] | (u32)v717.e[3]);
+    v720.e[4] = (u8)((u32)v719.e[4] | (u32)v717.e[4]);
+    v720.e[5] = (u8)((u32)v719.e[5] | (u32)v717.e[5]);
+    v720.e[6] = (u8)((u32)v719.e[6] | (u32)v717.e[6]);
+    v720.e[7] = (u8)((u32)v719.e[7] | (u32)v717.e[7]);
+    v720.e[8] = (u8)((u32)v719.e[8] | (u32)v717.e[8]);
+    v720.e[9] = (u8)((u32)v719.e[9] | (u32)v717.e[9]);
+    v720.e[10] = (u8)((u32)v719.e[10] | (u32)v717.e[10]);
+    v720.e[11] = (u8)((u32)v719.e[11] | (u32)v717.e[11]);
+    v720.e[12] = (u8)((u32)v719.e[12] | (u32)v717.e[12]);
+    v720.e[13] = (u8)((u32)v719.e[13] | (u32)v717.e[13]);
+    v720.e[14] = (u8)((u32)v719.e[14] | (u32)v717.e[14]);
+    v720.e[15] = (u8)((u32)v719.e[15] | (u32)v717.e[15]);
+    v721.e[0] = (i8)v720.e[0] < (i8)0u;
+    v721.e[1] = (i8)v720.e[1] < (i8)0u;
+    v721.e[2] = (i8)v720.e[2] < (i8)0u;
+    v721.e[3] = (i8)v720.e[3] < (i8)0u;
+    v721.e[4] = (i8)v720.e[4] < (i8)0u;
+    v721.e[5] = (i8)v720.e[5] < (i8)0u;
+    v721.e[6] = (i8)v720.e[6] < (i8)0u;
+    v721.e[7] = (i8)v720.e[7] < (i8)0u;
+    v721.e[8] = (i8)v720.e[8] < (i8)0u;
+    v721.e[9] = (i8)v720.e[9] < (i8)0u;
+    v721.e[10] = (i8)v720.e[10] < (i8)0u;
+    v721.e[11] = (i8)v720.e[11] < (i8)0u;
+    v721.e[12] = (i8)v720.e[12] < (i8)0u;
+    v721.e[13] = (i8)v720.e[13] < (i8)0u;
+    v721.e[14] = (i8)v720.e[14] < (i8)0u;
+    v721.e[15] = (i8)v720.e[15] < (i8)0u;
+    v722 = (u16)((u32)v721.e[0] << 0 | (u32)v721.e[1] << 1 | (u32)v721.e[2] << 2 | (u32)v721.e[3] << 3 | (u32)v721.e[4] << 4 | (u32)v721.e[5] << 5 | (u32)v721.e[6] << 6 | (u32)v721.e[7] << 7 | (u32)v721.e[8] << 8 | (u32)v721.e[9] << 9 | (u32)v721.e[10] << 10 | (u32)v721.e[11] << 11 | (u32)v721.e[12] << 12 | (u32)v721.e[13] << 13 | (u32)v721.e[14] << 14 | (u32)v721.e[15] << 15);
+    v723 = v722 == 0u;
+    if (v723) { goto L41; }
     else { v17 = 1u; goto L44; }
 L43:;
-    v719 = (u64)((u64)v242 + (u64)UINT64_C(18446744073709551552));
-    v720 = v240 + v719 * 1u;
-    v721.e[0] = load8(v720 + 0u);
-    v721.e[1] = load8(v720 + 1u);
-    v721.e[2] = load8(v720 + 2u);
-    v721.e[3] = load8(v720 + 3u);
-    v721.e[4] = load8(v720 + 4u);
-    v721.e[5] = load8(v720 + 5u);
-    v721.e[6] = load8(v720 + 6u);
-    v721.e[7] = load8(v720 + 7u);
-    v721.e[8] = load8(v720 + 8u);
-    v721.e[9] = load8(v720 + 9u);
-    v721.e[10] = load8(v720 + 10u);
-    v721.e[11] = load8(v720 + 11u);
-    v721.e[12] = load8(v720 + 12u);
-    v721.e[13] = load8(v720 + 13u);
-    v721.e[14] = load8(v720 + 14u);
-    v721.e[15] = load8(v720 + 15u);
-    v721.e[16] = load8(v720 + 16u);
-    v721.e[17] = load8(v720 + 17u);
-    v721.e[18] = load8(v720 + 18u);
-    v721.e[19] = load8(v720 + 19u);
-    v721.e[20] = load8(v720 + 20u);
-    v721.e[21] = load8(v720 + 21u);
-    v721.e[22] = load8(v720 + 22u);
-    v721.e[23] = load8(v720 + 23u);
-    v721.e[24] = load8(v720 + 24u);
-    v721.e[25] = load8(v720 + 25u);
-    v721.e[26] = load8(v720 + 26u);
-    v721.e[27] = load8(v720 + 27u);
-    v721.e[28] = load8(v720 + 28u);
-    v721.e[29] = load8(v720 + 29u);
-    v721.e[30] = load8(v720 + 30u);
-    v721.e[31] = load8(v720 + 31u);
-    v721.e[32] = load8(v720 + 32u);
-    v721.e[33] = load8(v720 + 33u);
-    v721.e[34] = load8(v720 + 34u);
-    v721.e[35] = load8(v720 + 35u);
-    v721.e[36] = load8(v720 + 36u);
-    v721.e[37] = load8(v720 + 37u);
-    v721.e[38] = load8(v720 + 38u);
-    v721.e[39] = load8(v720 + 39u);
-    v721.e[40] = load8(v720 + 40u);
-    v721.e[41] = load8(v720 + 41u);
-    v721.e[42] = load8(v720 + 42u);
-    v721.e[43] = load8(v720 + 43u);
-    v721.e[44] = load8(v720 + 44u);
-    v721.e[45] = load8(v720 + 45u);
-    v721.e[46] = load8(v720 + 46u);
-    v721.e[47] = load8(v720 + 47u);
-    v721.e[48] = load8(v720 + 48u);
-    v721.e[49] = load8(v720 + 49u);
-    v721.e[50] = load8(v720 + 50u);
-    v721.e[51] = load8(v720 + 51u);
-    v721.e[52] = load8(v720 + 52u);
-    v721.e[53] = load8(v720 + 53u);
-    v721.e[54] = load8(v720 + 54u);
-    v721.e[55] = load8(v720 + 55u);
-    v721.e[56] = load8(v720 + 56u);
-    v721.e[57] = load8(v720 + 57u);
-    v721.e[58] = load8(v720 + 58u);
-    v721.e[59] = load8(v720 + 59u);
-    v721.e[60] = load8(v720 + 60u);
-    v721.e[61] = load8(v720 + 61u);
-    v721.e[62] = load8(v720 + 62u);
-    v721.e[63] = load8(v720 + 63u);
-    v722 = v248 + v719 * 1u;
-    v723.e[0] = load8(v722 + 0u);
-    v723.e[1] = load8(v722 + 1u);
-    v723.e[2] = load8(v722 + 2u);
-    v723.e[3] = load8(v722 + 3u);
-    v723.e[4] = load8(v722 + 4u);
-    v723.e[5] = load8(v722 + 5u);
-    v723.e[6] = load8(v722 + 6u);
-    v723.e[7] = load8(v722 + 7u);
-    v723.e[8] = load8(v722 + 8u);
-    v723.e[9] = load8(v722 + 9u);
-    v723.e[10] = load8(v722 + 10u);
-    v723.e[11] = load8(v722 + 11u);
-    v723.e[12] = load8(v722 + 12u);
-    v723.e[13] = load8(v722 + 13u);
-    v723.e[14] = load8(v722 + 14u);
-    v723.e[15] = load8(v722 + 15u);
-    v723.e[16] = load8(v722 + 16u);
-    v723.e[17] = load8(v722 + 17u);
-    v723.e[18] = load8(v722 + 18u);
-    v723.e[19] = load8(v722 + 19u);
-    v723.e[20] = load8(v722 + 20u);
-    v723.e[21] = load8(v722 + 21u);
-    v723.e[22] = load8(v722 + 22u);
-    v723.e[23] = load8(v722 + 23u);
-    v723.e[24] = load8(v722 + 24u);
-    v723.e[25] = load8(v722 + 25u);
-    v723.e[26] = load8(v722 + 26u);
-    v723.e[27] = load8(v722 + 27u);
-    v723.e[28] = load8(v722 + 28u);
-    v723.e[29] = load8(v722 + 29u);
-    v723.e[30] = load8(v722 + 30u);
-    v723.e[31] = load8(v722 + 31u);
-    v723.e[32] = load8(v722 + 32u);
-    v723.e[33] = load8(v722 + 33u);
-    v723.e[34] = load8(v722 + 34u);
-    v723.e[35] = load8(v722 + 35u);
-    v723.e[36] = load8(v722 + 36u);
-    v723.e[37] = load8(v722 + 37u);
-    v723.e[38] = load8(v722 + 38u);
-    v723.e[39] = load8(v722 + 39u);
-    v723.e[40] = load8(v722 + 40u);
-    v723.e[41] = load8(v722 + 41u);
-    v723.e[42] = load8(v722 + 42u);
-    v723.e[43] = load8(v722 + 43u);
-    v723.e[44] = load8(v722 + 44u);
-    v723.e[45] = load8(v722 + 45u);
-    v723.e[46] = load8(v722 + 46u);
-    v723.e[47] = load8(v722 + 47u);
-    v723.e[48] = load8(v722 + 48u);
-    v723.e[49] = load8(v722 + 49u);
-    v723.e[50] = load8(v722 + 50u);
-    v723.e[51] = load8(v722 + 51u);
-    v723.e[52] = load8(v722 + 52u);
-    v723.e[53] = load8(v722 + 53u);
-    v723.e[54] = load8(v722 + 54u);
-    v723.e[55] = load8(v722 + 55u);
-    v723.e[56] = load8(v722 + 56u);
-    v723.e[57] = load8(v722 + 57u);
-    v723.e[58] = load8(v722 + 58u);
-    v723.e[59] = load8(v722 + 59u);
-    v723.e[60] = load8(v722 + 60u);
-    v723.e[61] = load8(v722 + 61u);
-    v723.e[62] = load8(v722 + 62u);
-    v723.e[63] = load8(v722 + 63u);
-    v724.e[0] = v721.e[0] != v723.e[0];
-    v724.e[1] = v721.e[1] != v723.e[1];
-    v724.e[2] = v721.e[2] != v723.e[2];
-    v724.e[3] = v721.e[3] != v723.e[3];
-    v724.e[4] = v721.e[4] != v723.e[4];
-    v724.e[5] = v721.e[5] != v723.e[5];
-    v724.e[6] = v721.e[6] != v723.e[6];
-    v724.e[7] = v721.e[7] != v723.e[7];
-    v724.e[8] = v721.e[8] != v723.e[8];
-    v724.e[9] = v721.e[9] != v723.e[9];
-    v724.e[10] = v721.e[10] != v723.e[10];
-    v724.e[11] = v721.e[11] != v723.e[11];
-    v724.e[12] = v721.e[12] != v723.e[12];
-    v724.e[13] = v721.e[13] != v723.e[13];
-    v724.e[14] = v721.e[14] != v723.e[14];
-    v724.e[15] = v721.e[15] != v723.e[15];
-    v724.e[16] = v721.e[16] != v723.e[16];
-    v724.e[17] = v721.e[17] != v723.e[17];
-    v724.e[18] = v721.e[18] != v723.e[18];
-    v724.e[19] = v721.e[19] != v723.e[19];
-    v724.e[20] = v721.e[20] != v723.e[20];
-    v724.e[21] = v721.e[21] != v723.e[21];
-    v724.e[22] = v721.e[22] != v723.e[22];
-    v724.e[23] = v721.e[23] != v723.e[23];
-    v724.e[24] = v721.e[24] != v723.e[24];
-    v724.e[25] = v721.e[25] != v723.e[25];
-    v724.e[26] = v721.e[26] != v723.e[26];
-    v724.e[27] = v721.e[27] != v723.e[27];
-    v724.e[28] = v721.e[28] != v723.e[28];
-    v724.e[29] = v721.e[29] != v723.e[29];
-    v724.e[30] = v721.e[30] != v723.e[30];
-    v724.e[31] = v721.e[31] != v723.e[31];
-    v724.e[32] = v721.e[32] != v723.e[32];
-    v724.e[33] = v721.e[33] != v723.e[33];
-    v724.e[34] = v721.e[34] != v723.e[34];
-    v724.e[35] = v721.e[35] != v723.e[35];
-    v724.e[36] = v721.e[36] != v723.e[36];
-    v724.e[37] = v721.e[37] != v723.e[37];
-    v724.e[38] = v721.e[38] != v723.e[38];
-    v724.e[39] = v721.e[39] != v723.e[39];
-    v724.e[40] = v721.e[40] != v723.e[40];
-    v724.e[41] = v721.e[41] != v723.e[41];
-    v724.e[42] = v721.e[42] != v723.e[42];
-    v724.e[43] = v721.e[43] != v723.e[43];
-    v724.e[44] = v721.e[44] != v723.e[44];
-    v724.e[45] = v721.e[45] != v723.e[45];
-    v724.e[46] = v721.e[46] != v723.e[46];
-    v724.e[47] = v721.e[47] != v723.e[47];
-    v724.e[48] = v721.e[48] != v723.e[48];
-    v724.e[49] = v721.e[49] != v723.e[49];
-    v724.e[50] = v721.e[50] != v723.e[50];
-    v724.e[51] = v721.e[51] != v723.e[51];
-    v724.e[52] = v721.e[52] != v723.e[52];
-    v724.e[53] = v721.e[53] != v723.e[53];
-    v724.e[54] = v721.e[54] != v723.e[54];
-    v724.e[55] = v721.e[55] != v723.e[55];
-    v724.e[56] = v721.e[56] != v723.e[56];
-    v724.e[57] = v721.e[57] != v723.e[57];
-    v724.e[58] = v721.e[58] != v723.e[58];
-    v724.e[59] = v721.e[59] != v723.e[59];
-    v724.e[60] = v721.e[60] != v723.e[60];
-    v724.e[61] = v721.e[61] != v723.e[61];
-    v724.e[62] = v721.e[62] != v723.e[62];
-    v724.e[63] = v721.e[63] != v723.e[63];
-    v725.e[0] = (u8)((i8)((i8)(u8)((u32)v724.e[0] << 7) >> 7));
-    v725.e[1] = (u8)((i8)((i8)(u8)((u32)v724.e[1] << 7) >> 7));
-    v725.e[2] = (u8)((i8)((i8)(u8)((u32)v724.e[2] << 7) >> 7));
-    v725.e[3] = (u8)((i8)((i8)(u8)((u32)v724.e[3] << 7) >> 7));
-    v725.e[4] = (u8)((i8)((i8)(u8)((u32)v724.e[4] << 7) >> 7));
-    v725.e[5] = (u8)((i8)((i8)(u8)((u32)v724.e[5] << 7) >> 7));
-    v725.e[6] = (u8)((i8)((i8)(u8)((u32)v724.e[6] << 7) >> 7));
-    v725.e[7] = (u8)((i8)((i8)(u8)((u32)v724.e[7] << 7) >> 7));
-    v725.e[8] = (u8)((i8)((i8)(u8)((u32)v724.e[8] << 7) >> 7));
-    v725.e[9] = (u8)((i8)((i8)(u8)((u32)v724.e[9] << 7) >> 7));
-    v725.e[10] = (u8)((i8)((i8)(u8)((u32)v724.e[10] << 7) >> 7));
-    v725.e[11] = (u8)((i8)((i8)(u8)((u32)v724.e[11] << 7) >> 7));
-    v725.e[12] = (u8)((i8)((i8)(u8)((u32)v724.e[12] << 7) >> 7));
-    v725.e[13] = (u8)((i8)((i8)(u8)((u32)v724.e[13] << 7) >> 7));
-    v725.e[14] = (u8)((i8)((i8)(u8)((u32)v724.e[14] << 7) >> 7));
-    v725.e[15] = (u8)((i8)((i8)(u8)((u32)v724.e[15] << 7) >> 7));
-    v725.e[16] = (u8)((i8)((i8)(u8)((u32)v724.e[16] << 7) >> 7));
-    v725.e[17] = (u8)((i8)((i8)(u8)((u32)v724.e[17] << 7) >> 7));
-    v725.e[18] = (u8)((i8)((i8)(u8)((u32)v724.e[18] << 7) >> 7));
-    v725.e[19] = (u8)((i8)((i8)(u8)((u32)v724.e[19] << 7) >> 7));
-    v725.e[20] = (u8)((i8)((i8)(u8)((u32)v724.e[20] << 7) >> 7));
-    v725.e[21] = (u8)((i8)((i8)(u8)((u32)v724.e[21] << 7) >> 7));
-    v725.e[22] = (u8)((i8)((i8)(u8)((u32)v724.e[22] << 7) >> 7));
-    v725.e[23] = (u8)((i8)((i8)(u8)((u32)v724.e[23] << 7) >> 7));
-    v725.e[24] = (u8)((i8)((i8)(u8)((u32)v724.e[24] << 7) >> 7));
-    v725.e[25] = (u8)((i8)((i8)(u8)((u32)v724.e[25] << 7) >> 7));
-    v725.e[26] = (u8)((i8)((i8)(u8)((u32)v724.e[26] << 7) >> 7));
-    v725.e[27] = (u8)((i8)((i8)(u8)((u32)v724.e[27] << 7) >> 7));
-    v725.e[28] = (u8)((i8)((i8)(u8)((u32)v724.e[28] << 7) >> 7));
-    v725.e[29] = (u8)((i8)((i8)(u8)((u32)v724.e[29] << 7) >> 7));
-    v725.e[30] = (u8)((i8)((i8)(u8)((u32)v724.e[30] << 7) >> 7));
-    v725.e[31] = (u8)((i8)((i8)(u8)((u32)v724.e[31] << 7) >> 7));
-    v725.e[32] = (u8)((i8)((i8)(u8)((u32)v724.e[32] << 7) >> 7));
-    v725.e[33] = (u8)((i8)((i8)(u8)((u32)v724.e[33] << 7) >> 7));
-    v725.e[34] = (u8)((i8)((i8)(u8)((u32)v724.e[34] << 7) >> 7));
-    v725.e[35] = (u8)((i8)((i8)(u8)((u32)v724.e[35] << 7) >> 7));
-    v725.e[36] = (u8)((i8)((i8)(u8)((u32)v724.e[36] << 7) >> 7));
-    v725.e[37] = (u8)((i8)((i8)(u8)((u32)v724.e[37] << 7) >> 7));
-    v725.e[38] = (u8)((i8)((i8)(u8)((u32)v724.e[38] << 7) >> 7));
-    v725.e[39] = (u8)((i8)((i8)(u8)((u32)v724.e[39] << 7) >> 7));
-    v725.e[40] = (u8)((i8)((i8)(u8)((u32)v724.e[40] << 7) >> 7));
-    v725.e[41] = (u8)((i8)((i8)(u8)((u32)v724.e[41] << 7) >> 7));
-    v725.e[42] = (u8)((i8)((i8)(u8)((u32)v724.e[42] << 7) >> 7));
-    v725.e[43] = (u8)((i8)((i8)(u8)((u32)v724.e[43] << 7) >> 7));
-    v725.e[44] = (u8)((i8)((i8)(u8)((u32)v724.e[44] << 7) >> 7));
-    v725.e[45] = (u8)((i8)((i8)(u8)((u32)v724.e[45] << 7) >> 7));
-    v725.e[46] = (u8)((i8)((i8)(u8)((u32)v724.e[46] << 7) >> 7));
-    v725.e[47] = (u8)((i8)((i8)(u8)((u32)v724.e[47] << 7) >> 7));
-    v725.e[48] = (u8)((i8)((i8)(u8)((u32)v724.e[48] << 7) >> 7));
-    v725.e[49] = (u8)((i8)((i8)(u8)((u32)v724.e[49] << 7) >> 7));
-    v725.e[50] = (u8)((i8)((i8)(u8)((u32)v724.e[50] << 7) >> 7));
-    v725.e[51] = (u8)((i8)((i8)(u8)((u32)v724.e[51] << 7) >> 7));
-    v725.e[52] = (u8)((i8)((i8)(u8)((u32)v724.e[52] << 7) >> 7));
-    v725.e[53] = (u8)((i8)((i8)(u8)((u32)v724.e[53] << 7) >> 7));
-    v725.e[54] = (u8)((i8)((i8)(u8)((u32)v724.e[54] << 7) >> 7));
-    v725.e[55] = (u8)((i8)((i8)(u8)((u32)v724.e[55] << 7) >> 7));
-    v725.e[56] = (u8)((i8)((i8)(u8)((u32)v724.e[56] << 7) >> 7));
-    v725.e[57] = (u8)((i8)((i8)(u8)((u32)v724.e[57] << 7) >> 7));
-    v725.e[58] = (u8)((i8)((i8)(u8)((u32)v724.e[58] << 7) >> 7));
-    v725.e[59] = (u8)((i8)((i8)(u8)((u32)v724.e[59] << 7) >> 7));
-    v725.e[60] = (u8)((i8)((i8)(u8)((u32)v724.e[60] << 7) >> 7));
-    v725.e[61] = (u8)((i8)((i8)(u8)((u32)v724.e[61] << 7) >> 7));
-    v725.e[62] = (u8)((i8)((i8)(u8)((u32)v724.e[62] << 7) >> 7));
-    v725.e[63] = (u8)((i8)((i8)(u8)((u32)v724.e[63] << 7) >> 7));
-    v726.e[0] = v725.e[0];
-    v726.e[1] = v725.e[1];
-    v726.e[2] = v725.e[2];
-    v726.e[3] = v725.e[3];
-    v726.e[4] = v725.e[4];
-    v726.e[5] = v725.e[5];
-    v726.e[6] = v725.e[6];
-    v726.e[7] = v725.e[7];
-    v726.e[8] = v725.e[8];
-    v726.e[9] = v725.e[9];
-    v726.e[10] = v725.e[10];
-    v726.e[11] = v725.e[11];
-    v726.e[12] = v725.e[12];
-    v726.e[13] = v725.e[13];
-    v726.e[14] = v725.e[14];
-    v726.e[15] = v725.e[15];
-    v727.e[0] = v725.e[16];
-    v727.e[1] = v725.e[17];
-    v727.e[2] = v725.e[18];
-    v727.e[3] = v725.e[19];
-    v727.e[4] = v725.e[20];
-    v727.e[5] = v725.e[21];
-    v727.e[6] = v725.e[22];
-    v727.e[7] = v725.e[23];
-    v727.e[8] = v725.e[24];
-    v727.e[9] = v725.e[25];
-    v727.e[10] = v725.e[26];
-    v727.e[11] = v725.e[27];
-    v727.e[12] = v725.e[28];
-    v727.e[13] = v725.e[29];
-    v727.e[14] = v725.e[30];
-    v727.e[15] = v725.e[31];
-    v728.e[0] = v725.e[32];
-    v728.e[1] = v725.e[33];
-    v728.e[2] = v725.e[34];
-    v728.e[3] = v725.e[35];
-    v728.e[4] = v725.e[36];
-    v728.e[5] = v725.e[37];
-    v728.e[6] = v725.e[38];
-    v728.e[7] = v725.e[39];
-    v728.e[8] = v725.e[40];
-    v728.e[9] = v725.e[41];
-    v728.e[10] = v725.e[42];
-    v728.e[11] = v725.e[43];
-    v728.e[12] = v725.e[44];
-    v728.e[13] = v725.e[45];
-    v728.e[14] = v725.e[46];
-    v728.e[15] = v725.e[47];
-    v729.e[0] = v725.e[48];
-    v729.e[1] = v725.e[49];
-    v729.e[2] = v725.e[50];
-    v729.e[3] = v725.e[51];
-    v729.e[4] = v725.e[52];
-    v729.e[5] = v725.e[53];
-    v729.e[6] = v725.e[54];
-    v729.e[7] = v725.e[55];
-    v729.e[8] = v725.e[56];
-    v729.e[9] = v725.e[57];
-    v729.e[10] = v725.e[58];
-    v729.e[11] = v725.e[59];
-    v729.e[12] = v725.e[60];
-    v729.e[13] = v725.e[61];
-    v729.e[14] = v725.e[62];
-    v729.e[15] = v725.e[63];
-    v730.e[0] = (u8)((u32)v727.e[0] | (u32)v726.e[0]);
-    v730.e[1] = (u8)((u32)v727.e[1] | (u32)v726.e[1]);
-    v730.e[2] = (u8)((u32)v727.e[2] | (u32)v726.e[2]);
-    v730.e[3] = (u8)((u32)v727.e[3] | (u32)v726.e[3]);
-    v730.e[4] = (u8)((u32)v727.e[4] | (u32)v726.e[4]);
-    v730.e[5] = (u8)((u32)v727.e[5] | (u32)v726.e[5]);
-    v730.e[6] = (u8)((u32)v727.e[6] | (u32)v726.e[6]);
-    v730.e[7] = (u8)((u32)v727.e[7] | (u32)v726.e[7]);
-    v730.e[8] = (u8)((u32)v727.e[8] | (u32)v726.e[8]);
-    v730.e[9] = (u8)((u32)v727.e[9] | (u32)v726.e[9]);
-    v730.e[10] = (u8)((u32)v727.e[10] | (u32)v726.e[10]);
-    v730.e[11] = (u8)((u32)v727.e[11] | (u32)v726.e[11]);
-    v730.e[12] = (u8)((u32)v727.e[12] | (u32)v726.e[12]);
-    v730.e[13] = (u8)((u32)v727.e[13] | (u32)v726.e[13]);
-    v730.e[14] = (u8)((u32)v727.e[14] | (u32)v726.e[14]);
-    v730.e[15] = (u8)((u32)v727.e[15] | (u32)v726.e[15]);
-    v731.e[0] = (u8)((u32)v730.e[0] | (u32)v728.e[0]);
-    v731.e[1] = (u8)((u32)v730.e[1] | (u32)v728.e[1]);
-    v731.e[2] = (u8)((u32)v730.e[2] | (u32)v728.e[2]);
-    v731.e[3] = (u8)((u32)v730.e[3] | (u32)v728.e[3]);
-    v731.e[4] = (u8)((u32)v730.e[4] | (u32)v728.e[4]);
-    v731.e[5] = (u8)((u32)v730.e[5] | (u32)v728.e[5]);
-    v731.e[6] = (u8)((u32)v730.e[6] | (u32)v728.e[6]);
-    v731.e[7] = (u8)((u32)v730.e[7] | (u32)v728.e[7]);
-    v731.e[8] = (u8)((u32)v730.e[8] | (u32)v728.e[8]);
-    v731.e[9] = (u8)((u32)v730.e[9] | (u32)v728.e[9]);
-    v731.e[10] = (u8)((u32)v730.e[10] | (u32)v728.e[10]);
-    v731.e[11] = (u8)((u32)v730.e[11] | (u32)v728.e[11]);
-    v731.e[12] = (u8)((u32)v730.e[12] | (u32)v728.e[12]);
-    v731.e[13] = (u8)((u32)v730.e[13] | (u32)v728.e[13]);
-    v731.e[14] = (u8)((u32)v730.e[14] | (u32)v728.e[14]);
-    v731.e[15] = (u8)((u32)v730.e[15] | (u32)v728.e[15]);
-    v732.e[0] = (u8)((u32)v731.e[0] | (u32)v729.e[0]);
-    v732.e[1] = (u8)((u32)v731.e[1] | (u32)v729.e[1]);
-    v732.e[2] = (u8)((u32)v731.e[2] | (u32)v729.e[2]);
-    v732.e[3] = (u8)((u32)v731.e[3] | (u32)v729.e[3]);
-    v732.e[4] = (u8)((u32)v731.e[4] | (u32)v729.e[4]);
-    v732.e[5] = (u8)((u32)v731.e[5] | (u32)v729.e[5]);
-    v732.e[6] = (u8)((u32)v731.e[6] | (u32)v729.e[6]);
-    v732.e[7] = (u8)((u32)v731.e[7] | (u32)v729.e[7]);
-    v732.e[8] = (u8)((u32)v731.e[8] | (u32)v729.e[8]);
-    v732.e[9] = (u8)((u32)v731.e[9] | (u32)v729.e[9]);
-    v732.e[10] = (u8)((u32)v731.e[10] | (u32)v729.e[10]);
-    v732.e[11] = (u8)((u32)v731.e[11] | (u32)v729.e[11]);
-    v732.e[12] = (u8)((u32)v731.e[12] | (u32)v729.e[12]);
-    v732.e[13] = (u8)((u32)v731.e[13] | (u32)v729.e[13]);
-    v732.e[14] = (u8)((u32)v731.e[14] | (u32)v729.e[14]);
-    v732.e[15] = (u8)((u32)v731.e[15] | (u32)v729.e[15]);
-    v733.e[0] = (i8)v732.e[0] < (i8)0u;
-    v733.e[1] = (i8)v732.e[1] < (i8)0u;
-    v733.e[2] = (i8)v732.e[2] < (i8)0u;
-    v733.e[3] = (i8)v732.e[3] < (i8)0u;
-    v733.e[4] = (i8)v732.e[4] < (i8)0u;
-    v733.e[5] = (i8)v732.e[5] < (i8)0u;
-    v733.e[6] = (i8)v732.e[6] < (i8)0u;
-    v733.e[7] = (i8)v732.e[7] < (i8)0u;
-    v733.e[8] = (i8)v732.e[8] < (i8)0u;
-    v733.e[9] = (i8)v732.e[9] < (i8)0u;
-    v733.e[10] = (i8)v732.e[10] < (i8)0u;
-    v733.e[11] = (i8)v732.e[11] < (i8)0u;
-    v733.e[12] = (i8)v732.e[12] < (i8)0u;
-    v733.e[13] = (i8)v732.e[13] < (i8)0u;
-    v733.e[14] = (i8)v732.e[14] < (i8)0u;
-    v733.e[15] = (i8)v732.e[15] < (i8)0u;
-    v734 = (u16)((u32)v733.e[0] << 0 | (u32)v733.e[1] << 1 | (u32)v733.e[2] << 2 | (u32)v733.e[3] << 3 | (u32)v733.e[4] << 4 | (u32)v733.e[5] << 5 | (u32)v733.e[6] << 6 | (u32)v733.e[7] << 7 | (u32)v733.e[8] << 8 | (u32)v733.e[9] << 9 | (u32)v733.e[10] << 10 | (u32)v733.e[11] << 11 | (u32)v733.e[12] << 12 | (u32)v733.e[13] << 13 | (u32)v733.e[14] << 14 | (u32)v733.e[15] << 15);
-    v735 = v734 != 0u;
-    v17 = v735; goto L44;
+    v724 = (u64)((u64)v247 + (u64)UINT64_C(18446744073709551552));
+    v725 = v245 + v724 * 1u;
+    v726.e[0] = load8(v725 + 0u);
+    v726.e[1] = load8(v725 + 1u);
+    v726.e[2] = load8(v725 + 2u);
+    v726.e[3] = load8(v725 + 3u);
+    v726.e[4] = load8(v725 + 4u);
+    v726.e[5] = load8(v725 + 5u);
+    v726.e[6] = load8(v725 + 6u);
+    v726.e[7] = load8(v725 + 7u);
+    v726.e[8] = load8(v725 + 8u);
+    v726.e[9] = load8(v725 + 9u);
+    v726.e[10] = load8(v725 + 10u);
+    v726.e[11] = load8(v725 + 11u);
+    v726.e[12] = load8(v725 + 12u);
+    v726.e[13] = load8(v725 + 13u);
+    v726.e[14] = load8(v725 + 14u);
+    v726.e[15] = load8(v725 + 15u);
+    v726.e[16] = load8(v725 + 16u);
+    v726.e[17] = load8(v725 + 17u);
+    v726.e[18] = load8(v725 + 18u);
+    v726.e[19] = load8(v725 + 19u);
+    v726.e[20] = load8(v725 + 20u);
+    v726.e[21] = load8(v725 + 21u);
+    v726.e[22] = load8(v725 + 22u);
+    v726.e[23] = load8(v725 + 23u);
+    v726.e[24] = load8(v725 + 24u);
+    v726.e[25] = load8(v725 + 25u);
+    v726.e[26] = load8(v725 + 26u);
+    v726.e[27] = load8(v725 + 27u);
+    v726.e[28] = load8(v725 + 28u);
+    v726.e[29] = load8(v725 + 29u);
+    v726.e[30] = load8(v725 + 30u);
+    v726.e[31] = load8(v725 + 31u);
+    v726.e[32] = load8(v725 + 32u);
+    v726.e[33] = load8(v725 + 33u);
+    v726.e[34] = load8(v725 + 34u);
+    v726.e[35] = load8(v725 + 35u);
+    v726.e[36] = load8(v725 + 36u);
+    v726.e[37] = load8(v725 + 37u);
+    v726.e[38] = load8(v725 + 38u);
+    v726.e[39] = load8(v725 + 39u);
+    v726.e[40] = load8(v725 + 40u);
+    v726.e[41] = load8(v725 + 41u);
+    v726.e[42] = load8(v725 + 42u);
+    v726.e[43] = load8(v725 + 43u);
+    v726.e[44] = load8(v725 + 44u);
+    v726.e[45] = load8(v725 + 45u);
+    v726.e[46] = load8(v725 + 46u);
+    v726.e[47] = load8(v725 + 47u);
+    v726.e[48] = load8(v725 + 48u);
+    v726.e[49] = load8(v725 + 49u);
+    v726.e[50] = load8(v725 + 50u);
+    v726.e[51] = load8(v725 + 51u);
+    v726.e[52] = load8(v725 + 52u);
+    v726.e[53] = load8(v725 + 53u);
+    v726.e[54] = load8(v725 + 54u);
+    v726.e[55] = load8(v725 + 55u);
+    v726.e[56] = load8(v725 + 56u);
+    v726.e[57] = load8(v725 + 57u);
+    v726.e[58] = load8(v725 + 58u);
+    v726.e[59] = load8(v725 + 59u);
+    v726.e[60] = load8(v725 + 60u);
+    v726.e[61] = load8(v725 + 61u);
+    v726.e[62] = load8(v725 + 62u);
+    v726.e[63] = load8(v725 + 63u);
+    v727 = v253 + v724 * 1u;
+    v728.e[0] = load8(v727 + 0u);
+    v728.e[1] = load8(v727 + 1u);
+    v728.e[2] = load8(v727 + 2u);
+    v728.e[3] = load8(v727 + 3u);
+    v728.e[4] = load8(v727 + 4u);
+    v728.e[5] = load8(v727 + 5u);
+    v728.e[6] = load8(v727 + 6u);
+    v728.e[7] = load8(v727 + 7u);
+    v728.e[8] = load8(v727 + 8u);
+    v728.e[9] = load8(v727 + 9u);
+    v728.e[10] = load8(v727 + 10u);
+    v728.e[11] = load8(v727 + 11u);
+    v728.e[12] = load8(v727 + 12u);
+    v728.e[13] = load8(v727 + 13u);
+    v728.e[14] = load8(v727 + 14u);
+    v728.e[15] = load8(v727 + 15u);
+    v728.e[16] = load8(v727 + 16u);
+    v728.e[17] = load8(v727 + 17u);
+    v728.e[18] = load8(v727 + 18u);
+    v728.e[19] = load8(v727 + 19u);
+    v728.e[20] = load8(v727 + 20u);
+    v728.e[21] = load8(v727 + 21u);
+    v728.e[22] = load8(v727 + 22u);
+    v728.e[23] = load8(v727 + 23u);
+    v728.e[24] = load8(v727 + 24u);
+    v728.e[25] = load8(v727 + 25u);
+    v728.e[26] = load8(v727 + 26u);
+    v728.e[27] = load8(v727 + 27u);
+    v728.e[28] = load8(v727 + 28u);
+    v728.e[29] = load8(v727 + 29u);
+    v728.e[30] = load8(v727 + 30u);
+    v728.e[31] = load8(v727 + 31u);
+    v728.e[32] = load8(v727 + 32u);
+    v728.e[33] = load8(v727 + 33u);
+    v728.e[34] = load8(v727 + 34u);
+    v728.e[35] = load8(v727 + 35u);
+    v728.e[36] = load8(v727 + 36u);
+    v728.e[37] = load8(v727 + 37u);
+    v728.e[38] = load8(v727 + 38u);
+    v728.e[39] = load8(v727 + 39u);
+    v728.e[40] = load8(v727 + 40u);
+    v728.e[41] = load8(v727 + 41u);
+    v728.e[42] = load8(v727 + 42u);
+    v728.e[43] = load8(v727 + 43u);
+    v728.e[44] = load8(v727 + 44u);
+    v728.e[45] = load8(v727 + 45u);
+    v728.e[46] = load8(v727 + 46u);
+    v728.e[47] = load8(v727 + 47u);
+    v728.e[48] = load8(v727 + 48u);
+    v728.e[49] = load8(v727 + 49u);
+    v728.e[50] = load8(v727 + 50u);
+    v728.e[51] = load8(v727 + 51u);
+    v728.e[52] = load8(v727 + 52u);
+    v728.e[53] = load8(v727 + 53u);
+    v728.e[54] = load8(v727 + 54u);
+    v728.e[55] = load8(v727 + 55u);
+    v728.e[56] = load8(v727 + 56u);
+    v728.e[57] = load8(v727 + 57u);
+    v728.e[58] = load8(v727 + 58u);
+    v728.e[59] = load8(v727 + 59u);
+    v728.e[60] = load8(v727 + 60u);
+    v728.e[61] = load8(v727 + 61u);
+    v728.e[62] = load8(v727 + 62u);
+    v728.e[63] = load8(v727 + 63u);
+    v729.e[0] = v726.e[0] != v728.e[0];
+    v729.e[1] = v726.e[1] != v728.e[1];
+    v729.e[2] = v726.e[2] != v728.e[2];
+    v729.e[3] = v726.e[3] != v728.e[3];
+    v729.e[4] = v726.e[4] != v728.e[4];
+    v729.e[5] = v726.e[5] != v728.e[5];
+    v729.e[6] = v726.e[6] != v728.e[6];
+    v729.e[7] = v726.e[7] != v728.e[7];
+    v729.e[8] = v726.e[8] != v728.e[8];
+    v729.e[9] = v726.e[9] != v728.e[9];
+    v729.e[10] = v726.e[10] != v728.e[10];
+    v729.e[11] = v726.e[11] != v728.e[11];
+    v729.e[12] = v726.e[12] != v728.e[12];
+    v729.e[13] = v726.e[13] != v728.e[13];
+    v729.e[14] = v726.e[14] != v728.e[14];
+    v729.e[15] = v726.e[15] != v728.e[15];
+    v729.e[16] = v726.e[16] != v728.e[16];
+    v729.e[17] = v726.e[17] != v728.e[17];
+    v729.e[18] = v726.e[18] != v728.e[18];
+    v729.e[19] = v726.e[19] != v728.e[19];
+    v729.e[20] = v726.e[20] != v728.e[20];
+    v729.e[21] = v726.e[21] != v728.e[21];
+    v729.e[22] = v726.e[22] != v728.e[22];
+    v729.e[23] = v726.e[23] != v728.e[23];
+    v729.e[24] = v726.e[24] != v728.e[24];
+    v729.e[25] = v726.e[25] != v728.e[25];
+    v729.e[26] = v726.e[26] != v728.e[26];
+    v729.e[27] = v726.e[27] != v728.e[27];
+    v729.e[28] = v726.e[28] != v728.e[28];
+    v729.e[29] = v726.e[29] != v728.e[29];
+    v729.e[30] = v726.e[30] != v728.e[30];
+    v729.e[31] = v726.e[31] != v728.e[31];
+    v729.e[32] = v726.e[32] != v728.e[32];
+    v729.e[33] = v726.e[33] != v728.e[33];
+    v729.e[34] = v726.e[34] != v728.e[34];
+    v729.e[35] = v726.e[35] != v728.e[35];
+    v729.e[36] = v726.e[36] != v728.e[36];
+    v729.e[37] = v726.e[37] != v728.e[37];
+    v729.e[38] = v726.e[38] != v728.e[38];
+    v729.e[39] = v726.e[39] != v728.e[39];
+    v729.e[40] = v726.e[40] != v728.e[40];
+    v729.e[41] = v726.e[41] != v728.e[41];
+    v729.e[42] = v726.e[42] != v728.e[42];
+    v729.e[43] = v726.e[43] != v728.e[43];
+    v729.e[44] = v726.e[44] != v728.e[44];
+    v729.e[45] = v726.e[45] != v728.e[45];
+    v729.e[46] = v726.e[46] != v728.e[46];
+    v729.e[47] = v726.e[47] != v728.e[47];
+    v729.e[48] = v726.e[48] != v728.e[48];
+    v729.e[49] = v726.e[49] != v728.e[49];
+    v729.e[50] = v726.e[50] != v728.e[50];
+    v729.e[51] = v726.e[51] != v728.e[51];
+    v729.e[52] = v726.e[52] != v728.e[52];
+    v729.e[53] = v726.e[53] != v728.e[53];
+    v729.e[54] = v726.e[54] != v728.e[54];
+    v729.e[55] = v726.e[55] != v728.e[55];
+    v729.e[56] = v726.e[56] != v728.e[56];
+    v729.e[57] = v726.e[57] != v728.e[57];
+    v729.e[58] = v726.e[58] != v728.e[58];
+    v729.e[59] = v726.e[59] != v728.e[59];
+    v729.e[60] = v726.e[60] != v728.e[60];
+    v729.e[61] = v726.e[61] != v728.e[61];
+    v729.e[62] = v726.e[62] != v728.e[62];
+    v729.e[63] = v726.e[63] != v728.e[63];
+    v730.e[0] = (u8)((i8)((i8)(u8)((u32)v729.e[0] << 7) >> 7));
+    v730.e[1] = (u8)((i8)((i8)(u8)((u32)v729.e[1] << 7) >> 7));
+    v730.e[2] = (u8)((i8)((i8)(u8)((u32)v729.e[2] << 7) >> 7));
+    v730.e[3] = (u8)((i8)((i8)(u8)((u32)v729.e[3] << 7) >> 7));
+    v730.e[4] = (u8)((i8)((i8)(u8)((u32)v729.e[4] << 7) >> 7));
+    v730.e[5] = (u8)((i8)((i8)(u8)((u32)v729.e[5] << 7) >> 7));
+    v730.e[6] = (u8)((i8)((i8)(u8)((u32)v729.e[6] << 7) >> 7));
+    v730.e[7] = (u8)((i8)((i8)(u8)((u32)v729.e[7] << 7) >> 7));
+    v730.e[8] = (u8)((i8)((i8)(u8)((u32)v729.e[8] << 7) >> 7));
+    v730.e[9] = (u8)((i8)((i8)(u8)((u32)v729.e[9] << 7) >> 7));
+    v730.e[10] = (u8)((i8)((i8)(u8)((u32)v729.e[10] << 7) >> 7));
+    v730.e[11] = (u8)((i8)((i8)(u8)((u32)v729.e[11] << 7) >> 7));
+    v730.e[12] = (u8)((i8)((i8)(u8)((u32)v729.e[12] << 7) >> 7));
+    v730.e[13] = (u8)((i8)((i8)(u8)((u32)v729.e[13] << 7) >> 7));
+    v730.e[14] = (u8)((i8)((i8)(u8)((u32)v729.e[14] << 7) >> 7));
+    v730.e[15] = (u8)((i8)((i8)(u8)((u32)v729.e[15] << 7) >> 7));
+    v730.e[16] = (u8)((i8)((i8)(u8)((u32)v729.e[16] << 7) >> 7));
+    v730.e[17] = (u8)((i8)((i8)(u8)((u32)v729.e[17] << 7) >> 7));
+    v730.e[18] = (u8)((i8)((i8)(u8)((u32)v729.e[18] << 7) >> 7));
+    v730.e[19] = (u8)((i8)((i8)(u8)((u32)v729.e[19] << 7) >> 7));
+    v730.e[20] = (u8)((i8)((i8)(u8)((u32)v729.e[20] << 7) >> 7));
+    v730.e[21] = (u8)((i8)((i8)(u8)((u32)v729.e[21] << 7) >> 7));
+    v730.e[22] = (u8)((i8)((i8)(u8)((u32)v729.e[22] << 7) >> 7));
+    v730.e[23] = (u8)((i8)((i8)(u8)((u32)v729.e[23] << 7) >> 7));
+    v730.e[24] = (u8)((i8)((i8)(u8)((u32)v729.e[24] << 7) >> 7));
+    v730.e[25] = (u8)((i8)((i8)(u8)((u32)v729.e[25] << 7) >> 7));
+    v730.e[26] = (u8)((i8)((i8)(u8)((u32)v729.e[26] << 7) >> 7));
+    v730.e[27] = (u8)((i8)((i8)(u8)((u32)v729.e[27] << 7) >> 7));
+    v730.e[28] = (u8)((i8)((i8)(u8)((u32)v729.e[28] << 7) >> 7));
+    v730.e[29] = (u8)((i8)((i8)(u8)((u32)v729.e[29] << 7) >> 7));
+    v730.e[30] = (u8)((i8)((i8)(u8)((u32)v729.e[30] << 7) >> 7));
+    v730.e[31] = (u8)((i8)((i8)(u8)((u32)v729.e[31] << 7) >> 7));
+    v730.e[32] = (u8)((i8)((i8)(u8)((u32)v729.e[32] << 7) >> 7));
+    v730.e[33] = (u8)((i8)((i8)(u8)((u32)v729.e[33] << 7) >> 7));
+    v730.e[34] = (u8)((i8)((i8)(u8)((u32)v729.e[34] << 7) >> 7));
+    v730.e[35] = (u8)((i8)((i8)(u8)((u32)v729.e[35] << 7) >> 7));
+    v730.e[36] = (u8)((i8)((i8)(u8)((u32)v729.e[36] << 7) >> 7));
+    v730.e[37] = (u8)((i8)((i8)(u8)((u32)v729.e[37] << 7) >> 7));
+    v730.e[38] = (u8)((i8)((i8)(u8)((u32)v729.e[38] << 7) >> 7));
+    v730.e[39] = (u8)((i8)((i8)(u8)((u32)v729.e[39] << 7) >> 7));
+    v730.e[40] = (u8)((i8)((i8)(u8)((u32)v729.e[40] << 7) >> 7));
+    v730.e[41] = (u8)((i8)((i8)(u8)((u32)v729.e[41] << 7) >> 7));
+    v730.e[42] = (u8)((i8)((i8)(u8)((u32)v729.e[42] << 7) >> 7));
+    v730.e[43] = (u8)((i8)((i8)(u8)((u32)v729.e[43] << 7) >> 7));
+    v730.e[44] = (u8)((i8)((i8)(u8)((u32)v729.e[44] << 7) >> 7));
+    v730.e[45] = (u8)((i8)((i8)(u8)((u32)v729.e[45] << 7) >> 7));
+    v730.e[46] = (u8)((i8)((i8)(u8)((u32)v729.e[46] << 7) >> 7));
+    v730.e[47] = (u8)((i8)((i8)(u8)((u32)v729.e[47] << 7) >> 7));
+    v730.e[48] = (u8)((i8)((i8)(u8)((u32)v729.e[48] << 7) >> 7));
+    v730.e[49] = (u8)((i8)((i8)(u8)((u32)v729.e[49] << 7) >> 7));
+    v730.e[50] = (u8)((i8)((i8)(u8)((u32)v729.e[50] << 7) >> 7));
+    v730.e[51] = (u8)((i8)((i8)(u8)((u32)v729.e[51] << 7) >> 7));
+    v730.e[52] = (u8)((i8)((i8)(u8)((u32)v729.e[52] << 7) >> 7));
+    v730.e[53] = (u8)((i8)((i8)(u8)((u32)v729.e[53] << 7) >> 7));
+    v730.e[54] = (u8)((i8)((i8)(u8)((u32)v729.e[54] << 7) >> 7));
+    v730.e[55] = (u8)((i8)((i8)(u8)((u32)v729.e[55] << 7) >> 7));
+    v730.e[56] = (u8)((i8)((i8)(u8)((u32)v729.e[56] << 7) >> 7));
+    v730.e[57] = (u8)((i8)((i8)(u8)((u32)v729.e[57] << 7) >> 7));
+    v730.e[58] = (u8)((i8)((i8)(u8)((u32)v729.e[58] << 7) >> 7));
+    v730.e[59] = (u8)((i8)((i8)(u8)((u32)v729.e[59] << 7) >> 7));
+    v730.e[60] = (u8)((i8)((i8)(u8)((u32)v729.e[60] << 7) >> 7));
+    v730.e[61] = (u8)((i8)((i8)(u8)((u32)v729.e[61] << 7) >> 7));
+    v730.e[62] = (u8)((i8)((i8)(u8)((u32)v729.e[62] << 7) >> 7));
+    v730.e[63] = (u8)((i8)((i8)(u8)((u32)v729.e[63] << 7) >> 7));
+    v731.e[0] = v730.e[0];
+    v731.e[1] = v730.e[1];
+    v731.e[2] = v730.e[2];
+    v731.e[3] = v730.e[3];
+    v731.e[4] = v730.e[4];
+    v731.e[5] = v730.e[5];
+    v731.e[6] = v730.e[6];
+    v731.e[7] = v730.e[7];
+    v731.e[8] = v730.e[8];
+    v731.e[9] = v730.e[9];
+    v731.e[10] = v730.e[10];
+    v731.e[11] = v730.e[11];
+    v731.e[12] = v730.e[12];
+    v731.e[13] = v730.e[13];
+    v731.e[14] = v730.e[14];
+    v731.e[15] = v730.e[15];
+    v732.e[0] = v730.e[16];
+    v732.e[1] = v730.e[17];
+    v732.e[2] = v730.e[18];
+    v732.e[3] = v730.e[19];
+    v732.e[4] = v730.e[20];
+    v732.e[5] = v730.e[21];
+    v732.e[6] = v730.e[22];
+    v732.e[7] = v730.e[23];
+    v732.e[8] = v730.e[24];
+    v732.e[9] = v730.e[25];
+    v732.e[10] = v730.e[26];
+    v732.e[11] = v730.e[27];
+    v732.e[12] = v730.e[28];
+    v732.e[13] = v730.e[29];
+    v732.e[14] = v730.e[30];
+    v732.e[15] = v730.e[31];
+    v733.e[0] = v730.e[32];
+    v733.e[1] = v730.e[33];
+    v733.e[2] = v730.e[34];
+    v733.e[3] = v730.e[35];
+    v733.e[4] = v730.e[36];
+    v733.e[5] = v730.e[37];
+    v733.e[6] = v730.e[38];
+    v733.e[7] = v730.e[39];
+    v733.e[8] = v730.e[40];
+    v733.e[9] = v730.e[41];
+    v733.e[10] = v730.e[42];
+    v733.e[11] = v730.e[43];
+    v733.e[12] = v730.e[44];
+    v733.e[13] = v730.e[45];
+    v733.e[14] = v730.e[46];
+    v733.e[15] = v730.e[47];
+    v734.e[0] = v730.e[48];
+    v734.e[1] = v730.e[49];
+    v734.e[2] = v730.e[50];
+    v734.e[3] = v730.e[51];
+    v734.e[4] = v730.e[52];
+    v734.e[5] = v730.e[53];
+    v734.e[6] = v730.e[54];
+    v734.e[7] = v730.e[55];
+    v734.e[8] = v730.e[56];
+    v734.e[9] = v730.e[57];
+    v734.e[10] = v730.e[58];
+    v734.e[11] = v730.e[59];
+    v734.e[12] = v730.e[60];
+    v734.e[13] = v730.e[61];
+    v734.e[14] = v730.e[62];
+    v734.e[15] = v730.e[63];
+    v735.e[0] = (u8)((u32)v732.e[0] | (u32)v731.e[0]);
+    v735.e[1] = (u8)((u32)v732.e[1] | (u32)v731.e[1]);
+    v735.e[2] = (u8)((u32)v732.e[2] | (u32)v731.e[2]);
+    v735.e[3] = (u8)((u32)v732.e[3] | (u32)v731.e[3]);
+    v735.e[4] = (u8)((u32)v732.e[4] | (u32)v731.e[4]);
+    v735.e[5] = (u8)((u32)v732.e[5] | (u32)v731.e[5]);
+    v735.e[6] = (u8)((u32)v732.e[6] | (u32)v731.e[6]);
+    v735.e[7] = (u8)((u32)v732.e[7] | (u32)v731.e[7]);
+    v735.e[8] = (u8)((u32)v732.e[8] | (u32)v731.e[8]);
+    v735.e[9] = (u8)((u32)v732.e[9] | (u32)v731.e[9]);
+    v735.e[10] = (u8)((u32)v732.e[10] | (u32)v731.e[10]);
+    v735.e[11] = (u8)((u32)v732.e[11] | (u32)v731.e[11]);
+    v735.e[12] = (u8)((u32)v732.e[12] | (u32)v731.e[12]);
+    v735.e[13] = (u8)((u32)v732.e[13] | (u32)v731.e[13]);
+    v735.e[14] = (u8)((u32)v732.e[14] | (u32)v731.e[14]);
+    v735.e[15] = (u8)((u32)v732.e[15] | (u32)v731.e[15]);
+    v736.e[0] = (u8)((u32)v735.e[0] | (u32)v733.e[0]);
+    v736.e[1] = (u8)((u32)v735.e[1] | (u32)v733.e[1]);
+    v736.e[2] = (u8)((u32)v735.e[2] | (u32)v733.e[2]);
+    v736.e[3] = (u8)((u32)v735.e[3] | (u32)v733.e[3]);
+    v736.e[4] = (u8)((u32)v735.e[4] | (u32)v733.e[4]);
+    v736.e[5] = (u8)((u32)v735.e[5] | (u32)v733.e[5]);
+    v736.e[6] = (u8)((u32)v735.e[6] | (u32)v733.e[6]);
+    v736.e[7] = (u8)((u32)v735.e[7] | (u32)v733.e[7]);
+    v736.e[8] = (u8)((u32)v735.e[8] | (u32)v733.e[8]);
+    v736.e[9] = (u8)((u32)v735.e[9] | (u32)v733.e[9]);
+    v736.e[10] = (u8)((u32)v735.e[10] | (u32)v733.e[10]);
+    v736.e[11] = (u8)((u32)v735.e[11] | (u32)v733.e[11]);
+    v736.e[12] = (u8)((u32)v735.e[12] | (u32)v733.e[12]);
+    v736.e[13] = (u8)((u32)v735.e[13] | (u32)v733.e[13]);
+    v736.e[14] = (u8)((u32)v735.e[14] | (u32)v733.e[14]);
+    v736.e[15] = (u8)((u32)v735.e[15] | (u32)v733.e[15]);
+    v737.e[0] = (u8)((u32)v736.e[0] | (u32)v734.e[0]);
+    v737.e[1] = (u8)((u32)v736.e[1] | (u32)v734.e[1]);
+    v737.e[2] = (u8)((u32)v736.e[2] | (u32)v734.e[2]);
+    v737.e[3] = (u8)((u32)v736.e[3] | (u32)v734.e[3]);
+    v737.e[4] = (u8)((u32)v736.e[4] | (u32)v734.e[4]);
+    v737.e[5] = (u8)((u32)v736.e[5] | (u32)v734.e[5]);
+    v737.e[6] = (u8)((u32)v736.e[6] | (u32)v734.e[6]);
+    v737.e[7] = (u8)((u32)v736.e[7] | (u32)v734.e[7]);
+    v737.e[8] = (u8)((u32)v736.e[8] | (u32)v734.e[8]);
+    v737.e[9] = (u8)((u32)v736.e[9] | (u32)v734.e[9]);
+    v737.e[10] = (u8)((u32)v736.e[10] | (u32)v734.e[10]);
+    v737.e[11] = (u8)((u32)v736.e[11] | (u32)v734.e[11]);
+    v737.e[12] = (u8)((u32)v736.e[12] | (u32)v734.e[12]);
+    v737.e[13] = (u8)((u32)v736.e[13] | (u32)v734.e[13]);
+    v737.e[14] = (u8)((u32)v736.e[14] | (u32)v734.e[14]);
+    v737.e[15] = (u8)((u32)v736.e[15] | (u32)v734.e[15]);
+    v738.e[0] = (i8)v737.e[0] < (i8)0u;
+    v738.e[1] = (i8)v737.e[1] < (i8)0u;
+    v738.e[2] = (i8)v737.e[2] < (i8)0u;
+    v738.e[3] = (i8)v737.e[3] < (i8)0u;
+    v738.e[4] = (i8)v737.e[4] < (i8)0u;
+    v738.e[5] = (i8)v737.e[5] < (i8)0u;
+    v738.e[6] = (i8)v737.e[6] < (i8)0u;
+    v738.e[7] = (i8)v737.e[7] < (i8)0u;
+    v738.e[8] = (i8)v737.e[8] < (i8)0u;
+    v738.e[9] = (i8)v737.e[9] < (i8)0u;
+    v738.e[10] = (i8)v737.e[10] < (i8)0u;
+    v738.e[11] = (i8)v737.e[11] < (i8)0u;
+    v738.e[12] = (i8)v737.e[12] < (i8)0u;
+    v738.e[13] = (i8)v737.e[13] < (i8)0u;
+    v738.e[14] = (i8)v737.e[14] < (i8)0u;
+    v738.e[15] = (i8)v737.e[15] < (i8)0u;
+    v739 = (u16)((u32)v738.e[0] << 0 | (u32)v738.e[1] << 1 | (u32)v738.e[2] << 2 | (u32)v738.e[3] << 3 | (u32)v738.e[4] << 4 | (u32)v738.e[5] << 5 | (u32)v738.e[6] << 6 | (u32)v738.e[7] << 7 | (u32)v738.e[8] << 8 | (u32)v738.e[9] << 9 | (u32)v738.e[10] << 10 | (u32)v738.e[11] << 11 | (u32)v738.e[12] << 12 | (u32)v738.e[13] << 13 | (u32)v738.e[14] << 14 | (u32)v738.e[15] << 15);
+    v740 = v739 != 0u;
+    v17 = v740; goto L44;
 L44:;
-    v736 = (u8)(((u32)v17 ^ (u32)1u) & UINT64_C(1));
-    v18 = v736; goto L45;
+    v741 = (u8)(((u32)v17 ^ (u32)1u) & UINT64_C(1));
+    v18 = v741; goto L45;
 L45:;
-    v737 = v252 == 0u;
-    if (v737) { goto L47; }
+    v742 = v257 == 0u;
+    if (v742) { goto L47; }
     else { goto L46; }
 L46:;
-    portable_rattle_dealloc(v248);
+    portable_rattle_dealloc(v253);
     goto L47;
 L47:;
-    v738 = v244 == 0u;
-    if (v738) { goto L52; }
+    v743 = v249 == 0u;
+    if (v743) { goto L52; }
     else { goto L51; }
 L48:;
-    v739 = v244 == 0u;
-    if (v739) { goto L226; }
+    v744 = v249 == 0u;
+    if (v744) { goto L228; }
     else { goto L49; }
 L49:;
-    portable_rattle_dealloc(v240);
-    goto L226;
+    portable_rattle_dealloc(v245);
+    goto L228;
 L50:;
     UNREACHABLE;
 L51:;
-    portable_rattle_dealloc(v240);
+    portable_rattle_dealloc(v245);
     goto L52;
 L52:;
-    v19 = v207; v20 = v206; v21 = v205; v22 = v203; v23 = v202; v24 = v201; v25 = v10; v26 = v9; v27 = v8; v28 = v7; v29 = v18; goto L53;
+    v19 = v212; v20 = v211; v21 = v210; v22 = v208; v23 = v207; v24 = v206; v25 = v10; v26 = v9; v27 = v8; v28 = v7; v29 = v18; goto L53;
 L53:;
     switch (v28) {
-    case 10u: goto L186;
-    case 9u: goto L185;
-    case 4u: goto L150;
-    case 5u: v66 = v19; v67 = v20; v68 = v21; v69 = v22; v70 = v23; v71 = v24; v72 = v27; goto L153;
-    default: goto L187;
+    case 10u: goto L188;
+    case 9u: goto L187;
+    case 4u: goto L152;
+    case 5u: v71 = v19; v72 = v20; v73 = v21; v74 = v22; v75 = v23; v76 = v24; v77 = v27; goto L155;
+    default: goto L189;
     }
 L54:;
-    v740 = v141 + 178u * 1u;
-    v741 = v141 + 176u * 1u;
-    v742 = v141 + 174u * 1u;
-    v743 = load64(a1);
-    f116(v141, v743);
-    v80 = v740; v81 = v741; v82 = v742; v83 = v142; v84 = v141; goto L188;
+    v745 = v146 + 178u * 1u;
+    v746 = v146 + 176u * 1u;
+    v747 = v146 + 174u * 1u;
+    v748 = load64(a1);
+    f116(v146, v748);
+    v85 = v745; v86 = v746; v87 = v747; v88 = v147; v89 = v146; goto L190;
 L55:;
-    v744 = load16(v213);
-    v745 = v209 + 104u * 1u;
-    v746 = load64(v745);
-    v747 = (u64)((u64)v746 & (u64)65535u);
-    v748 = v747 == 0u;
-    if (v748) { v42 = 0u; v43 = 0u; v44 = 0u; v45 = 0u; v46 = 0u; v47 = 0u; v48 = 0u; v49 = 0u; v50 = 0u; v51 = 0u; v52 = 0u; v53 = 0u; goto L87; }
+    v749 = load16(v218);
+    v750 = v214 + 104u * 1u;
+    v751 = load64(v750);
+    v752 = (u64)((u64)v751 & (u64)65535u);
+    v753 = v752 == 0u;
+    if (v753) { v47 = 0u; v48 = 0u; v49 = 0u; v50 = 0u; v51 = 0u; v52 = 0u; v53 = 0u; v54 = 0u; v55 = 0u; v56 = 0u; v57 = 0u; v58 = 0u; goto L89; }
     else { goto L56; }
 L56:;
-    v749 = v209 + 152u * 1u;
-    v750 = (u64)v744;
-    v751 = v209 + 96u * 1u;
-    v752 = v209 + 144u * 1u;
-    v753 = (u64)((u64)v750 << (4u & 63u));
-    v754 = v209 + 8u * 1u;
-    v755 = v126 + 16u * 1u;
-    v756 = v126 + 18u * 1u;
-    v757 = load64(v749);
-    v758 = v757 > v750;
+    v754 = v214 + 152u * 1u;
+    v755 = (u64)v749;
+    v756 = v214 + 96u * 1u;
+    v757 = v214 + 144u * 1u;
+    v758 = (u64)((u64)v755 << (4u & 63u));
+    v759 = v214 + 8u * 1u;
+    v760 = v131 + 16u * 1u;
+    v761 = v131 + 18u * 1u;
+    v762 = load64(v754);
+    v763 = v762 > v755;
     v30 = 0u; goto L57;
 L57:;
-    v759 = v746 > v30;
-    if (v759) { goto L58; }
+    v764 = v751 > v30;
+    if (v764) { goto L58; }
     else { goto L59; }
 L58:;
-    if (v758) { goto L60; }
+    if (v763) { goto L60; }
     else { goto L62; }
 L59:;
-    if (v758) { goto L62; }
+    if (v763) { goto L62; }
     else { goto L61; }
 L60:;
-    v760 = load_address(v751);
-    v761 = (u64)((u64)v30 << (6u & 63u));
-    v762 = v760 + v761 * 1u;
-    v763 = load64(v762);
-    v764 = load_address(v752);
-    v765 = v764 + v753 * 1u;
-    v766 = load64(v765);
-    v767 = v763 == v766;
-    if (v767) { goto L61; }
+    v765 = load_address(v756);
+    v766 = (u64)((u64)v30 << (6u & 63u));
+    v767 = v765 + v766 * 1u;
+    v768 = load64(v767);
+    v769 = load_address(v757);
+    v770 = v769 + v758 * 1u;
+    v771 = load64(v770);
+    v772 = v768 == v771;
+    if (v772) { goto L61; }
     else { goto L62; }
 L61:;
-    memory_set(v126, 0u, 32u);
-    store8(v126, 2u);
-    store16(v755, 1u);
-    v768 = (u16)(v30);
-    store16(v756, v768);
-    v769 = f98(v754, v126);
-    if (v769) { v31 = 1u; v32 = v768; goto L63; }
+    memory_set(v131, 0u, 32u);
+    store8(v131, 2u);
+    store16(v760, 1u);
+    v773 = (u16)(v30);
+    store16(v761, v773);
+    v774 = f98(v759, v131);
+    if (v774) { v31 = 1u; v32 = v773; goto L63; }
     else { goto L62; }
 L62:;
-    v770 = (u64)((u64)v30 + (u64)1u);
-    v771 = v770 == v747;
-    if (v771) { v31 = 0u; v32 = 0u; goto L63; }
-    else { v30 = v770; goto L57; }
+    v775 = (u64)((u64)v30 + (u64)1u);
+    v776 = v775 == v752;
+    if (v776) { v31 = 0u; v32 = 0u; goto L63; }
+    else { v30 = v775; goto L57; }
 L63:;
-    v772 = v209 + 64u * 1u;
-    v773 = v209 + 72u * 1u;
+    v777 = v214 + 64u * 1u;
+    v778 = v214 + 72u * 1u;
     v33 = 0u; goto L64;
 L64:;
-    v774 = v746 > v33;
-    if (v774) { goto L65; }
+    v779 = v751 > v33;
+    if (v779) { goto L65; }
     else { goto L66; }
 L65:;
-    if (v758) { goto L67; }
+    if (v763) { goto L67; }
     else { goto L70; }
 L66:;
-    if (v758) { goto L70; }
+    if (v763) { goto L70; }
     else { goto L68; }
 L67:;
-    v775 = load_address(v751);
-    v776 = (u64)((u64)v33 << (6u & 63u));
-    v777 = v775 + v776 * 1u;
-    v778 = load64(v777);
-    v779 = load_address(v752);
-    v780 = v779 + v753 * 1u;
-    v781 = load64(v780);
-    v782 = v778 == v781;
-    if (v782) { goto L68; }
+    v780 = load_address(v756);
+    v781 = (u64)((u64)v33 << (6u & 63u));
+    v782 = v780 + v781 * 1u;
+    v783 = load64(v782);
+    v784 = load_address(v757);
+    v785 = v784 + v758 * 1u;
+    v786 = load64(v785);
+    v787 = v783 == v786;
+    if (v787) { goto L68; }
     else { goto L70; }
 L68:;
-    v783 = load64(v773);
-    v784 = v783 > v33;
-    if (v784) { goto L69; }
+    v788 = load64(v778);
+    v789 = v788 > v33;
+    if (v789) { goto L69; }
     else { goto L70; }
 L69:;
-    v785 = load_address(v772);
-    v786 = v785 + v33 * 1u;
-    v787 = load8(v786);
-    v788 = v787 == 5u;
-    if (v788) { goto L72; }
+    v790 = load_address(v777);
+    v791 = v790 + v33 * 1u;
+    v792 = load8(v791);
+    v793 = v792 == 5u;
+    if (v793) { goto L72; }
     else { goto L70; }
 L70:;
-    v789 = (u64)((u64)v33 + (u64)1u);
-    v790 = v789 == v747;
-    if (v790) { goto L71; }
-    else { v33 = v789; goto L64; }
+    v794 = (u64)((u64)v33 + (u64)1u);
+    v795 = v794 == v752;
+    if (v795) { goto L71; }
+    else { v33 = v794; goto L64; }
 L71:;
-    v791 = (u8)((v31) & UINT64_C(1));
-    v792 = v791 ? v32 : 0u;
-    v34 = v792; v35 = v791; v36 = v791; goto L73;
+    v796 = (u8)((v31) & UINT64_C(1));
+    v797 = v796 ? v32 : 0u;
+    v34 = v797; v35 = v796; v36 = v796; goto L73;
 L72:;
-    v793 = (u16)(v33);
-    v794 = (u8)((v31) & UINT64_C(1));
-    v795 = v794 ? v32 : v793;
-    v34 = v795; v35 = 1u; v36 = v794; goto L73;
+    v798 = (u16)(v33);
+    v799 = (u8)((v31) & UINT64_C(1));
+    v800 = v799 ? v32 : v798;
+    v34 = v800; v35 = 1u; v36 = v799; goto L73;
 L73:;
-    v796 = v209 + 128u * 1u;
-    v797 = v209 + 120u * 1u;
-    v37 = 0u; v38 = 0u; v39 = 0u; goto L74;
+    v37 = v752; goto L74;
 L74:;
-    v798 = v746 > v37;
-    if (v798) { goto L75; }
+    v801 = (u16)(v37);
+    v802 = (u16)((u32)v801 + (u32)65535u);
+    v803 = (u64)v802;
+    v804 = v751 > v803;
+    if (v804) { goto L75; }
     else { goto L76; }
 L75:;
-    if (v758) { goto L77; }
-    else { v40 = v39; v41 = v38; goto L82; }
+    if (v763) { goto L77; }
+    else { goto L80; }
 L76:;
-    if (v758) { v40 = v39; v41 = v38; goto L82; }
+    if (v763) { goto L80; }
     else { goto L78; }
 L77:;
-    v799 = load_address(v751);
-    v800 = (u64)((u64)v37 << (6u & 63u));
-    v801 = v799 + v800 * 1u;
-    v802 = load64(v801);
-    v803 = load_address(v752);
-    v804 = v803 + v753 * 1u;
-    v805 = load64(v804);
-    v806 = v802 == v805;
-    if (v806) { goto L78; }
-    else { v40 = v39; v41 = v38; goto L82; }
+    v805 = load_address(v756);
+    v806 = (u64)((u64)v803 << (6u & 63u));
+    v807 = v805 + v806 * 1u;
+    v808 = load64(v807);
+    v809 = load_address(v757);
+    v810 = v809 + v758 * 1u;
+    v811 = load64(v810);
+    v812 = v808 == v811;
+    if (v812) { goto L78; }
+    else { goto L80; }
 L78:;
-    v807 = load64(v773);
-    v808 = v807 > v37;
-    if (v808) { goto L79; }
-    else { v40 = v39; v41 = v38; goto L82; }
+    v813 = load64(v778);
+    v814 = v813 > v803;
+    if (v814) { goto L79; }
+    else { goto L80; }
 L79:;
-    v809 = load_address(v772);
-    v810 = v809 + v37 * 1u;
-    v811 = load8(v810);
-    v812 = (u8)((u32)v811 + (u32)254u);
-    v813 = v812 < 3u;
-    if (v813) { goto L80; }
-    else { v40 = v39; v41 = v38; goto L82; }
+    v815 = load_address(v777);
+    v816 = v815 + v803 * 1u;
+    v817 = load8(v816);
+    v818 = (u8)((u32)v817 + (u32)254u);
+    v819 = v818 < 3u;
+    if (v819) { v38 = 1u; goto L81; }
+    else { goto L80; }
 L80:;
-    v814 = load64(v796);
-    v815 = v814 > v37;
-    if (v815) { goto L81; }
-    else { v40 = 0u; v41 = 0u; goto L82; }
+    v820 = v802 == 0u;
+    v821 = (u64)((u64)v37 + (u64)UINT64_C(18446744073709551615));
+    if (v820) { v38 = 0u; goto L81; }
+    else { v37 = v821; goto L74; }
 L81:;
-    v816 = load_address(v797);
-    v817 = (u64)((u64)v37 << (1u & 63u));
-    v818 = v816 + v817 * 1u;
-    v819 = load16(v818);
-    v40 = 1u; v41 = v819; goto L82;
-L82:;
-    v820 = (u64)((u64)v37 + (u64)1u);
-    v821 = v820 == v747;
-    if (v821) { goto L83; }
-    else { v37 = v820; v38 = v41; v39 = v40; goto L74; }
-L83:;
     v822 = (u64)v34;
-    v823 = v40 != 0u;
-    if (v35) { goto L84; }
-    else { v42 = v41; v43 = v823; v44 = v31; v45 = v32; v46 = v36; v47 = 0u; v48 = 0u; v49 = 0u; v50 = 0u; v51 = 0u; v52 = 0u; v53 = 0u; goto L87; }
-L84:;
-    v824 = load_address(v751);
-    v825 = v746 > v822;
-    v826 = (u64)((u64)v822 << (6u & 63u));
-    v827 = v824 + v826 * 1u;
-    if (v825) { goto L85; }
-    else { v42 = v41; v43 = v823; v44 = v31; v45 = v32; v46 = v36; v47 = 0u; v48 = 0u; v49 = 0u; v50 = 0u; v51 = 0u; v52 = 0u; v53 = 0u; goto L87; }
-L85:;
-    v828 = load64(v796);
+    if (v35) { goto L82; }
+    else { goto L85; }
+L82:;
+    v823 = load_address(v756);
+    v824 = v751 > v822;
+    v825 = (u64)((u64)v822 << (6u & 63u));
+    v826 = v823 + v825 * 1u;
+    if (v824) { goto L83; }
+    else { goto L85; }
+L83:;
+    v827 = v214 + 128u * 1u;
+    v828 = load64(v827);
     v829 = v828 > v822;
-    if (v829) { goto L86; }
-    else { v42 = v41; v43 = v823; v44 = v31; v45 = v32; v46 = v36; v47 = 0u; v48 = 0u; v49 = 0u; v50 = 0u; v51 = 0u; v52 = 0u; v53 = 0u; goto L87; }
+    if (v829) { goto L84; }
+    else { goto L85; }
+L84:;
+    v830 = v214 + 120u * 1u;
+    v831 = load_address(v830);
+    v832 = (u64)((u64)v822 << (1u & 63u));
+    v833 = v831 + v832 * 1u;
+    v834 = load16(v833);
+    v835 = v826 + 12u * 1u;
+    v836 = load16(v835);
+    v837 = v826 + 10u * 1u;
+    v838 = load16(v837);
+    v839 = v838 == 0u;
+    v840 = v839 ? 65535u : v838;
+    v841 = v826 + 40u * 1u;
+    v842 = load_address(v841);
+    v843 = v826 + 48u * 1u;
+    v844 = load64(v843);
+    if (v38) { v39 = v828; v40 = v844; v41 = v842; v42 = v840; v43 = v836; v44 = v834; v45 = 1u; v46 = 1u; goto L87; }
+    else { v47 = v844; v48 = v842; v49 = v840; v50 = v836; v51 = v834; v52 = 1u; v53 = 1u; v54 = v36; v55 = v32; v56 = v31; v57 = 0u; v58 = 0u; goto L89; }
+L85:;
+    if (v38) { goto L86; }
+    else { v47 = 0u; v48 = 0u; v49 = 0u; v50 = 0u; v51 = 0u; v52 = 0u; v53 = 0u; v54 = v36; v55 = v32; v56 = v31; v57 = 0u; v58 = 0u; goto L89; }
 L86:;
-    v830 = load_address(v797);
-    v831 = (u64)((u64)v822 << (1u & 63u));
-    v832 = v830 + v831 * 1u;
-    v833 = load16(v832);
-    v834 = v827 + 12u * 1u;
-    v835 = load16(v834);
-    v836 = v827 + 10u * 1u;
-    v837 = load16(v836);
-    v838 = v837 == 0u;
-    v839 = v838 ? 65535u : v837;
-    v840 = v827 + 40u * 1u;
-    v841 = load_address(v840);
-    v842 = v827 + 48u * 1u;
-    v843 = load64(v842);
-    v42 = v41; v43 = v823; v44 = v31; v45 = v32; v46 = v36; v47 = 1u; v48 = 1u; v49 = v833; v50 = v835; v51 = v839; v52 = v841; v53 = v843; goto L87;
+    v845 = v214 + 128u * 1u;
+    v846 = load64(v845);
+    v39 = v846; v40 = 0u; v41 = 0u; v42 = 0u; v43 = 0u; v44 = 0u; v45 = 0u; v46 = 0u; goto L87;
 L87:;
-    v844 = v125 + 8u * 1u;
-    memory_set(v844, 0u, 40u);
-    f118(v125, v129, a3);
-    v845 = load8(v125);
-    v846 = load16(v844);
-    v847 = v125 + 10u * 1u;
-    v848 = load16(v847);
-    v849 = v125 + 16u * 1u;
-    v850 = load8(v849);
-    v851 = v125 + 24u * 1u;
-    v852 = load8(v851);
-    v853 = v125 + 26u * 1u;
-    v854 = load16(v853);
-    v855 = v125 + 28u * 1u;
-    v856 = load16(v855);
-    v857 = v125 + 32u * 1u;
-    v858 = load_address(v857);
-    v859 = v125 + 40u * 1u;
-    v860 = load64(v859);
-    if (v47) { goto L88; }
-    else { goto L102; }
+    v847 = v39 > v803;
+    if (v847) { goto L88; }
+    else { v47 = v40; v48 = v41; v49 = v42; v50 = v43; v51 = v44; v52 = v45; v53 = v46; v54 = v36; v55 = v32; v56 = v31; v57 = 0u; v58 = 0u; goto L89; }
 L88:;
-    v861 = v845 == 1u;
-    if (v861) { goto L89; }
-    else { v55 = 4u; goto L104; }
+    v848 = v214 + 120u * 1u;
+    v849 = load_address(v848);
+    v850 = (u64)((u64)v803 << (1u & 63u));
+    v851 = v849 + v850 * 1u;
+    v852 = load16(v851);
+    v47 = v40; v48 = v41; v49 = v42; v50 = v43; v51 = v44; v52 = v45; v53 = v46; v54 = v36; v55 = v32; v56 = v31; v57 = v852; v58 = 1u; goto L89;
 L89:;
-    v862 = v850 == 1u;
-    if (v862) { goto L90; }
-    else { goto L100; }
+    v853 = v130 + 8u * 1u;
+    memory_set(v853, 0u, 40u);
+    f118(v130, v134, a3);
+    v854 = load8(v130);
+    v855 = load16(v853);
+    v856 = v130 + 10u * 1u;
+    v857 = load16(v856);
+    v858 = v130 + 16u * 1u;
+    v859 = load8(v858);
+    v860 = v130 + 24u * 1u;
+    v861 = load8(v860);
+    v862 = v130 + 26u * 1u;
+    v863 = load16(v862);
+    v864 = v130 + 28u * 1u;
+    v865 = load16(v864);
+    v866 = v130 + 32u * 1u;
+    v867 = load_address(v866);
+    v868 = v130 + 40u * 1u;
+    v869 = load64(v868);
+    if (v53) { goto L90; }
+    else { goto L104; }
 L90:;
-    v863 = v846 == v49;
-    if (v863) { goto L91; }
-    else { goto L101; }
+    v870 = v854 == 1u;
+    if (v870) { goto L91; }
+    else { v60 = 4u; goto L106; }
 L91:;
-    v864 = v48 == v852;
-    v865 = v50 == v854;
-    v866 = v864 ? v865 : 0u;
-    v867 = v51 == v856;
-    v868 = v866 ? v867 : 0u;
-    v869 = v53 == v860;
-    v870 = v868 ? v869 : 0u;
-    if (v870) { goto L92; }
-    else { v55 = 3u; goto L104; }
+    v871 = v859 == 1u;
+    if (v871) { goto L92; }
+    else { goto L102; }
 L92:;
-    v871 = v53 < 4u;
-    if (v871) { goto L94; }
-    else { goto L93; }
+    v872 = v855 == v51;
+    if (v872) { goto L93; }
+    else { goto L103; }
 L93:;
-    v872 = load8(v52);
-    v873 = load8(v858);
-    v874 = v872 != v873;
-    v875 = v52 + 1u * 1u;
-    v876 = v858 + 1u * 1u;
-    v877 = load8(v875);
-    v878 = load8(v876);
-    v879 = v877 != v878;
-    v880 = (u8)(((u32)v874 | (u32)v879) & UINT64_C(1));
-    v881 = v52 + 2u * 1u;
-    v882 = v858 + 2u * 1u;
-    v883 = load8(v881);
-    v884 = load8(v882);
-    v885 = v883 != v884;
-    v886 = (u8)(((u32)v880 | (u32)v885) & UINT64_C(1));
-    v887 = v52 + 3u * 1u;
-    v888 = v858 + 3u * 1u;
-    v889 = load8(v887);
-    v890 = load8(v888);
-    v891 = v889 != v890;
-    v892 = (u8)(((u32)v886 | (u32)v891) & UINT64_C(1));
-    if (v892) { v55 = 3u; goto L104; }
-    else { goto L97; }
+    v873 = v52 == v861;
+    v874 = v50 == v863;
+    v875 = v873 ? v874 : 0u;
+    v876 = v49 == v865;
+    v877 = v875 ? v876 : 0u;
+    v878 = v47 == v869;
+    v879 = v877 ? v878 : 0u;
+    if (v879) { goto L94; }
+    else { v60 = 3u; goto L106; }
 L94:;
-    v893 = v53 == 0u;
-    if (v893) { goto L99; }
-    else { v54 = 0u; goto L95; }
+    v880 = v47 < 4u;
+    if (v880) { goto L96; }
+    else { goto L95; }
 L95:;
-    v894 = v52 + v54 * 1u;
-    v895 = v858 + v54 * 1u;
-    v896 = load8(v894);
-    v897 = load8(v895);
-    v898 = v896 == v897;
-    if (v898) { goto L96; }
-    else { goto L98; }
-L96:;
-    v899 = (u64)((u64)v54 + (u64)1u);
-    v900 = v899 == v53;
-    if (v900) { goto L99; }
-    else { v54 = v899; goto L95; }
-L97:;
-    v901 = f30(v52, v53, v858, v53);
-    if (v901) { goto L99; }
-    else { v55 = 3u; goto L104; }
-L98:;
-    v902 = v54 < v53;
-    if (v902) { v55 = 3u; goto L104; }
+    v881 = load8(v48);
+    v882 = load8(v867);
+    v883 = v881 != v882;
+    v884 = v48 + 1u * 1u;
+    v885 = v867 + 1u * 1u;
+    v886 = load8(v884);
+    v887 = load8(v885);
+    v888 = v886 != v887;
+    v889 = (u8)(((u32)v883 | (u32)v888) & UINT64_C(1));
+    v890 = v48 + 2u * 1u;
+    v891 = v867 + 2u * 1u;
+    v892 = load8(v890);
+    v893 = load8(v891);
+    v894 = v892 != v893;
+    v895 = (u8)(((u32)v889 | (u32)v894) & UINT64_C(1));
+    v896 = v48 + 3u * 1u;
+    v897 = v867 + 3u * 1u;
+    v898 = load8(v896);
+    v899 = load8(v897);
+    v900 = v898 != v899;
+    v901 = (u8)(((u32)v895 | (u32)v900) & UINT64_C(1));
+    if (v901) { v60 = 3u; goto L106; }
     else { goto L99; }
+L96:;
+    v902 = v47 == 0u;
+    if (v902) { goto L101; }
+    else { v59 = 0u; goto L97; }
+L97:;
+    v903 = v48 + v59 * 1u;
+    v904 = v867 + v59 * 1u;
+    v905 = load8(v903);
+    v906 = load8(v904);
+    v907 = v905 == v906;
+    if (v907) { goto L98; }
+    else { goto L100; }
+L98:;
+    v908 = (u64)((u64)v59 + (u64)1u);
+    v909 = v908 == v47;
+    if (v909) { goto L101; }
+    else { v59 = v908; goto L97; }
 L99:;
-    v55 = 1u; goto L104;
+    v910 = f30(v48, v47, v867, v47);
+    if (v910) { goto L101; }
+    else { v60 = 3u; goto L106; }
 L100:;
-    v903 = v848 == v49;
-    if (v903) { v55 = 2u; goto L104; }
+    v911 = v59 < v47;
+    if (v911) { v60 = 3u; goto L106; }
     else { goto L101; }
 L101:;
-    v55 = 4u; goto L104;
+    v60 = 1u; goto L106;
 L102:;
-    v904 = v845 != 1u;
-    v905 = v850 == 0u;
-    v906 = v904 ? 1u : v905;
-    if (v906) { v55 = 0u; goto L104; }
+    v912 = v857 == v51;
+    if (v912) { v60 = 2u; goto L106; }
     else { goto L103; }
 L103:;
-    v907 = v42 == v846;
-    v908 = v43 ? v907 : 0u;
-    v909 = v908 ? 5u : 6u;
-    v55 = v909; goto L104;
+    v60 = 4u; goto L106;
 L104:;
-    v910 = v124 + 8u * 1u;
-    memory_set(v910, 0u, 40u);
-    f118(v124, v129, a3);
-    v911 = load8(v124);
-    v912 = v911 == 1u;
-    v913 = v124 + 16u * 1u;
-    v914 = load8(v913);
-    v915 = v914 == 1u;
-    v916 = v912 ? v915 : 0u;
-    if (v916) { goto L105; }
-    else { v56 = 0u; goto L106; }
+    v913 = v854 != 1u;
+    v914 = v859 == 0u;
+    v915 = v913 ? 1u : v914;
+    if (v915) { v60 = 0u; goto L106; }
+    else { goto L105; }
 L105:;
-    v917 = v124 + 26u * 1u;
-    v918 = load16(v917);
-    v919 = v124 + 24u * 1u;
-    v920 = load8(v919);
-    v921 = v920 != 0u;
-    v922 = v918 != 0u;
-    v923 = v921 ? v922 : 0u;
-    v56 = v923; goto L106;
+    v916 = v57 == v855;
+    v917 = v58 ? v916 : 0u;
+    v918 = v917 ? 5u : 6u;
+    v60 = v918; goto L106;
 L106:;
-    v924 = (u16)((u32)v744 + (u32)1u);
-    v925 = v209 + 168u * 1u;
-    store16(v925, v924);
-    v926 = load8(v209);
-    v927 = v926 == 2u;
-    if (v927) { goto L107; }
-    else { goto L122; }
+    v919 = v129 + 8u * 1u;
+    memory_set(v919, 0u, 40u);
+    f118(v129, v134, a3);
+    v920 = load8(v129);
+    v921 = v920 == 1u;
+    v922 = v129 + 16u * 1u;
+    v923 = load8(v922);
+    v924 = v923 == 1u;
+    v925 = v921 ? v924 : 0u;
+    if (v925) { goto L107; }
+    else { v61 = 0u; goto L108; }
 L107:;
-    if (v46) { goto L108; }
-    else { goto L109; }
+    v926 = v129 + 26u * 1u;
+    v927 = load16(v926);
+    v928 = v129 + 24u * 1u;
+    v929 = load8(v928);
+    v930 = v929 != 0u;
+    v931 = v927 != 0u;
+    v932 = v930 ? v931 : 0u;
+    v61 = v932; goto L108;
 L108:;
-    v928 = v209 + 8u * 1u;
-    v929 = v209 + 184u * 1u;
-    v930 = v209 + 192u * 1u;
-    switch (v55) {
-    case 2u: goto L112;
-    case 3u: goto L112;
-    case 1u: goto L115;
-    case 0u: goto L118;
-    case 4u: goto L118;
-    case 5u: goto L118;
-    case 6u: goto L118;
-    default: goto L121;
-    }
+    v933 = (u16)((u32)v749 + (u32)1u);
+    v934 = v214 + 168u * 1u;
+    store16(v934, v933);
+    v935 = load8(v214);
+    v936 = v935 == 2u;
+    if (v936) { goto L109; }
+    else { goto L124; }
 L109:;
-    switch (v55) {
-    case 1u: goto L110;
-    case 5u: goto L110;
-    case 0u: goto L111;
-    case 2u: goto L111;
-    case 3u: goto L111;
-    case 4u: goto L111;
-    case 6u: goto L111;
-    default: goto L121;
-    }
+    if (v54) { goto L110; }
+    else { goto L111; }
 L110:;
-    store16(v211, 4u);
-    store16(v213, v744);
-    store16(v214, 0u);
-    store16(v215, 0u);
-    v102 = 3u; v103 = v744; v104 = 65535u; v105 = 0u; goto L225;
+    v937 = v214 + 8u * 1u;
+    v938 = v214 + 184u * 1u;
+    v939 = v214 + 192u * 1u;
+    switch (v60) {
+    case 2u: goto L114;
+    case 3u: goto L114;
+    case 1u: goto L117;
+    case 0u: goto L120;
+    case 4u: goto L120;
+    case 5u: goto L120;
+    case 6u: goto L120;
+    default: goto L123;
+    }
 L111:;
-    f116(v209, v210);
-    v80 = v215; v81 = v214; v82 = v213; v83 = v211; v84 = v209; goto L188;
+    switch (v60) {
+    case 1u: goto L112;
+    case 5u: goto L112;
+    case 0u: goto L113;
+    case 2u: goto L113;
+    case 3u: goto L113;
+    case 4u: goto L113;
+    case 6u: goto L113;
+    default: goto L123;
+    }
 L112:;
-    store64(v122, 2u);
-    v931 = v122 + 8u * 1u;
-    store64(v931, v210);
-    v932 = v122 + 16u * 1u;
-    store16(v932, 1u);
-    v933 = v122 + 18u * 1u;
-    store16(v933, v45);
-    v934 = v122 + 20u * 1u;
-    store16(v934, 0u);
-    v935 = v122 + 22u * 1u;
-    store16(v935, 0u);
-    v936 = v122 + 24u * 1u;
-    store64(v936, 0u);
-    memory_set(v123, 0u, 16u);
-    v937 = load_address(v929);
-    v938 = load64(v930);
-    f97(v123, v928, v122, ADDRESS(c148), 0u, ADDRESS(c148), 0u, v937, v938);
-    v939 = load8(v123);
-    v940 = v939 == 0u;
-    if (v940) { goto L113; }
-    else { goto L114; }
+    store16(v216, 4u);
+    store16(v218, v749);
+    store16(v219, 0u);
+    store16(v220, 0u);
+    v107 = 3u; v108 = v749; v109 = 65535u; v110 = 0u; goto L227;
 L113:;
-    v941 = v123 + 8u * 1u;
-    v942 = load64(v941);
-    v943 = v209 + 208u * 1u;
-    store64(v943, v942);
-    goto L114;
+    f116(v214, v215);
+    v85 = v220; v86 = v219; v87 = v218; v88 = v216; v89 = v214; goto L190;
 L114:;
-    store16(v211, 5u);
-    store16(v213, 3u);
-    store16(v214, 0u);
-    store16(v215, 0u);
-    v80 = v215; v81 = v214; v82 = v213; v83 = v211; v84 = v209; goto L188;
+    store64(v127, 2u);
+    v940 = v127 + 8u * 1u;
+    store64(v940, v215);
+    v941 = v127 + 16u * 1u;
+    store16(v941, 1u);
+    v942 = v127 + 18u * 1u;
+    store16(v942, v55);
+    v943 = v127 + 20u * 1u;
+    store16(v943, 0u);
+    v944 = v127 + 22u * 1u;
+    store16(v944, 0u);
+    v945 = v127 + 24u * 1u;
+    store64(v945, 0u);
+    memory_set(v128, 0u, 16u);
+    v946 = load_address(v938);
+    v947 = load64(v939);
+    f97(v128, v937, v127, ADDRESS(c148), 0u, ADDRESS(c148), 0u, v946, v947);
+    v948 = load8(v128);
+    v949 = v948 == 0u;
+    if (v949) { goto L115; }
+    else { goto L116; }
 L115:;
-    store64(v120, 2u);
-    v944 = v120 + 8u * 1u;
-    store64(v944, v210);
-    v945 = v120 + 16u * 1u;
-    store16(v945, 2u);
-    v946 = v120 + 18u * 1u;
-    store16(v946, v45);
-    v947 = v120 + 20u * 1u;
-    store16(v947, 0u);
-    v948 = v120 + 22u * 1u;
-    store16(v948, 0u);
-    v949 = v120 + 24u * 1u;
-    store64(v949, 0u);
-    memory_set(v121, 0u, 16u);
-    v950 = load_address(v929);
-    v951 = load64(v930);
-    f97(v121, v928, v120, ADDRESS(c148), 0u, ADDRESS(c148), 0u, v950, v951);
-    v952 = load8(v121);
-    v953 = v952 == 0u;
-    if (v953) { goto L116; }
-    else { goto L117; }
+    v950 = v128 + 8u * 1u;
+    v951 = load64(v950);
+    v952 = v214 + 208u * 1u;
+    store64(v952, v951);
+    goto L116;
 L116:;
-    v954 = v121 + 8u * 1u;
-    v955 = load64(v954);
-    v956 = v209 + 208u * 1u;
-    store64(v956, v955);
-    goto L117;
+    store16(v216, 5u);
+    store16(v218, 3u);
+    store16(v219, 0u);
+    store16(v220, 0u);
+    v85 = v220; v86 = v219; v87 = v218; v88 = v216; v89 = v214; goto L190;
 L117:;
-    store16(v211, 5u);
-    store16(v213, 5u);
-    store16(v214, v744);
-    store16(v215, 0u);
-    v80 = v215; v81 = v214; v82 = v213; v83 = v211; v84 = v209; goto L188;
+    store64(v125, 2u);
+    v953 = v125 + 8u * 1u;
+    store64(v953, v215);
+    v954 = v125 + 16u * 1u;
+    store16(v954, 2u);
+    v955 = v125 + 18u * 1u;
+    store16(v955, v55);
+    v956 = v125 + 20u * 1u;
+    store16(v956, 0u);
+    v957 = v125 + 22u * 1u;
+    store16(v957, 0u);
+    v958 = v125 + 24u * 1u;
+    store64(v958, 0u);
+    memory_set(v126, 0u, 16u);
+    v959 = load_address(v938);
+    v960 = load64(v939);
+    f97(v126, v937, v125, ADDRESS(c148), 0u, ADDRESS(c148), 0u, v959, v960);
+    v961 = load8(v126);
+    v962 = v961 == 0u;
+    if (v962) { goto L118; }
+    else { goto L119; }
 L118:;
-    store64(v118, 2u);
-    v957 = v118 + 8u * 1u;
-    store64(v957, v210);
-    v958 = v118 + 16u * 1u;
-    store16(v958, 2u);
-    v959 = v118 + 18u * 1u;
-    store16(v959, v45);
-    v960 = v118 + 20u * 1u;
-    store16(v960, 0u);
-    v961 = v118 + 22u * 1u;
-    store16(v961, 0u);
-    v962 = v118 + 24u * 1u;
-    store64(v962, 0u);
-    memory_set(v119, 0u, 16u);
-    v963 = load_address(v929);
-    v964 = load64(v930);
-    f97(v119, v928, v118, ADDRESS(c148), 0u, ADDRESS(c148), 0u, v963, v964);
-    v965 = load8(v119);
-    v966 = v965 == 0u;
-    if (v966) { goto L119; }
-    else { goto L120; }
+    v963 = v126 + 8u * 1u;
+    v964 = load64(v963);
+    v965 = v214 + 208u * 1u;
+    store64(v965, v964);
+    goto L119;
 L119:;
-    v967 = v119 + 8u * 1u;
-    v968 = load64(v967);
-    v969 = v209 + 208u * 1u;
-    store64(v969, v968);
-    goto L120;
+    store16(v216, 5u);
+    store16(v218, 5u);
+    store16(v219, v749);
+    store16(v220, 0u);
+    v85 = v220; v86 = v219; v87 = v218; v88 = v216; v89 = v214; goto L190;
 L120:;
-    store16(v211, 5u);
-    store16(v213, 3u);
-    store16(v214, 0u);
-    store16(v215, 0u);
-    v80 = v215; v81 = v214; v82 = v213; v83 = v211; v84 = v209; goto L188;
+    store64(v123, 2u);
+    v966 = v123 + 8u * 1u;
+    store64(v966, v215);
+    v967 = v123 + 16u * 1u;
+    store16(v967, 2u);
+    v968 = v123 + 18u * 1u;
+    store16(v968, v55);
+    v969 = v123 + 20u * 1u;
+    store16(v969, 0u);
+    v970 = v123 + 22u * 1u;
+    store16(v970, 0u);
+    v971 = v123 + 24u * 1u;
+    store64(v971, 0u);
+    memory_set(v124, 0u, 16u);
+    v972 = load_address(v938);
+    v973 = load64(v939);
+    f97(v124, v937, v123, ADDRESS(c148), 0u, ADDRESS(c148), 0u, v972, v973);
+    v974 = load8(v124);
+    v975 = v974 == 0u;
+    if (v975) { goto L121; }
+    else { goto L122; }
 L121:;
-    UNREACHABLE;
+    v976 = v124 + 8u * 1u;
+    v977 = load64(v976);
+    v978 = v214 + 208u * 1u;
+    store64(v978, v977);
+    goto L122;
 L122:;
-    switch (v55) {
-    case 5u: goto L123;
-    case 6u: goto L124;
-    case 4u: goto L125;
-    case 0u: goto L130;
-    case 1u: goto L131;
-    case 2u: goto L131;
-    case 3u: goto L131;
-    default: goto L121;
-    }
+    store16(v216, 5u);
+    store16(v218, 3u);
+    store16(v219, 0u);
+    store16(v220, 0u);
+    v85 = v220; v86 = v219; v87 = v218; v88 = v216; v89 = v214; goto L190;
 L123:;
-    store16(v211, 4u);
-    store16(v213, v744);
-    store16(v214, 0u);
-    store16(v215, 0u);
-    v102 = 3u; v103 = v744; v104 = 65535u; v105 = 0u; goto L225;
-L124:;
-    f119(v209, v744, v56);
-    v80 = v215; v81 = v214; v82 = v213; v83 = v211; v84 = v209; goto L188;
-L125:;
-    v970 = v926 == 1u;
-    if (v970) { goto L126; }
-    else { goto L129; }
-L126:;
-    v971 = (u64)v744;
-    v972 = v209 + 152u * 1u;
-    v973 = load64(v972);
-    v974 = v973 > v971;
-    if (v974) { goto L127; }
-    else { goto L128; }
-L127:;
-    v975 = v209 + 144u * 1u;
-    v976 = load_address(v975);
-    v977 = (u64)((u64)v971 << (4u & 63u));
-    v978 = v976 + v977 * 1u;
-    v979 = v978 + 8u * 1u;
-    store8(v979, 1u);
-    goto L128;
-L128:;
-    f116(v209, v210);
-    v80 = v215; v81 = v214; v82 = v213; v83 = v211; v84 = v209; goto L188;
-L129:;
-    v980 = (u16)v44;
-    store16(v211, 13u);
-    store8(v213, 1u);
-    v981 = v209 + 175u * 1u;
-    store8(v981, 1u);
-    store16(v214, v980);
-    store16(v215, v45);
-    v80 = v215; v81 = v214; v82 = v213; v83 = v211; v84 = v209; goto L188;
-L130:;
-    f116(v209, v210);
-    v80 = v215; v81 = v214; v82 = v213; v83 = v211; v84 = v209; goto L188;
-L131:;
-    if (v46) { goto L132; }
-    else { goto L143; }
-L132:;
-    switch (v55) {
-    case 1u: goto L133;
-    case 2u: goto L136;
-    case 3u: goto L139;
-    default: goto L142;
-    }
-L133:;
-    v982 = load64(v745);
-    v983 = (u64)v45;
-    v984 = v982 > v983;
-    if (v984) { goto L134; }
-    else { v57 = 0u; goto L135; }
-L134:;
-    v985 = v209 + 96u * 1u;
-    v986 = load_address(v985);
-    v987 = (u64)((u64)v983 << (6u & 63u));
-    v988 = v986 + v987 * 1u;
-    v989 = v988 + 8u * 1u;
-    v990 = load8(v989);
-    v57 = v990; goto L135;
-L135:;
-    store16(v211, 2u);
-    store16(v213, v45);
-    store8(v214, v57);
-    v991 = v209 + 177u * 1u;
-    store8(v991, 0u);
-    store16(v215, 0u);
-    v80 = v215; v81 = v214; v82 = v213; v83 = v211; v84 = v209; goto L188;
-L136:;
-    store64(v116, 2u);
-    v992 = v116 + 8u * 1u;
-    store64(v992, v210);
-    v993 = v116 + 16u * 1u;
-    store16(v993, 1u);
-    v994 = v116 + 18u * 1u;
-    store16(v994, v45);
-    v995 = v116 + 20u * 1u;
-    store16(v995, 0u);
-    v996 = v116 + 22u * 1u;
-    store16(v996, 0u);
-    v997 = v116 + 24u * 1u;
-    store64(v997, 0u);
-    memory_set(v117, 0u, 16u);
-    v998 = v209 + 8u * 1u;
-    v999 = v209 + 184u * 1u;
-    v1000 = load_address(v999);
-    v1001 = v209 + 192u * 1u;
-    v1002 = load64(v1001);
-    f97(v117, v998, v116, ADDRESS(c148), 0u, ADDRESS(c148), 0u, v1000, v1002);
-    v1003 = load8(v117);
-    v1004 = v1003 == 0u;
-    if (v1004) { goto L137; }
-    else { goto L138; }
-L137:;
-    v1005 = v117 + 8u * 1u;
-    v1006 = load64(v1005);
-    v1007 = v209 + 208u * 1u;
-    store64(v1007, v1006);
-    goto L138;
-L138:;
-    store16(v211, 5u);
-    store16(v213, 3u);
-    store16(v214, 0u);
-    store16(v215, 0u);
-    v80 = v215; v81 = v214; v82 = v213; v83 = v211; v84 = v209; goto L188;
-L139:;
-    v1008 = (u16)v56;
-    store64(v114, 2u);
-    v1009 = v114 + 8u * 1u;
-    store64(v1009, v210);
-    v1010 = v114 + 16u * 1u;
-    store16(v1010, 1u);
-    v1011 = v114 + 18u * 1u;
-    store16(v1011, v45);
-    v1012 = v114 + 20u * 1u;
-    store16(v1012, 0u);
-    v1013 = v114 + 22u * 1u;
-    store16(v1013, 0u);
-    v1014 = v114 + 24u * 1u;
-    store64(v1014, 0u);
-    memory_set(v115, 0u, 16u);
-    v1015 = v209 + 8u * 1u;
-    v1016 = v209 + 184u * 1u;
-    v1017 = load_address(v1016);
-    v1018 = v209 + 192u * 1u;
-    v1019 = load64(v1018);
-    f97(v115, v1015, v114, ADDRESS(c148), 0u, ADDRESS(c148), 0u, v1017, v1019);
-    v1020 = load8(v115);
-    v1021 = v1020 == 0u;
-    if (v1021) { goto L140; }
-    else { goto L141; }
-L140:;
-    v1022 = v115 + 8u * 1u;
-    v1023 = load64(v1022);
-    v1024 = v209 + 208u * 1u;
-    store64(v1024, v1023);
-    goto L141;
-L141:;
-    store16(v211, 5u);
-    store16(v213, 4u);
-    store16(v214, v744);
-    store16(v215, v1008);
-    v80 = v215; v81 = v214; v82 = v213; v83 = v211; v84 = v209; goto L188;
-L142:;
     UNREACHABLE;
-L143:;
-    f116(v209, v210);
-    v80 = v215; v81 = v214; v82 = v213; v83 = v211; v84 = v209; goto L188;
-L144:;
-    v1025 = load16(v152);
-    v1026 = (u64)v1025;
-    v1027 = v148 + 128u * 1u;
+L124:;
+    switch (v60) {
+    case 5u: goto L125;
+    case 6u: goto L126;
+    case 4u: goto L127;
+    case 0u: goto L132;
+    case 1u: goto L133;
+    case 2u: goto L133;
+    case 3u: goto L133;
+    default: goto L123;
+    }
+L125:;
+    store16(v216, 4u);
+    store16(v218, v749);
+    store16(v219, 0u);
+    store16(v220, 0u);
+    v107 = 3u; v108 = v749; v109 = 65535u; v110 = 0u; goto L227;
+L126:;
+    f119(v214, v749, v61);
+    v85 = v220; v86 = v219; v87 = v218; v88 = v216; v89 = v214; goto L190;
+L127:;
+    v979 = v935 == 1u;
+    if (v979) { goto L128; }
+    else { goto L131; }
+L128:;
+    v980 = (u64)v749;
+    v981 = v214 + 152u * 1u;
+    v982 = load64(v981);
+    v983 = v982 > v980;
+    if (v983) { goto L129; }
+    else { goto L130; }
+L129:;
+    v984 = v214 + 144u * 1u;
+    v985 = load_address(v984);
+    v986 = (u64)((u64)v980 << (4u & 63u));
+    v987 = v985 + v986 * 1u;
+    v988 = v987 + 8u * 1u;
+    store8(v988, 1u);
+    goto L130;
+L130:;
+    f116(v214, v215);
+    v85 = v220; v86 = v219; v87 = v218; v88 = v216; v89 = v214; goto L190;
+L131:;
+    v989 = (u16)v56;
+    store16(v216, 13u);
+    store8(v218, 1u);
+    v990 = v214 + 175u * 1u;
+    store8(v990, 1u);
+    store16(v219, v989);
+    store16(v220, v55);
+    v85 = v220; v86 = v219; v87 = v218; v88 = v216; v89 = v214; goto L190;
+L132:;
+    f116(v214, v215);
+    v85 = v220; v86 = v219; v87 = v218; v88 = v216; v89 = v214; goto L190;
+L133:;
+    if (v54) { goto L134; }
+    else { goto L145; }
+L134:;
+    switch (v60) {
+    case 1u: goto L135;
+    case 2u: goto L138;
+    case 3u: goto L141;
+    default: goto L144;
+    }
+L135:;
+    v991 = load64(v750);
+    v992 = (u64)v55;
+    v993 = v991 > v992;
+    if (v993) { goto L136; }
+    else { v62 = 0u; goto L137; }
+L136:;
+    v994 = v214 + 96u * 1u;
+    v995 = load_address(v994);
+    v996 = (u64)((u64)v992 << (6u & 63u));
+    v997 = v995 + v996 * 1u;
+    v998 = v997 + 8u * 1u;
+    v999 = load8(v998);
+    v62 = v999; goto L137;
+L137:;
+    store16(v216, 2u);
+    store16(v218, v55);
+    store8(v219, v62);
+    v1000 = v214 + 177u * 1u;
+    store8(v1000, 0u);
+    store16(v220, 0u);
+    v85 = v220; v86 = v219; v87 = v218; v88 = v216; v89 = v214; goto L190;
+L138:;
+    store64(v121, 2u);
+    v1001 = v121 + 8u * 1u;
+    store64(v1001, v215);
+    v1002 = v121 + 16u * 1u;
+    store16(v1002, 1u);
+    v1003 = v121 + 18u * 1u;
+    store16(v1003, v55);
+    v1004 = v121 + 20u * 1u;
+    store16(v1004, 0u);
+    v1005 = v121 + 22u * 1u;
+    store16(v1005, 0u);
+    v1006 = v121 + 24u * 1u;
+    store64(v1006, 0u);
+    memory_set(v122, 0u, 16u);
+    v1007 = v214 + 8u * 1u;
+    v1008 = v214 + 184u * 1u;
+    v1009 = load_address(v1008);
+    v1010 = v214 + 192u * 1u;
+    v1011 = load64(v1010);
+    f97(v122, v1007, v121, ADDRESS(c148), 0u, ADDRESS(c148), 0u, v1009, v1011);
+    v1012 = load8(v122);
+    v1013 = v1012 == 0u;
+    if (v1013) { goto L139; }
+    else { goto L140; }
+L139:;
+    v1014 = v122 + 8u * 1u;
+    v1015 = load64(v1014);
+    v1016 = v214 + 208u * 1u;
+    store64(v1016, v1015);
+    goto L140;
+L140:;
+    store16(v216, 5u);
+    store16(v218, 3u);
+    store16(v219, 0u);
+    store16(v220, 0u);
+    v85 = v220; v86 = v219; v87 = v218; v88 = v216; v89 = v214; goto L190;
+L141:;
+    v1017 = (u16)v61;
+    store64(v119, 2u);
+    v1018 = v119 + 8u * 1u;
+    store64(v1018, v215);
+    v1019 = v119 + 16u * 1u;
+    store16(v1019, 1u);
+    v1020 = v119 + 18u * 1u;
+    store16(v1020, v55);
+    v1021 = v119 + 20u * 1u;
+    store16(v1021, 0u);
+    v1022 = v119 + 22u * 1u;
+    store16(v1022, 0u);
+    v1023 = v119 + 24u * 1u;
+    store64(v1023, 0u);
+    memory_set(v120, 0u, 16u);
+    v1024 = v214 + 8u * 1u;
+    v1025 = v214 + 184u * 1u;
+    v1026 = load_address(v1025);
+    v1027 = v214 + 192u * 1u;
     v1028 = load64(v1027);
-    v1029 = v1028 > v1026;
-    if (v1029) { goto L145; }
-    else { goto L146; }
+    f97(v120, v1024, v119, ADDRESS(c148), 0u, ADDRESS(c148), 0u, v1026, v1028);
+    v1029 = load8(v120);
+    v1030 = v1029 == 0u;
+    if (v1030) { goto L142; }
+    else { goto L143; }
+L142:;
+    v1031 = v120 + 8u * 1u;
+    v1032 = load64(v1031);
+    v1033 = v214 + 208u * 1u;
+    store64(v1033, v1032);
+    goto L143;
+L143:;
+    store16(v216, 5u);
+    store16(v218, 4u);
+    store16(v219, v749);
+    store16(v220, v1017);
+    v85 = v220; v86 = v219; v87 = v218; v88 = v216; v89 = v214; goto L190;
+L144:;
+    UNREACHABLE;
 L145:;
-    v1030 = v148 + 120u * 1u;
-    v1031 = load_address(v1030);
-    v1032 = (u64)((u64)v1026 << (1u & 63u));
-    v1033 = v1031 + v1032 * 1u;
-    store16(v1033, v146);
-    goto L146;
+    f116(v214, v215);
+    v85 = v220; v86 = v219; v87 = v218; v88 = v216; v89 = v214; goto L190;
 L146:;
-    store64(v112, 2u);
-    v1034 = v112 + 8u * 1u;
-    store64(v1034, v149);
-    v1035 = v112 + 16u * 1u;
-    store16(v1035, 0u);
-    v1036 = v112 + 18u * 1u;
-    store16(v1036, v1025);
-    v1037 = v112 + 20u * 1u;
-    store16(v1037, v146);
-    v1038 = v112 + 22u * 1u;
-    store16(v1038, 0u);
-    v1039 = v112 + 24u * 1u;
-    store64(v1039, 0u);
-    memory_set(v113, 0u, 16u);
-    v1040 = v148 + 8u * 1u;
-    v1041 = v148 + 184u * 1u;
-    v1042 = load_address(v1041);
-    v1043 = v148 + 192u * 1u;
-    v1044 = load64(v1043);
-    f97(v113, v1040, v112, ADDRESS(c148), 0u, ADDRESS(c148), 0u, v1042, v1044);
-    v1045 = load8(v113);
-    v1046 = v1045 == 0u;
-    if (v1046) { goto L147; }
+    v1034 = load16(v157);
+    v1035 = (u64)v1034;
+    v1036 = v153 + 128u * 1u;
+    v1037 = load64(v1036);
+    v1038 = v1037 > v1035;
+    if (v1038) { goto L147; }
     else { goto L148; }
 L147:;
-    v1047 = v113 + 8u * 1u;
-    v1048 = load64(v1047);
-    v1049 = v148 + 208u * 1u;
-    store64(v1049, v1048);
+    v1039 = v153 + 120u * 1u;
+    v1040 = load_address(v1039);
+    v1041 = (u64)((u64)v1035 << (1u & 63u));
+    v1042 = v1040 + v1041 * 1u;
+    store16(v1042, v151);
     goto L148;
 L148:;
-    store16(v150, 5u);
-    store16(v152, 0u);
-    store16(v153, v1025);
-    store16(v154, 0u);
-    v80 = v154; v81 = v153; v82 = v152; v83 = v150; v84 = v148; goto L188;
+    store64(v117, 2u);
+    v1043 = v117 + 8u * 1u;
+    store64(v1043, v154);
+    v1044 = v117 + 16u * 1u;
+    store16(v1044, 0u);
+    v1045 = v117 + 18u * 1u;
+    store16(v1045, v1034);
+    v1046 = v117 + 20u * 1u;
+    store16(v1046, v151);
+    v1047 = v117 + 22u * 1u;
+    store16(v1047, 0u);
+    v1048 = v117 + 24u * 1u;
+    store64(v1048, 0u);
+    memory_set(v118, 0u, 16u);
+    v1049 = v153 + 8u * 1u;
+    v1050 = v153 + 184u * 1u;
+    v1051 = load_address(v1050);
+    v1052 = v153 + 192u * 1u;
+    v1053 = load64(v1052);
+    f97(v118, v1049, v117, ADDRESS(c148), 0u, ADDRESS(c148), 0u, v1051, v1053);
+    v1054 = load8(v118);
+    v1055 = v1054 == 0u;
+    if (v1055) { goto L149; }
+    else { goto L150; }
 L149:;
-    v1050 = v170 + 178u * 1u;
-    v1051 = v170 + 176u * 1u;
-    v1052 = v170 + 174u * 1u;
-    v1053 = load64(a1);
-    f120(v170, v1053, 4u, 0u, ADDRESS(c148), 0u);
-    v80 = v1050; v81 = v1051; v82 = v1052; v83 = v171; v84 = v170; goto L188;
+    v1056 = v118 + 8u * 1u;
+    v1057 = load64(v1056);
+    v1058 = v153 + 208u * 1u;
+    store64(v1058, v1057);
+    goto L150;
 L150:;
-    if (v29) { goto L151; }
-    else { v58 = v19; v59 = v20; v60 = v21; v61 = v22; v62 = v23; v63 = v24; v64 = v25; v65 = v26; goto L152; }
+    store16(v155, 5u);
+    store16(v157, 0u);
+    store16(v158, v1034);
+    store16(v159, 0u);
+    v85 = v159; v86 = v158; v87 = v157; v88 = v155; v89 = v153; goto L190;
 L151:;
-    f120(v24, v23, 0u, 0u, v25, v26);
-    v80 = v19; v81 = v20; v82 = v21; v83 = v22; v84 = v24; goto L188;
+    v1059 = v175 + 178u * 1u;
+    v1060 = v175 + 176u * 1u;
+    v1061 = v175 + 174u * 1u;
+    v1062 = load64(a1);
+    f120(v175, v1062, 4u, 0u, ADDRESS(c148), 0u);
+    v85 = v1059; v86 = v1060; v87 = v1061; v88 = v176; v89 = v175; goto L190;
 L152:;
-    f120(v63, v62, 1u, 0u, v64, v65);
-    v80 = v58; v81 = v59; v82 = v60; v83 = v61; v84 = v63; goto L188;
+    if (v29) { goto L153; }
+    else { v63 = v19; v64 = v20; v65 = v21; v66 = v22; v67 = v23; v68 = v24; v69 = v25; v70 = v26; goto L154; }
 L153:;
-    f120(v71, v70, 2u, v72, ADDRESS(c148), 0u);
-    v80 = v66; v81 = v67; v82 = v68; v83 = v69; v84 = v71; goto L188;
+    f120(v24, v23, 0u, 0u, v25, v26);
+    v85 = v19; v86 = v20; v87 = v21; v88 = v22; v89 = v24; goto L190;
 L154:;
-    f120(v174, v175, 3u, 0u, ADDRESS(c148), 0u);
-    v80 = v180; v81 = v179; v82 = v178; v83 = v176; v84 = v174; goto L188;
+    f120(v68, v67, 1u, 0u, v69, v70);
+    v85 = v63; v86 = v64; v87 = v65; v88 = v66; v89 = v68; goto L190;
 L155:;
-    v1054 = load8(v187);
-    v1055 = v183 + 175u * 1u;
-    v1056 = load16(v188);
-    v1057 = load16(v189);
-    switch (v1054) {
-    case 0u: goto L156;
-    case 1u: goto L157;
-    case 2u: goto L162;
-    case 3u: goto L172;
-    case 4u: goto L173;
-    case 5u: goto L174;
-    case 6u: goto L175;
-    default: goto L176;
-    }
+    f120(v76, v75, 2u, v77, ADDRESS(c148), 0u);
+    v85 = v71; v86 = v72; v87 = v73; v88 = v74; v89 = v76; goto L190;
 L156:;
-    store16(v185, 9u);
-    store16(v187, v1056);
-    store16(v188, 0u);
-    store16(v189, 0u);
-    v89 = v183; v90 = v1056; goto L200;
+    f120(v179, v180, 3u, 0u, ADDRESS(c148), 0u);
+    v85 = v185; v86 = v184; v87 = v183; v88 = v181; v89 = v179; goto L190;
 L157:;
-    v1058 = v183 + 104u * 1u;
-    v1059 = load64(v1058);
-    v1060 = (u64)v1056;
-    v1061 = v1059 > v1060;
-    if (v1061) { goto L158; }
-    else { v75 = 0u; goto L161; }
+    v1063 = load8(v192);
+    v1064 = v188 + 175u * 1u;
+    v1065 = load16(v193);
+    v1066 = load16(v194);
+    switch (v1063) {
+    case 0u: goto L158;
+    case 1u: goto L159;
+    case 2u: goto L164;
+    case 3u: goto L174;
+    case 4u: goto L175;
+    case 5u: goto L176;
+    case 6u: goto L177;
+    default: goto L178;
+    }
 L158:;
-    v1062 = v183 + 96u * 1u;
-    v1063 = load_address(v1062);
-    v1064 = (u64)((u64)v1060 << (6u & 63u));
-    v1065 = v1063 + v1064 * 1u;
-    v1066 = load64(v1065);
-    v1067 = v183 + 144u * 1u;
-    v1068 = load_address(v1067);
-    v1069 = v183 + 152u * 1u;
-    v1070 = load64(v1069);
-    v1071 = v1070 == 0u;
-    if (v1071) { v75 = 0u; goto L161; }
-    else { v73 = 0u; v74 = 0u; goto L159; }
+    store16(v190, 9u);
+    store16(v192, v1065);
+    store16(v193, 0u);
+    store16(v194, 0u);
+    v94 = v188; v95 = v1065; goto L202;
 L159:;
-    v1072 = (u64)((u64)v74 << (4u & 63u));
-    v1073 = v1068 + v1072 * 1u;
-    v1074 = load64(v1073);
-    v1075 = v1074 == v1066;
-    if (v1075) { v75 = v73; goto L161; }
-    else { goto L160; }
+    v1067 = v188 + 104u * 1u;
+    v1068 = load64(v1067);
+    v1069 = (u64)v1065;
+    v1070 = v1068 > v1069;
+    if (v1070) { goto L160; }
+    else { v80 = 0u; goto L163; }
 L160:;
-    v1076 = (u16)((u32)v73 + (u32)1u);
-    v1077 = (u64)((u64)v74 + (u64)1u);
-    v1078 = v1077 == v1070;
-    if (v1078) { v75 = 0u; goto L161; }
-    else { v73 = v1076; v74 = v1077; goto L159; }
+    v1071 = v188 + 96u * 1u;
+    v1072 = load_address(v1071);
+    v1073 = (u64)((u64)v1069 << (6u & 63u));
+    v1074 = v1072 + v1073 * 1u;
+    v1075 = load64(v1074);
+    v1076 = v188 + 144u * 1u;
+    v1077 = load_address(v1076);
+    v1078 = v188 + 152u * 1u;
+    v1079 = load64(v1078);
+    v1080 = v1079 == 0u;
+    if (v1080) { v80 = 0u; goto L163; }
+    else { v78 = 0u; v79 = 0u; goto L161; }
 L161:;
-    store16(v185, 10u);
-    store16(v187, v75);
-    store16(v188, 0u);
-    store16(v189, 0u);
-    v102 = 8u; v103 = v75; v104 = 65535u; v105 = 0u; goto L225;
+    v1081 = (u64)((u64)v79 << (4u & 63u));
+    v1082 = v1077 + v1081 * 1u;
+    v1083 = load64(v1082);
+    v1084 = v1083 == v1075;
+    if (v1084) { v80 = v78; goto L163; }
+    else { goto L162; }
 L162:;
-    v1079 = v183 + 104u * 1u;
-    v1080 = load64(v1079);
-    v1081 = (u64)v1056;
-    v1082 = v1080 > v1081;
-    if (v1082) { goto L163; }
-    else { v79 = 0u; goto L167; }
+    v1085 = (u16)((u32)v78 + (u32)1u);
+    v1086 = (u64)((u64)v79 + (u64)1u);
+    v1087 = v1086 == v1079;
+    if (v1087) { v80 = 0u; goto L163; }
+    else { v78 = v1085; v79 = v1086; goto L161; }
 L163:;
-    v1083 = v183 + 96u * 1u;
-    v1084 = load_address(v1083);
-    v1085 = (u64)((u64)v1081 << (6u & 63u));
-    v1086 = v1084 + v1085 * 1u;
-    v1087 = load64(v1086);
-    v1088 = v183 + 144u * 1u;
-    v1089 = load_address(v1088);
-    v1090 = v183 + 152u * 1u;
-    v1091 = load64(v1090);
-    v1092 = v1091 == 0u;
-    if (v1092) { v79 = 0u; goto L167; }
-    else { v76 = 0u; v77 = 0u; goto L164; }
+    store16(v190, 10u);
+    store16(v192, v80);
+    store16(v193, 0u);
+    store16(v194, 0u);
+    v107 = 8u; v108 = v80; v109 = 65535u; v110 = 0u; goto L227;
 L164:;
-    v1093 = (u64)((u64)v77 << (4u & 63u));
-    v1094 = v1089 + v1093 * 1u;
-    v1095 = load64(v1094);
-    v1096 = v1095 == v1087;
-    if (v1096) { v78 = v76; goto L166; }
-    else { goto L165; }
+    v1088 = v188 + 104u * 1u;
+    v1089 = load64(v1088);
+    v1090 = (u64)v1065;
+    v1091 = v1089 > v1090;
+    if (v1091) { goto L165; }
+    else { v84 = 0u; goto L169; }
 L165:;
-    v1097 = (u16)((u32)v76 + (u32)1u);
-    v1098 = (u64)((u64)v77 + (u64)1u);
-    v1099 = v1098 == v1091;
-    if (v1099) { v78 = 0u; goto L166; }
-    else { v76 = v1097; v77 = v1098; goto L164; }
+    v1092 = v188 + 96u * 1u;
+    v1093 = load_address(v1092);
+    v1094 = (u64)((u64)v1090 << (6u & 63u));
+    v1095 = v1093 + v1094 * 1u;
+    v1096 = load64(v1095);
+    v1097 = v188 + 144u * 1u;
+    v1098 = load_address(v1097);
+    v1099 = v188 + 152u * 1u;
+    v1100 = load64(v1099);
+    v1101 = v1100 == 0u;
+    if (v1101) { v84 = 0u; goto L169; }
+    else { v81 = 0u; v82 = 0u; goto L166; }
 L166:;
-    v1100 = (u64)v78;
-    v79 = v1100; goto L167;
-L167:;
-    v1101 = load8(v183);
-    v1102 = v1101 == 1u;
-    if (v1102) { goto L168; }
-    else { goto L171; }
-L168:;
-    v1103 = v183 + 152u * 1u;
+    v1102 = (u64)((u64)v82 << (4u & 63u));
+    v1103 = v1098 + v1102 * 1u;
     v1104 = load64(v1103);
-    v1105 = v1104 > v79;
-    if (v1105) { goto L169; }
-    else { goto L170; }
+    v1105 = v1104 == v1096;
+    if (v1105) { v83 = v81; goto L168; }
+    else { goto L167; }
+L167:;
+    v1106 = (u16)((u32)v81 + (u32)1u);
+    v1107 = (u64)((u64)v82 + (u64)1u);
+    v1108 = v1107 == v1100;
+    if (v1108) { v83 = 0u; goto L168; }
+    else { v81 = v1106; v82 = v1107; goto L166; }
+L168:;
+    v1109 = (u64)v83;
+    v84 = v1109; goto L169;
 L169:;
-    v1106 = v183 + 144u * 1u;
-    v1107 = load_address(v1106);
-    v1108 = (u64)((u64)v79 << (4u & 63u));
-    v1109 = v1107 + v1108 * 1u;
-    v1110 = v1109 + 8u * 1u;
-    store8(v1110, 1u);
-    goto L170;
+    v1110 = load8(v188);
+    v1111 = v1110 == 1u;
+    if (v1111) { goto L170; }
+    else { goto L173; }
 L170:;
-    f116(v183, v184);
-    v80 = v189; v81 = v188; v82 = v187; v83 = v185; v84 = v183; goto L188;
+    v1112 = v188 + 152u * 1u;
+    v1113 = load64(v1112);
+    v1114 = v1113 > v84;
+    if (v1114) { goto L171; }
+    else { goto L172; }
 L171:;
-    store16(v185, 13u);
-    store8(v187, 1u);
-    store8(v1055, 0u);
-    store16(v188, 1u);
-    store16(v189, v1056);
-    v100 = 1u; v101 = v1056; goto L223;
+    v1115 = v188 + 144u * 1u;
+    v1116 = load_address(v1115);
+    v1117 = (u64)((u64)v84 << (4u & 63u));
+    v1118 = v1116 + v1117 * 1u;
+    v1119 = v1118 + 8u * 1u;
+    store8(v1119, 1u);
+    goto L172;
 L172:;
-    f116(v183, v184);
-    v80 = v189; v81 = v188; v82 = v187; v83 = v185; v84 = v183; goto L188;
+    f116(v188, v189);
+    v85 = v194; v86 = v193; v87 = v192; v88 = v190; v89 = v188; goto L190;
 L173:;
-    v1111 = (u8)((v1057) & UINT64_C(1));
-    f119(v183, v1056, v1111);
-    v80 = v189; v81 = v188; v82 = v187; v83 = v185; v84 = v183; goto L188;
+    store16(v190, 13u);
+    store8(v192, 1u);
+    store8(v1064, 0u);
+    store16(v193, 1u);
+    store16(v194, v1065);
+    v105 = 1u; v106 = v1065; goto L225;
 L174:;
-    store16(v185, 4u);
-    store16(v187, v1056);
-    store16(v188, 0u);
-    store16(v189, 0u);
-    v102 = 3u; v103 = v1056; v104 = 65535u; v105 = 0u; goto L225;
+    f116(v188, v189);
+    v85 = v194; v86 = v193; v87 = v192; v88 = v190; v89 = v188; goto L190;
 L175:;
-    v1112 = (u8)(v1057);
-    v1113 = (u16)((u32)v1057 >> (8u & 15u));
-    v1114 = (u8)(v1113);
-    v1115 = (u16)((u32)v1056 & (u32)255u);
-    store16(v185, 13u);
-    store8(v187, 0u);
-    store16(v188, v1115);
-    store8(v189, v1112);
-    v1116 = v183 + 179u * 1u;
-    store8(v1116, v1114);
-    v80 = v189; v81 = v188; v82 = v187; v83 = v185; v84 = v183; goto L188;
+    v1120 = (u8)((v1066) & UINT64_C(1));
+    f119(v188, v1065, v1120);
+    v85 = v194; v86 = v193; v87 = v192; v88 = v190; v89 = v188; goto L190;
 L176:;
-    UNREACHABLE;
+    store16(v190, 4u);
+    store16(v192, v1065);
+    store16(v193, 0u);
+    store16(v194, 0u);
+    v107 = 3u; v108 = v1065; v109 = 65535u; v110 = 0u; goto L227;
 L177:;
-    f116(v183, v184);
-    v80 = v189; v81 = v188; v82 = v187; v83 = v185; v84 = v183; goto L188;
+    v1121 = (u8)(v1066);
+    v1122 = (u16)((u32)v1066 >> (8u & 15u));
+    v1123 = (u8)(v1122);
+    v1124 = (u16)((u32)v1065 & (u32)255u);
+    store16(v190, 13u);
+    store8(v192, 0u);
+    store16(v193, v1124);
+    store8(v194, v1121);
+    v1125 = v188 + 179u * 1u;
+    store8(v1125, v1123);
+    v85 = v194; v86 = v193; v87 = v192; v88 = v190; v89 = v188; goto L190;
 L178:;
-    v1117 = v157 + 178u * 1u;
-    v1118 = v157 + 176u * 1u;
-    v1119 = v157 + 174u * 1u;
-    v1120 = load16(v1119);
-    store16(v158, 7u);
-    store16(v1118, 0u);
-    store16(v1117, 0u);
-    v87 = v157; v88 = v1120; goto L198;
+    UNREACHABLE;
 L179:;
-    v1121 = load64(a1);
-    v1122 = load16(v165);
-    memory_set(v111, 0u, 32u);
-    store8(v111, 4u);
-    v1123 = v111 + 8u * 1u;
-    store64(v1123, v1121);
-    v1124 = v111 + 16u * 1u;
-    store8(v1124, 6u);
-    v1125 = v111 + 18u * 1u;
-    store16(v1125, v1122);
-    v1126 = v162 + 8u * 1u;
-    v1127 = f98(v1126, v111);
-    if (v1127) { goto L180; }
-    else { goto L183; }
+    f116(v188, v189);
+    v85 = v194; v86 = v193; v87 = v192; v88 = v190; v89 = v188; goto L190;
 L180:;
-    store64(v109, 4u);
-    v1128 = v109 + 8u * 1u;
-    memory_cpy(v1128, v1123, 24u);
-    memory_set(v110, 0u, 16u);
-    v1129 = v162 + 184u * 1u;
-    v1130 = load_address(v1129);
-    v1131 = v162 + 192u * 1u;
-    v1132 = load64(v1131);
-    f97(v110, v1126, v109, ADDRESS(c148), 0u, ADDRESS(c148), 0u, v1130, v1132);
-    v1133 = load8(v110);
-    v1134 = v1133 == 0u;
-    if (v1134) { goto L181; }
-    else { goto L182; }
+    v1126 = v162 + 178u * 1u;
+    v1127 = v162 + 176u * 1u;
+    v1128 = v162 + 174u * 1u;
+    v1129 = load16(v1128);
+    store16(v163, 7u);
+    store16(v1127, 0u);
+    store16(v1126, 0u);
+    v92 = v162; v93 = v1129; goto L200;
 L181:;
-    v1135 = v110 + 8u * 1u;
-    v1136 = load64(v1135);
-    v1137 = v162 + 208u * 1u;
-    store64(v1137, v1136);
-    goto L182;
+    v1130 = load64(a1);
+    v1131 = load16(v170);
+    memory_set(v116, 0u, 32u);
+    store8(v116, 4u);
+    v1132 = v116 + 8u * 1u;
+    store64(v1132, v1130);
+    v1133 = v116 + 16u * 1u;
+    store8(v1133, 6u);
+    v1134 = v116 + 18u * 1u;
+    store16(v1134, v1131);
+    v1135 = v167 + 8u * 1u;
+    v1136 = f98(v1135, v116);
+    if (v1136) { goto L182; }
+    else { goto L185; }
 L182:;
-    store16(v163, 5u);
-    store16(v165, 1542u);
-    store16(v166, 1u);
-    store16(v167, v1122);
-    goto L184;
+    store64(v114, 4u);
+    v1137 = v114 + 8u * 1u;
+    memory_cpy(v1137, v1132, 24u);
+    memory_set(v115, 0u, 16u);
+    v1138 = v167 + 184u * 1u;
+    v1139 = load_address(v1138);
+    v1140 = v167 + 192u * 1u;
+    v1141 = load64(v1140);
+    f97(v115, v1135, v114, ADDRESS(c148), 0u, ADDRESS(c148), 0u, v1139, v1141);
+    v1142 = load8(v115);
+    v1143 = v1142 == 0u;
+    if (v1143) { goto L183; }
+    else { goto L184; }
 L183:;
-    store16(v163, 13u);
-    store8(v165, 1u);
-    v1138 = v162 + 175u * 1u;
-    store8(v1138, 0u);
-    store16(v166, 1u);
-    store16(v167, v1122);
+    v1144 = v115 + 8u * 1u;
+    v1145 = load64(v1144);
+    v1146 = v167 + 208u * 1u;
+    store64(v1146, v1145);
     goto L184;
 L184:;
-    v80 = v167; v81 = v166; v82 = v165; v83 = v163; v84 = v162; goto L188;
+    store16(v168, 5u);
+    store16(v170, 1542u);
+    store16(v171, 1u);
+    store16(v172, v1131);
+    goto L186;
 L185:;
-    store16(v22, 13u);
-    store8(v21, 1u);
-    v1139 = v24 + 175u * 1u;
-    store8(v1139, 2u);
-    store16(v20, 0u);
-    store16(v19, 0u);
-    v80 = v19; v81 = v20; v82 = v21; v83 = v22; v84 = v24; goto L188;
+    store16(v168, 13u);
+    store8(v170, 1u);
+    v1147 = v167 + 175u * 1u;
+    store8(v1147, 0u);
+    store16(v171, 1u);
+    store16(v172, v1131);
+    goto L186;
 L186:;
+    v85 = v172; v86 = v171; v87 = v170; v88 = v168; v89 = v167; goto L190;
+L187:;
     store16(v22, 13u);
     store8(v21, 1u);
-    v1140 = v24 + 175u * 1u;
-    store8(v1140, 3u);
+    v1148 = v24 + 175u * 1u;
+    store8(v1148, 2u);
     store16(v20, 0u);
     store16(v19, 0u);
-    v80 = v19; v81 = v20; v82 = v21; v83 = v22; v84 = v24; goto L188;
-L187:;
-    UNREACHABLE;
+    v85 = v19; v86 = v20; v87 = v21; v88 = v22; v89 = v24; goto L190;
 L188:;
-    v1141 = load8(v83);
-    switch (v1141) {
-    case 0u: v102 = 7u; v103 = 0u; v104 = 65535u; v105 = 0u; goto L225;
-    case 5u: v102 = 7u; v103 = 0u; v104 = 65535u; v105 = 0u; goto L225;
-    case 1u: goto L193;
-    case 2u: goto L194;
-    case 3u: goto L215;
-    case 4u: goto L189;
-    case 6u: goto L218;
-    case 7u: goto L190;
-    case 8u: goto L219;
-    case 9u: goto L191;
-    case 10u: goto L192;
-    case 11u: goto L220;
-    case 12u: goto L204;
-    case 13u: goto L221;
-    default: goto L214;
-    }
+    store16(v22, 13u);
+    store8(v21, 1u);
+    v1149 = v24 + 175u * 1u;
+    store8(v1149, 3u);
+    store16(v20, 0u);
+    store16(v19, 0u);
+    v85 = v19; v86 = v20; v87 = v21; v88 = v22; v89 = v24; goto L190;
 L189:;
-    v1142 = load16(v82);
-    v102 = 3u; v103 = v1142; v104 = 65535u; v105 = 0u; goto L225;
+    UNREACHABLE;
 L190:;
-    v1143 = load16(v82);
-    v87 = v84; v88 = v1143; goto L198;
-L191:;
-    v1144 = load16(v82);
-    v89 = v84; v90 = v1144; goto L200;
-L192:;
-    v1145 = load16(v82);
-    v102 = 8u; v103 = v1145; v104 = 65535u; v105 = 0u; goto L225;
-L193:;
-    v1146 = load16(v82);
-    v102 = 1u; v103 = v1146; v104 = 65535u; v105 = 0u; goto L225;
-L194:;
-    v1147 = load16(v82);
-    v1148 = load8(v81);
-    v1149 = v84 + 104u * 1u;
-    v1150 = load64(v1149);
-    v1151 = (u64)v1147;
-    v1152 = v1150 > v1151;
-    if (v1152) { goto L195; }
-    else { v95 = v1148; v96 = 0u; v97 = v1147; goto L216; }
-L195:;
-    v1153 = v84 + 96u * 1u;
-    v1154 = load_address(v1153);
-    v1155 = (u64)((u64)v1151 << (6u & 63u));
-    v1156 = v1154 + v1155 * 1u;
-    v1157 = load64(v1156);
-    v1158 = v84 + 144u * 1u;
-    v1159 = load_address(v1158);
-    v1160 = v84 + 152u * 1u;
-    v1161 = load64(v1160);
-    v1162 = v1161 == 0u;
-    if (v1162) { v95 = v1148; v96 = 0u; v97 = v1147; goto L216; }
-    else { v85 = 0u; v86 = 0u; goto L196; }
-L196:;
-    v1163 = (u64)((u64)v86 << (4u & 63u));
-    v1164 = v1159 + v1163 * 1u;
-    v1165 = load64(v1164);
-    v1166 = v1165 == v1157;
-    if (v1166) { v95 = v1148; v96 = v85; v97 = v1147; goto L216; }
-    else { goto L197; }
-L197:;
-    v1167 = (u16)((u32)v85 + (u32)1u);
-    v1168 = (u64)((u64)v86 + (u64)1u);
-    v1169 = v1168 == v1161;
-    if (v1169) { v95 = v1148; v96 = 0u; v97 = v1147; goto L216; }
-    else { v85 = v1167; v86 = v1168; goto L196; }
-L198:;
-    v1170 = v87 + 104u * 1u;
-    v1171 = load64(v1170);
-    v1172 = (u64)v88;
-    v1173 = v1171 > v1172;
-    if (v1173) { goto L199; }
-    else { v98 = v88; v99 = 0u; goto L217; }
-L199:;
-    v1174 = v87 + 96u * 1u;
-    v1175 = load_address(v1174);
-    v1176 = (u64)((u64)v1172 << (6u & 63u));
-    v1177 = v1175 + v1176 * 1u;
-    v1178 = v1177 + 8u * 1u;
-    v1179 = load8(v1178);
-    v98 = v88; v99 = v1179; goto L217;
-L200:;
-    v1180 = v89 + 104u * 1u;
-    v1181 = load64(v1180);
-    v1182 = (u64)v90;
-    v1183 = v1181 > v1182;
-    if (v1183) { goto L201; }
-    else { v102 = 8u; v103 = 0u; v104 = 65535u; v105 = 0u; goto L225; }
-L201:;
-    v1184 = v89 + 96u * 1u;
-    v1185 = load_address(v1184);
-    v1186 = (u64)((u64)v1182 << (6u & 63u));
-    v1187 = v1185 + v1186 * 1u;
-    v1188 = load64(v1187);
-    v1189 = v89 + 144u * 1u;
-    v1190 = load_address(v1189);
-    v1191 = v89 + 152u * 1u;
-    v1192 = load64(v1191);
-    v1193 = v1192 == 0u;
-    if (v1193) { v102 = 8u; v103 = 0u; v104 = 65535u; v105 = 0u; goto L225; }
-    else { v91 = 0u; v92 = 0u; goto L202; }
-L202:;
-    v1194 = (u64)((u64)v92 << (4u & 63u));
-    v1195 = v1190 + v1194 * 1u;
-    v1196 = load64(v1195);
-    v1197 = v1196 == v1188;
-    if (v1197) { v102 = 8u; v103 = v91; v104 = 65535u; v105 = 0u; goto L225; }
-    else { goto L203; }
-L203:;
-    v1198 = (u16)((u32)v91 + (u32)1u);
-    v1199 = (u64)((u64)v92 + (u64)1u);
-    v1200 = v1199 == v1192;
-    if (v1200) { v102 = 8u; v103 = 0u; v104 = 65535u; v105 = 0u; goto L225; }
-    else { v91 = v1198; v92 = v1199; goto L202; }
-L204:;
-    v1201 = load16(v82);
-    v1202 = v84 + 96u * 1u;
-    v1203 = load_address(v1202);
-    v1204 = v84 + 104u * 1u;
-    v1205 = load64(v1204);
-    v1206 = (u64)v1201;
-    v1207 = v1205 > v1206;
-    v1208 = (u64)((u64)v1206 << (6u & 63u));
-    v1209 = v1203 + v1208 * 1u;
-    v1210 = v1207 ? v1209 : 0u;
-    if (v1207) { goto L205; }
-    else { v98 = v1201; v99 = 0u; goto L217; }
-L205:;
-    v1211 = load64(v1209);
-    v1212 = v1209 + 8u * 1u;
-    v93 = 0u; goto L206;
-L206:;
-    v1213 = (u64)((u64)v93 << (6u & 63u));
-    v1214 = v1203 + v1213 * 1u;
-    v1215 = load64(v1214);
-    v1216 = v1215 == v1211;
-    if (v1216) { goto L207; }
-    else { goto L211; }
-L207:;
-    v1217 = v1214 + 8u * 1u;
-    v1218 = load8(v1217);
-    v1219 = load8(v1212);
-    v1220 = v1218 == v1219;
-    if (v1220) { goto L208; }
-    else { goto L211; }
-L208:;
-    v1221 = v1214 + 12u * 1u;
-    v1222 = load16(v1221);
-    v1223 = v1222 == 8199u;
-    if (v1223) { goto L209; }
-    else { goto L211; }
-L209:;
-    v1224 = v1214 + 48u * 1u;
-    v1225 = load64(v1224);
-    v1226 = v1225 == 0u;
-    if (v1226) { goto L211; }
-    else { goto L210; }
-L210:;
-    v1227 = v1214 + 40u * 1u;
-    v1228 = load_address(v1227);
-    v94 = v1228; goto L213;
-L211:;
-    v1229 = (u64)((u64)v93 + (u64)1u);
-    v1230 = v1229 == v1205;
-    if (v1230) { goto L212; }
-    else { v93 = v1229; goto L206; }
-L212:;
-    v1231 = v1210 + 8u * 1u;
-    v94 = v1231; goto L213;
-L213:;
-    v1232 = load8(v94);
-    v98 = v1201; v99 = v1232; goto L217;
-L214:;
-    UNREACHABLE;
-L215:;
-    v1233 = load16(v82);
-    v1234 = load8(v81);
-    v95 = v1234; v96 = v1233; v97 = 65535u; goto L216;
-L216:;
-    v1235 = (u32)v95;
-    v102 = 2u; v103 = v96; v104 = v97; v105 = v1235; goto L225;
-L217:;
-    v1236 = (u32)v99;
-    v102 = 4u; v103 = 0u; v104 = v98; v105 = v1236; goto L225;
-L218:;
-    v1237 = load16(v82);
-    v102 = 5u; v103 = 0u; v104 = v1237; v105 = 0u; goto L225;
-L219:;
-    v1238 = load16(v82);
-    v102 = 6u; v103 = 0u; v104 = v1238; v105 = 0u; goto L225;
-L220:;
-    v1239 = load16(v82);
-    v102 = 9u; v103 = v1239; v104 = 65535u; v105 = 0u; goto L225;
-L221:;
-    v1240 = load8(v82);
-    v1241 = v84 + 175u * 1u;
-    v1242 = load8(v1241);
-    v1243 = load8(v81);
-    v1244 = load16(v80);
-    v1245 = (u8)((u32)v1242 + (u32)1u);
-    v1246 = (u32)v1245;
-    v1247 = v1243 == 0u;
-    v1248 = v1247 ? 65535u : v1244;
-    switch (v1240) {
-    case 0u: goto L222;
-    case 1u: v100 = v1246; v101 = v1248; goto L223;
-    case 2u: v102 = 10u; v103 = 0u; v104 = 65535u; v105 = UINT32_C(327680); goto L225;
-    default: goto L224;
+    v1150 = load8(v88);
+    switch (v1150) {
+    case 0u: v107 = 7u; v108 = 0u; v109 = 65535u; v110 = 0u; goto L227;
+    case 5u: v107 = 7u; v108 = 0u; v109 = 65535u; v110 = 0u; goto L227;
+    case 1u: goto L195;
+    case 2u: goto L196;
+    case 3u: goto L217;
+    case 4u: goto L191;
+    case 6u: goto L220;
+    case 7u: goto L192;
+    case 8u: goto L221;
+    case 9u: goto L193;
+    case 10u: goto L194;
+    case 11u: goto L222;
+    case 12u: goto L206;
+    case 13u: goto L223;
+    default: goto L216;
     }
-L222:;
-    v1249 = (u32)((u32)v1246 << (8u & 31u));
-    v102 = 10u; v103 = 0u; v104 = v1248; v105 = v1249; goto L225;
-L223:;
-    v1250 = (u32)((u32)v100 << (16u & 31u));
-    v102 = 10u; v103 = 0u; v104 = v101; v105 = v1250; goto L225;
-L224:;
+L191:;
+    v1151 = load16(v87);
+    v107 = 3u; v108 = v1151; v109 = 65535u; v110 = 0u; goto L227;
+L192:;
+    v1152 = load16(v87);
+    v92 = v89; v93 = v1152; goto L200;
+L193:;
+    v1153 = load16(v87);
+    v94 = v89; v95 = v1153; goto L202;
+L194:;
+    v1154 = load16(v87);
+    v107 = 8u; v108 = v1154; v109 = 65535u; v110 = 0u; goto L227;
+L195:;
+    v1155 = load16(v87);
+    v107 = 1u; v108 = v1155; v109 = 65535u; v110 = 0u; goto L227;
+L196:;
+    v1156 = load16(v87);
+    v1157 = load8(v86);
+    v1158 = v89 + 104u * 1u;
+    v1159 = load64(v1158);
+    v1160 = (u64)v1156;
+    v1161 = v1159 > v1160;
+    if (v1161) { goto L197; }
+    else { v100 = v1157; v101 = 0u; v102 = v1156; goto L218; }
+L197:;
+    v1162 = v89 + 96u * 1u;
+    v1163 = load_address(v1162);
+    v1164 = (u64)((u64)v1160 << (6u & 63u));
+    v1165 = v1163 + v1164 * 1u;
+    v1166 = load64(v1165);
+    v1167 = v89 + 144u * 1u;
+    v1168 = load_address(v1167);
+    v1169 = v89 + 152u * 1u;
+    v1170 = load64(v1169);
+    v1171 = v1170 == 0u;
+    if (v1171) { v100 = v1157; v101 = 0u; v102 = v1156; goto L218; }
+    else { v90 = 0u; v91 = 0u; goto L198; }
+L198:;
+    v1172 = (u64)((u64)v91 << (4u & 63u));
+    v1173 = v1168 + v1172 * 1u;
+    v1174 = load64(v1173);
+    v1175 = v1174 == v1166;
+    if (v1175) { v100 = v1157; v101 = v90; v102 = v1156; goto L218; }
+    else { goto L199; }
+L199:;
+    v1176 = (u16)((u32)v90 + (u32)1u);
+    v1177 = (u64)((u64)v91 + (u64)1u);
+    v1178 = v1177 == v1170;
+    if (v1178) { v100 = v1157; v101 = 0u; v102 = v1156; goto L218; }
+    else { v90 = v1176; v91 = v1177; goto L198; }
+L200:;
+    v1179 = v92 + 104u * 1u;
+    v1180 = load64(v1179);
+    v1181 = (u64)v93;
+    v1182 = v1180 > v1181;
+    if (v1182) { goto L201; }
+    else { v103 = v93; v104 = 0u; goto L219; }
+L201:;
+    v1183 = v92 + 96u * 1u;
+    v1184 = load_address(v1183);
+    v1185 = (u64)((u64)v1181 << (6u & 63u));
+    v1186 = v1184 + v1185 * 1u;
+    v1187 = v1186 + 8u * 1u;
+    v1188 = load8(v1187);
+    v103 = v93; v104 = v1188; goto L219;
+L202:;
+    v1189 = v94 + 104u * 1u;
+    v1190 = load64(v1189);
+    v1191 = (u64)v95;
+    v1192 = v1190 > v1191;
+    if (v1192) { goto L203; }
+    else { v107 = 8u; v108 = 0u; v109 = 65535u; v110 = 0u; goto L227; }
+L203:;
+    v1193 = v94 + 96u * 1u;
+    v1194 = load_address(v1193);
+    v1195 = (u64)((u64)v1191 << (6u & 63u));
+    v1196 = v1194 + v1195 * 1u;
+    v1197 = load64(v1196);
+    v1198 = v94 + 144u * 1u;
+    v1199 = load_address(v1198);
+    v1200 = v94 + 152u * 1u;
+    v1201 = load64(v1200);
+    v1202 = v1201 == 0u;
+    if (v1202) { v107 = 8u; v108 = 0u; v109 = 65535u; v110 = 0u; goto L227; }
+    else { v96 = 0u; v97 = 0u; goto L204; }
+L204:;
+    v1203 = (u64)((u64)v97 << (4u & 63u));
+    v1204 = v1199 + v1203 * 1u;
+    v1205 = load64(v1204);
+    v1206 = v1205 == v1197;
+    if (v1206) { v107 = 8u; v108 = v96; v109 = 65535u; v110 = 0u; goto L227; }
+    else { goto L205; }
+L205:;
+    v1207 = (u16)((u32)v96 + (u32)1u);
+    v1208 = (u64)((u64)v97 + (u64)1u);
+    v1209 = v1208 == v1201;
+    if (v1209) { v107 = 8u; v108 = 0u; v109 = 65535u; v110 = 0u; goto L227; }
+    else { v96 = v1207; v97 = v1208; goto L204; }
+L206:;
+    v1210 = load16(v87);
+    v1211 = v89 + 96u * 1u;
+    v1212 = load_address(v1211);
+    v1213 = v89 + 104u * 1u;
+    v1214 = load64(v1213);
+    v1215 = (u64)v1210;
+    v1216 = v1214 > v1215;
+    v1217 = (u64)((u64)v1215 << (6u & 63u));
+    v1218 = v1212 + v1217 * 1u;
+    v1219 = v1216 ? v1218 : 0u;
+    if (v1216) { goto L207; }
+    else { v103 = v1210; v104 = 0u; goto L219; }
+L207:;
+    v1220 = load64(v1218);
+    v1221 = v1218 + 8u * 1u;
+    v98 = 0u; goto L208;
+L208:;
+    v1222 = (u64)((u64)v98 << (6u & 63u));
+    v1223 = v1212 + v1222 * 1u;
+    v1224 = load64(v1223);
+    v1225 = v1224 == v1220;
+    if (v1225) { goto L209; }
+    else { goto L213; }
+L209:;
+    v1226 = v1223 + 8u * 1u;
+    v1227 = load8(v1226);
+    v1228 = load8(v1221);
+    v1229 = v1227 == v1228;
+    if (v1229) { goto L210; }
+    else { goto L213; }
+L210:;
+    v1230 = v1223 + 12u * 1u;
+    v1231 = load16(v1230);
+    v1232 = v1231 == 8199u;
+    if (v1232) { goto L211; }
+    else { goto L213; }
+L211:;
+    v1233 = v1223 + 48u * 1u;
+    v1234 = load64(v1233);
+    v1235 = v1234 == 0u;
+    if (v1235) { goto L213; }
+    else { goto L212; }
+L212:;
+    v1236 = v1223 + 40u * 1u;
+    v1237 = load_address(v1236);
+    v99 = v1237; goto L215;
+L213:;
+    v1238 = (u64)((u64)v98 + (u64)1u);
+    v1239 = v1238 == v1214;
+    if (v1239) { goto L214; }
+    else { v98 = v1238; goto L208; }
+L214:;
+    v1240 = v1219 + 8u * 1u;
+    v99 = v1240; goto L215;
+L215:;
+    v1241 = load8(v99);
+    v103 = v1210; v104 = v1241; goto L219;
+L216:;
     UNREACHABLE;
+L217:;
+    v1242 = load16(v87);
+    v1243 = load8(v86);
+    v100 = v1243; v101 = v1242; v102 = 65535u; goto L218;
+L218:;
+    v1244 = (u32)v100;
+    v107 = 2u; v108 = v101; v109 = v102; v110 = v1244; goto L227;
+L219:;
+    v1245 = (u32)v104;
+    v107 = 4u; v108 = 0u; v109 = v103; v110 = v1245; goto L227;
+L220:;
+    v1246 = load16(v87);
+    v107 = 5u; v108 = 0u; v109 = v1246; v110 = 0u; goto L227;
+L221:;
+    v1247 = load16(v87);
+    v107 = 6u; v108 = 0u; v109 = v1247; v110 = 0u; goto L227;
+L222:;
+    v1248 = load16(v87);
+    v107 = 9u; v108 = v1248; v109 = 65535u; v110 = 0u; goto L227;
+L223:;
+    v1249 = load8(v87);
+    v1250 = v89 + 175u * 1u;
+    v1251 = load8(v1250);
+    v1252 = load8(v86);
+    v1253 = load16(v85);
+    v1254 = (u8)((u32)v1251 + (u32)1u);
+    v1255 = (u32)v1254;
+    v1256 = v1252 == 0u;
+    v1257 = v1256 ? 65535u : v1253;
+    switch (v1249) {
+    case 0u: goto L224;
+    case 1u: v105 = v1255; v106 = v1257; goto L225;
+    case 2u: v107 = 10u; v108 = 0u; v109 = 65535u; v110 = UINT32_C(327680); goto L227;
+    default: goto L226;
+    }
+L224:;
+    v1258 = (u32)((u32)v1255 << (8u & 31u));
+    v107 = 10u; v108 = 0u; v109 = v1257; v110 = v1258; goto L227;
 L225:;
-    store32(a4, v102);
-    v1251 = a4 + 4u * 1u;
-    store16(v1251, v103);
-    v1252 = a4 + 6u * 1u;
-    store16(v1252, v104);
-    v1253 = a4 + 8u * 1u;
-    store32(v1253, v105);
-    v106 = 0u; goto L227;
+    v1259 = (u32)((u32)v105 << (16u & 31u));
+    v107 = 10u; v108 = 0u; v109 = v106; v110 = v1259; goto L227;
 L226:;
-    v106 = 35u; goto L227;
+    UNREACHABLE;
 L227:;
-    return v106;
+    store32(a4, v107);
+    v1260 = a4 + 4u * 1u;
+    store16(v1260, v108);
+    v1261 = a4 + 6u * 1u;
+    store16(v1261, v109);
+    v1262 = a4 + 8u * 1u;
+    store32(v1262, v110);
+    v111 = 0u; goto L229;
+L228:;
+    v111 = 35u; goto L229;
+L229:;
+    return v111;
 }
 
 u32 portable_ptpm_session_begin(address a0, u8 a1, u16 a2, u16 a3, address a4, u64 a5) {
@@ -52150,170 +50516,161 @@ L11:;
 }
 
 u32 portable_ptpm_rollout_open(address a0, address a1, u64 a2, u32 a3, address a4) {
-    address v5, v6, v7, v9, v11, v14, v18, v19, v22, v25, v43, v45, v48, v51, v54, v55;
-    address v60, v62, v65, v66, v67, v68, v69, v70, v71, v72, v73, v74, v75, v76, v77, v78;
-    address v79, v80, v81, v82, v83, v86, v90, v91, v92, v93, v94, v95, v98, v99, v100, v101;
-    address v102, v103, v104, v105, v106, v107, v108, v109, v110, v111, v112, v113, v114, v130, v131, v132;
-    address v140, v145, v146, v150, v158, v163, v164, v173, v175, v176, v177, v178, v179, v180, v181, v182;
-    address v183, v184, v185, v186, v193, v194, v195, v196, v197, v198, v199, v200, v201, v202, v203, v209;
-    address v211, v213, v219, v222, v223, v225, v229, v230, v232, v233, v234, v237, v238, v243, v246, v247;
-    address v252, v253, v258, v259, v261, v262, v263, v266, v267, v272, v275, v276, v282, v286, v289, v292;
-    address v293, v295, v299, v300, v302, v303, v304, v307, v308, v313, v316, v317, v318, v321, v322, v323;
-    address v325, v326, v328, v334, v336, v342, v343, v347, v350, v357, v361, v364, v367, v372, v373, v380;
-    address v381, v391, v398, v399, v400, v432, v437, v439, v444, v452, v453, v455, v458, v461, v462, v469;
-    address v476, v478, v479, v480, v481, v486, v491, v494, v495, v502, v503, v505, v506, v507, v510, v511;
-    address v516, v519, v520, v521, v524, v525, v529, v530, v532, v533, v534, v537, v538, v543, v546, v547;
-    address v548, v551, v552, v553, v554, v556, v558, v568, v569, v570, v571, v572, v573, v574, v575, v576;
-    address v577, v578, v579, v580, v581, v582, v583, v584, v585, v589, v590, v591, v594, v595, v596, v599;
-    address v601, v603, v604, v605, v608, v609, v613, v614, v615, v616, v618, v620, v621, v622, v624, v626;
-    address v632, v635, v636, v637, v638, v639, v640, v641, v642, v643, v644, v645, v646, v647, v648, v649;
-    address v650, v651, v652, v653, v654, v655, v656, v657, v662, v663, v664, v665, v669, v671, v675, v676;
-    address v678, v679, v680, v683, v684, v691;
+    address v5, v6, v7, v9, v11, v14, v18, v19, v22, v25, v32, v34, v38, v42, v45, v52;
+    address v55, v56, v58, v61, v62, v63, v64, v65, v66, v67, v68, v69, v70, v71, v72, v73;
+    address v74, v75, v76, v77, v80, v84, v85, v86, v87, v88, v89, v92, v93, v94, v95, v96;
+    address v97, v98, v99, v100, v101, v102, v103, v104, v105, v106, v107, v108, v124, v125, v126, v134;
+    address v139, v140, v144, v152, v157, v158, v167, v169, v170, v171, v172, v173, v174, v175, v176, v177;
+    address v178, v179, v180, v187, v188, v189, v190, v191, v192, v193, v194, v195, v196, v197, v203, v205;
+    address v207, v213, v216, v217, v219, v223, v224, v226, v227, v228, v231, v232, v237, v240, v241, v246;
+    address v247, v252, v253, v255, v256, v257, v260, v261, v266, v269, v270, v276, v280, v283, v286, v287;
+    address v289, v293, v294, v296, v297, v298, v301, v302, v307, v310, v311, v312, v315, v316, v317, v319;
+    address v320, v321, v323, v328, v335, v346, v352, v353, v356, v357, v362, v363, v370, v371, v374, v376;
+    address v377, v384, v385, v390, v391, v396, v399, v402, v408, v409, v411, v412, v413, v416, v417, v422;
+    address v425, v426, v427, v430, v431, v435, v436, v438, v439, v440, v443, v444, v449, v452, v453, v454;
+    address v457, v458, v459, v460, v462, v464, v473, v479, v480, v481, v482, v483, v484, v485, v486, v487;
+    address v488, v489, v490, v491, v492, v493, v494, v495, v496, v500, v501, v502, v505, v506, v507, v510;
+    address v512, v514, v515, v516, v519, v520, v524, v525, v526, v527, v529, v531, v532, v533, v535, v537;
+    address v543, v546, v547, v548, v549, v550, v551, v552, v553, v554, v555, v556, v557, v558, v559, v560;
+    address v561, v562, v563, v564, v565, v566, v567, v568, v573, v574, v575, v576, v580, v582, v586, v587;
+    address v589, v590, v591, v594, v595, v602;
     u64 v8, v10, v12, v13, v15, v16, v17, v21, v23, v24, v26, v27, v28, v29, v30, v31;
-    u64 v32, v33, v34, v35, v36, v37, v38, v39, v40, v42, v44, v46, v47, v49, v50, v52;
-    u64 v53, v56, v57, v58, v63, v85, v118, v124, v125, v126, v127, v128, v129, v137, v139, v141;
-    u64 v142, v143, v148, v155, v157, v159, v160, v161, v166, v168, v169, v172, v174, v187, v188, v189;
-    u64 v192, v205, v206, v208, v210, v212, v220, v224, v226, v228, v231, v235, v240, v244, v248, v250;
-    u64 v254, v255, v257, v260, v264, v269, v273, v277, v279, v280, v281, v283, v287, v288, v290, v291;
-    u64 v298, v301, v305, v310, v314, v319, v327, v329, v330, v333, v335, v337, v338, v340, v346, v348;
-    u64 v349, v351, v352, v355, v356, v358, v360, v363, v365, v368, v369, v371, v374, v375, v377, v379;
-    u64 v382, v383, v385, v388, v389, v390, v392, v395, v396, v402, v405, v410, v411, v412, v414, v415;
-    u64 v416, v418, v419, v420, v421, v425, v427, v428, v429, v430, v431, v433, v436, v438, v440, v441;
-    u64 v442, v447, v448, v456, v459, v460, v463, v465, v466, v468, v470, v472, v475, v477, v482, v483;
-    u64 v484, v487, v489, v492, v496, v501, v504, v508, v513, v517, v522, v528, v531, v535, v540, v544;
-    u64 v549, v555, v561, v565, v567, v592, v597, v602, v606, v617, v619, v623, v625, v627, v629, v631;
-    u64 v634, v659, v661, v670, v674, v677, v681, v686;
-    u8 v20, v41, v59, v61, v84, v87, v88, v89, v96, v97, v115, v116, v117, v119, v133, v134;
-    u8 v138, v144, v147, v149, v151, v152, v156, v162, v165, v167, v170, v171, v190, v191, v204, v207;
-    u8 v214, v218, v221, v227, v236, v239, v241, v242, v245, v249, v251, v256, v265, v268, v270, v271;
-    u8 v274, v278, v284, v285, v294, v296, v297, v306, v309, v311, v312, v315, v320, v324, v331, v332;
-    u8 v339, v341, v344, v345, v353, v354, v359, v362, v366, v370, v376, v378, v384, v386, v387, v393;
-    u8 v397, v401, v403, v404, v409, v413, v417, v422, v423, v424, v426, v434, v435, v443, v445, v446;
-    u8 v454, v457, v464, v467, v471, v473, v474, v485, v488, v490, v493, v497, v498, v499, v500, v509;
-    u8 v512, v514, v515, v518, v523, v526, v527, v536, v539, v541, v542, v545, v550, v557, v559, v560;
-    u8 v562, v566, v586, v587, v588, v593, v598, v600, v607, v610, v611, v612, v630, v660, v666, v667;
-    u8 v668, v672, v673, v682, v685, v687, v688, v689, v690;
-    u32 v64, v215, v216, v217, v406, v407, v408, v449, v450, v451, v633;
-    u16 v120, v121, v122, v123;
-    struct pair v135, v136, v153, v154, v394, v563, v564, v628, v658;
+    u64 v33, v35, v36, v37, v39, v40, v41, v43, v44, v46, v47, v48, v53, v54, v59, v79;
+    u64 v112, v118, v119, v120, v121, v122, v123, v131, v133, v135, v136, v137, v142, v149, v151, v153;
+    u64 v154, v155, v160, v162, v163, v166, v168, v181, v182, v183, v186, v199, v200, v202, v204, v206;
+    u64 v214, v218, v220, v222, v225, v229, v234, v238, v242, v244, v248, v249, v251, v254, v258, v263;
+    u64 v267, v271, v273, v274, v275, v277, v281, v282, v284, v285, v292, v295, v299, v304, v308, v313;
+    u64 v322, v324, v325, v326, v327, v329, v331, v332, v334, v336, v341, v345, v347, v349, v351, v355;
+    u64 v358, v360, v361, v364, v366, v367, v369, v375, v378, v381, v382, v383, v386, v389, v392, v393;
+    u64 v394, v395, v397, v400, v407, v410, v414, v419, v423, v428, v434, v437, v441, v446, v450, v455;
+    u64 v461, v467, v471, v476, v478, v503, v508, v513, v517, v528, v530, v534, v536, v538, v540, v542;
+    u64 v545, v570, v572, v581, v585, v588, v592, v597;
+    u8 v20, v49, v51, v57, v78, v81, v82, v83, v90, v91, v109, v110, v111, v113, v127, v128;
+    u8 v132, v138, v141, v143, v145, v146, v150, v156, v159, v161, v164, v165, v184, v185, v198, v201;
+    u8 v208, v212, v215, v221, v230, v233, v235, v236, v239, v243, v245, v250, v259, v262, v264, v265;
+    u8 v268, v272, v278, v279, v288, v290, v291, v300, v303, v305, v306, v309, v314, v318, v330, v333;
+    u8 v337, v338, v339, v340, v342, v343, v344, v348, v350, v354, v359, v365, v368, v372, v373, v379;
+    u8 v380, v387, v388, v398, v401, v403, v404, v405, v406, v415, v418, v420, v421, v424, v429, v432;
+    u8 v433, v442, v445, v447, v448, v451, v456, v463, v465, v466, v468, v472, v477, v497, v498, v499;
+    u8 v504, v509, v511, v518, v521, v522, v523, v541, v571, v577, v578, v579, v583, v584, v593, v596;
+    u8 v598, v599, v600, v601;
+    struct pair v50, v129, v130, v147, v148, v469, v470, v474, v475, v539, v569;
+    u32 v60, v209, v210, v211, v544;
+    u16 v114, v115, v116, v117;
     u64 block0[1];
-    u64 block1[1];
-    u64 block2[5];
+    u64 block1[2];
+    u64 block2[2];
     u64 block3[2];
     u64 block4[3];
-    u64 block5[3];
-    u64 block6[1];
-    u64 block7[8];
-    u64 block8[11];
-    u64 block9[3];
-    u64 block10[3];
-    u64 block11[12];
-    u64 block12[11];
-    u64 block13[27];
-    u64 block14[12];
+    u64 block5[8];
+    u64 block6[11];
+    u64 block7[3];
+    u64 block8[3];
+    u64 block9[12];
+    u64 block10[11];
+    u64 block11[27];
+    u64 block12[12];
+    u64 block13[4];
+    u64 block14[3];
     u64 block15[4];
-    u64 block16[3];
-    u64 block17[4];
-    u64 block18[2];
-    v65 = ADDRESS(block0);
-    v66 = ADDRESS(block1);
-    v67 = ADDRESS(block2);
-    v68 = ADDRESS(block3);
-    v69 = ADDRESS(block4);
-    v70 = ADDRESS(block5);
-    v71 = ADDRESS(block6);
-    v72 = ADDRESS(block7);
-    v73 = ADDRESS(block8);
-    v74 = ADDRESS(block9);
-    v75 = ADDRESS(block10);
-    v76 = ADDRESS(block11);
-    v77 = ADDRESS(block12);
-    v78 = ADDRESS(block13);
-    v79 = ADDRESS(block14);
-    v80 = ADDRESS(block15);
-    v81 = ADDRESS(block16);
-    v82 = ADDRESS(block17);
-    v83 = ADDRESS(block18);
-    v84 = a1 == 0u;
-    v85 = v84 ? 4096u : 0u;
-    v86 = a1 + v85 * 1u;
-    memory_set(v82, 0u, 32u);
-    memory_set(v83, 0u, 16u);
+    u64 block16[2];
+    v61 = ADDRESS(block0);
+    v62 = ADDRESS(block1);
+    v63 = ADDRESS(block2);
+    v64 = ADDRESS(block3);
+    v65 = ADDRESS(block4);
+    v66 = ADDRESS(block5);
+    v67 = ADDRESS(block6);
+    v68 = ADDRESS(block7);
+    v69 = ADDRESS(block8);
+    v70 = ADDRESS(block9);
+    v71 = ADDRESS(block10);
+    v72 = ADDRESS(block11);
+    v73 = ADDRESS(block12);
+    v74 = ADDRESS(block13);
+    v75 = ADDRESS(block14);
+    v76 = ADDRESS(block15);
+    v77 = ADDRESS(block16);
+    v78 = a1 == 0u;
+    v79 = v78 ? 4096u : 0u;
+    v80 = a1 + v79 * 1u;
+    memory_set(v76, 0u, 32u);
+    memory_set(v77, 0u, 16u);
     store64(a4, 0u);
-    v87 = a3 < 4u;
-    v88 = (u8)(a3);
-    v89 = v87 ? v88 : 0u;
-    if (v87) { goto L1; }
-    else { v64 = 41u; goto L224; }
+    v81 = a3 < 4u;
+    v82 = (u8)(a3);
+    v83 = v81 ? v82 : 0u;
+    if (v81) { goto L1; }
+    else { v60 = 41u; goto L191; }
 L1:;
-    memory_set(v77, 0u, 88u);
-    memory_set(v78, 0u, 216u);
-    memory_set(v79, 0u, 94u);
-    memory_set(v80, 0u, 32u);
-    memory_set(v81, 0u, 24u);
-    memory_set(v76, 0u, 96u);
-    v90 = v73 + 32u * 1u;
-    memory_set(v73, 0u, 32u);
-    store_address(v90, v65);
-    v91 = v73 + 40u * 1u;
-    memory_set(v91, 0u, 16u);
-    v92 = v73 + 56u * 1u;
-    store_address(v92, v65);
-    v93 = v73 + 64u * 1u;
-    memory_set(v93, 0u, 24u);
-    store_address(v74, v65);
-    v94 = v74 + 8u * 1u;
-    memory_set(v94, 0u, 16u);
-    store_address(v75, v65);
-    v95 = v75 + 8u * 1u;
-    memory_set(v95, 0u, 16u);
-    f102(v76, v73, v86, a2);
-    v96 = load8(v76);
-    v97 = v96 == 0u;
-    if (v97) { goto L2; }
+    memory_set(v71, 0u, 88u);
+    memory_set(v72, 0u, 216u);
+    memory_set(v73, 0u, 94u);
+    memory_set(v74, 0u, 32u);
+    memory_set(v75, 0u, 24u);
+    memory_set(v70, 0u, 96u);
+    v84 = v67 + 32u * 1u;
+    memory_set(v67, 0u, 32u);
+    store_address(v84, v61);
+    v85 = v67 + 40u * 1u;
+    memory_set(v85, 0u, 16u);
+    v86 = v67 + 56u * 1u;
+    store_address(v86, v61);
+    v87 = v67 + 64u * 1u;
+    memory_set(v87, 0u, 24u);
+    store_address(v68, v61);
+    v88 = v68 + 8u * 1u;
+    memory_set(v88, 0u, 16u);
+    store_address(v69, v61);
+    v89 = v69 + 8u * 1u;
+    memory_set(v89, 0u, 16u);
+    f102(v70, v67, v80, a2);
+    v90 = load8(v70);
+    v91 = v90 == 0u;
+    if (v91) { goto L2; }
     else { goto L33; }
 L2:;
-    v98 = v76 + 8u * 1u;
-    v99 = v76 + 16u * 1u;
-    v100 = v76 + 24u * 1u;
-    v101 = v76 + 32u * 1u;
-    v102 = v76 + 34u * 1u;
-    v103 = v76 + 36u * 1u;
-    v104 = v76 + 40u * 1u;
-    v105 = v76 + 42u * 1u;
-    v106 = v76 + 48u * 1u;
-    v107 = v76 + 56u * 1u;
-    v108 = v76 + 64u * 1u;
-    v109 = v76 + 72u * 1u;
-    v110 = v76 + 80u * 1u;
-    v111 = v76 + 88u * 1u;
-    v112 = v72 + 48u * 1u;
-    v113 = v74 + 16u * 1u;
-    v114 = v75 + 16u * 1u;
-    v5 = v65; v6 = v65; v7 = v86; v8 = 0u; goto L3;
+    v92 = v70 + 8u * 1u;
+    v93 = v70 + 16u * 1u;
+    v94 = v70 + 24u * 1u;
+    v95 = v70 + 32u * 1u;
+    v96 = v70 + 34u * 1u;
+    v97 = v70 + 36u * 1u;
+    v98 = v70 + 40u * 1u;
+    v99 = v70 + 42u * 1u;
+    v100 = v70 + 48u * 1u;
+    v101 = v70 + 56u * 1u;
+    v102 = v70 + 64u * 1u;
+    v103 = v70 + 72u * 1u;
+    v104 = v70 + 80u * 1u;
+    v105 = v70 + 88u * 1u;
+    v106 = v66 + 48u * 1u;
+    v107 = v68 + 16u * 1u;
+    v108 = v69 + 16u * 1u;
+    v5 = v61; v6 = v61; v7 = v80; v8 = 0u; goto L3;
 L3:;
-    v115 = load8(v98);
-    v116 = v115 == 1u;
-    if (v116) { goto L4; }
+    v109 = load8(v92);
+    v110 = v109 == 1u;
+    if (v110) { goto L4; }
     else { goto L61; }
 L4:;
-    v117 = load8(v99);
+    v111 = load8(v93);
+    v112 = load64(v94);
+    v113 = load8(v95);
+    v114 = load16(v96);
+    v115 = load16(v97);
+    v116 = load16(v98);
+    v117 = load16(v99);
     v118 = load64(v100);
-    v119 = load8(v101);
-    v120 = load16(v102);
-    v121 = load16(v103);
-    v122 = load16(v104);
-    v123 = load16(v105);
-    v124 = load64(v106);
-    v125 = load64(v107);
-    v126 = load64(v108);
-    v127 = load64(v109);
-    v128 = load64(v110);
-    v129 = load64(v111);
-    v130 = v7 + v128 * 1u;
-    v131 = v130 + 2u * 1u;
-    memory_set(v112, 0u, 16u);
-    switch (v117) {
+    v119 = load64(v101);
+    v120 = load64(v102);
+    v121 = load64(v103);
+    v122 = load64(v104);
+    v123 = load64(v105);
+    v124 = v7 + v122 * 1u;
+    v125 = v124 + 2u * 1u;
+    memory_set(v106, 0u, 16u);
+    switch (v111) {
     case 1u: goto L5;
     case 2u: goto L28;
     case 0u: v18 = v5; v19 = v6; goto L60;
@@ -52323,1314 +50680,1130 @@ L4:;
     default: goto L31;
     }
 L5:;
-    v132 = v131 + v124 * 1u;
-    v133 = v125 == 0u;
-    if (v133) { v9 = v65; goto L9; }
+    v126 = v125 + v118 * 1u;
+    v127 = v119 == 0u;
+    if (v127) { v9 = v61; goto L9; }
     else { goto L6; }
 L6:;
-    v134 = (i64)v125 > (i64)UINT64_C(18446744073709551615);
-    if (v134) { goto L7; }
+    v128 = (i64)v119 > (i64)UINT64_C(18446744073709551615);
+    if (v128) { goto L7; }
     else { goto L46; }
 L7:;
-    v135 = portable_rattle_alloc(v125, 1u);
-    v136 = v135;
-    v137 = v136.m0;
-    v138 = (u8)((v137) & UINT64_C(1));
-    if (v138) { goto L8; }
+    v129 = portable_rattle_alloc(v119, 1u);
+    v130 = v129;
+    v131 = v130.m0;
+    v132 = (u8)((v131) & UINT64_C(1));
+    if (v132) { goto L8; }
     else { goto L46; }
 L8:;
-    v139 = v136.m1;
-    v140 = (address)v139;
-    v9 = v140; goto L9;
+    v133 = v130.m1;
+    v134 = (address)v133;
+    v9 = v134; goto L9;
 L9:;
-    v141 = (u64)v9;
-    v142 = (u64)v132;
-    v143 = (u64)((u64)v141 - (u64)v142);
-    v144 = v143 < v125;
-    if (v144) { v10 = 0u; goto L11; }
+    v135 = (u64)v9;
+    v136 = (u64)v126;
+    v137 = (u64)((u64)v135 - (u64)v136);
+    v138 = v137 < v119;
+    if (v138) { v10 = 0u; goto L11; }
     else { goto L10; }
 L10:;
-    memory_move(v9, v132, v125);
+    memory_move(v9, v126, v119);
     goto L12;
 L11:;
-    v145 = v9 + v10 * 1u;
-    v146 = v132 + v10 * 1u;
-    v147 = load8(v146);
-    store8(v145, v147);
-    v148 = (u64)((u64)v10 + (u64)1u);
-    v149 = v148 == v125;
-    if (v149) { goto L12; }
-    else { v10 = v148; goto L11; }
+    v139 = v9 + v10 * 1u;
+    v140 = v126 + v10 * 1u;
+    v141 = load8(v140);
+    store8(v139, v141);
+    v142 = (u64)((u64)v10 + (u64)1u);
+    v143 = v142 == v119;
+    if (v143) { goto L12; }
+    else { v10 = v142; goto L11; }
 L12:;
-    v150 = v131 + v126 * 1u;
-    v151 = v127 == 0u;
-    if (v151) { v11 = v65; goto L16; }
+    v144 = v125 + v120 * 1u;
+    v145 = v121 == 0u;
+    if (v145) { v11 = v61; goto L16; }
     else { goto L13; }
 L13:;
-    v152 = (i64)v127 > (i64)UINT64_C(18446744073709551615);
-    if (v152) { goto L14; }
+    v146 = (i64)v121 > (i64)UINT64_C(18446744073709551615);
+    if (v146) { goto L14; }
     else { goto L22; }
 L14:;
-    v153 = portable_rattle_alloc(v127, 1u);
-    v154 = v153;
-    v155 = v154.m0;
-    v156 = (u8)((v155) & UINT64_C(1));
-    if (v156) { goto L15; }
+    v147 = portable_rattle_alloc(v121, 1u);
+    v148 = v147;
+    v149 = v148.m0;
+    v150 = (u8)((v149) & UINT64_C(1));
+    if (v150) { goto L15; }
     else { goto L22; }
 L15:;
-    v157 = v154.m1;
-    v158 = (address)v157;
-    v11 = v158; goto L16;
+    v151 = v148.m1;
+    v152 = (address)v151;
+    v11 = v152; goto L16;
 L16:;
-    v159 = (u64)v11;
-    v160 = (u64)v150;
-    v161 = (u64)((u64)v159 - (u64)v160);
-    v162 = v161 < v127;
-    if (v162) { v12 = 0u; goto L18; }
+    v153 = (u64)v11;
+    v154 = (u64)v144;
+    v155 = (u64)((u64)v153 - (u64)v154);
+    v156 = v155 < v121;
+    if (v156) { v12 = 0u; goto L18; }
     else { goto L17; }
 L17:;
-    memory_move(v11, v150, v127);
+    memory_move(v11, v144, v121);
     goto L19;
 L18:;
-    v163 = v11 + v12 * 1u;
-    v164 = v150 + v12 * 1u;
-    v165 = load8(v164);
-    store8(v163, v165);
-    v166 = (u64)((u64)v12 + (u64)1u);
-    v167 = v166 == v127;
-    if (v167) { goto L19; }
-    else { v12 = v166; goto L18; }
+    v157 = v11 + v12 * 1u;
+    v158 = v144 + v12 * 1u;
+    v159 = load8(v158);
+    store8(v157, v159);
+    v160 = (u64)((u64)v12 + (u64)1u);
+    v161 = v160 == v121;
+    if (v161) { goto L19; }
+    else { v12 = v160; goto L18; }
 L19:;
-    v168 = load64(v113);
-    v169 = load64(v94);
-    v170 = v168 == v169;
-    if (v170) { goto L20; }
-    else { v13 = v169; goto L24; }
+    v162 = load64(v107);
+    v163 = load64(v88);
+    v164 = v162 == v163;
+    if (v164) { goto L20; }
+    else { v13 = v163; goto L24; }
 L20:;
-    v171 = f145(v74);
-    if (v171) { goto L21; }
+    v165 = f145(v68);
+    if (v165) { goto L21; }
     else { goto L27; }
 L21:;
-    v172 = load64(v94);
-    v13 = v172; goto L24;
+    v166 = load64(v88);
+    v13 = v166; goto L24;
 L22:;
-    if (v133) { goto L46; }
+    if (v127) { goto L46; }
     else { goto L23; }
 L23:;
     portable_rattle_dealloc(v9);
     goto L46;
 L24:;
-    v173 = load_address(v74);
-    v174 = (u64)((u64)v13 << (6u & 63u));
-    v175 = v173 + v174 * 1u;
-    store64(v175, v118);
-    v176 = v175 + 8u * 1u;
-    store8(v176, v119);
-    v177 = v175 + 9u * 1u;
-    store8(v177, 0u);
-    v178 = v175 + 10u * 1u;
-    store16(v178, v122);
-    v179 = v175 + 12u * 1u;
-    store16(v179, v123);
-    v180 = v175 + 14u * 1u;
-    store16(v180, 0u);
-    v181 = v175 + 16u * 1u;
-    store_address(v181, v9);
-    v182 = v175 + 24u * 1u;
-    store64(v182, v125);
-    v183 = v175 + 32u * 1u;
-    store64(v183, v125);
-    v184 = v175 + 40u * 1u;
-    store_address(v184, v11);
-    v185 = v175 + 48u * 1u;
-    store64(v185, v127);
-    v186 = v175 + 56u * 1u;
-    store64(v186, v127);
-    v187 = (u64)((u64)v13 + (u64)1u);
-    store64(v94, v187);
-    v188 = load64(v114);
-    v189 = load64(v95);
-    v190 = v188 == v189;
-    if (v190) { goto L25; }
-    else { v14 = v5; v15 = v189; goto L32; }
+    v167 = load_address(v68);
+    v168 = (u64)((u64)v13 << (6u & 63u));
+    v169 = v167 + v168 * 1u;
+    store64(v169, v112);
+    v170 = v169 + 8u * 1u;
+    store8(v170, v113);
+    v171 = v169 + 9u * 1u;
+    store8(v171, 0u);
+    v172 = v169 + 10u * 1u;
+    store16(v172, v116);
+    v173 = v169 + 12u * 1u;
+    store16(v173, v117);
+    v174 = v169 + 14u * 1u;
+    store16(v174, 0u);
+    v175 = v169 + 16u * 1u;
+    store_address(v175, v9);
+    v176 = v169 + 24u * 1u;
+    store64(v176, v119);
+    v177 = v169 + 32u * 1u;
+    store64(v177, v119);
+    v178 = v169 + 40u * 1u;
+    store_address(v178, v11);
+    v179 = v169 + 48u * 1u;
+    store64(v179, v121);
+    v180 = v169 + 56u * 1u;
+    store64(v180, v121);
+    v181 = (u64)((u64)v13 + (u64)1u);
+    store64(v88, v181);
+    v182 = load64(v108);
+    v183 = load64(v89);
+    v184 = v182 == v183;
+    if (v184) { goto L25; }
+    else { v14 = v5; v15 = v183; goto L32; }
 L25:;
-    v191 = f147(v75);
-    if (v191) { goto L26; }
+    v185 = f147(v69);
+    if (v185) { goto L26; }
     else { goto L46; }
 L26:;
-    v192 = load64(v95);
-    v193 = load_address(v75);
-    v14 = v193; v15 = v192; goto L32;
+    v186 = load64(v89);
+    v187 = load_address(v69);
+    v14 = v187; v15 = v186; goto L32;
 L27:;
-    store64(v72, v118);
-    v194 = v72 + 8u * 1u;
-    store8(v194, v119);
-    v195 = v72 + 9u * 1u;
-    store8(v195, 0u);
-    v196 = v72 + 10u * 1u;
-    store16(v196, v122);
-    v197 = v72 + 12u * 1u;
-    store16(v197, v123);
-    v198 = v72 + 14u * 1u;
-    store16(v198, 0u);
-    v199 = v72 + 16u * 1u;
-    store_address(v199, v9);
-    v200 = v72 + 24u * 1u;
-    store64(v200, v125);
-    v201 = v72 + 32u * 1u;
-    store64(v201, v125);
-    v202 = v72 + 40u * 1u;
-    store_address(v202, v11);
-    store64(v112, v127);
-    v203 = v72 + 56u * 1u;
-    store64(v203, v127);
-    f146(v72);
+    store64(v66, v112);
+    v188 = v66 + 8u * 1u;
+    store8(v188, v113);
+    v189 = v66 + 9u * 1u;
+    store8(v189, 0u);
+    v190 = v66 + 10u * 1u;
+    store16(v190, v116);
+    v191 = v66 + 12u * 1u;
+    store16(v191, v117);
+    v192 = v66 + 14u * 1u;
+    store16(v192, 0u);
+    v193 = v66 + 16u * 1u;
+    store_address(v193, v9);
+    v194 = v66 + 24u * 1u;
+    store64(v194, v119);
+    v195 = v66 + 32u * 1u;
+    store64(v195, v119);
+    v196 = v66 + 40u * 1u;
+    store_address(v196, v11);
+    store64(v106, v121);
+    v197 = v66 + 56u * 1u;
+    store64(v197, v121);
+    f146(v66);
     goto L46;
 L28:;
-    v204 = v119 == 0u;
-    if (v204) { goto L29; }
+    v198 = v113 == 0u;
+    if (v198) { goto L29; }
     else { v18 = v5; v19 = v6; goto L60; }
 L29:;
-    v205 = load64(v95);
-    v206 = (u64)v120;
-    v207 = v205 > v206;
-    if (v207) { goto L30; }
+    v199 = load64(v89);
+    v200 = (u64)v114;
+    v201 = v199 > v200;
+    if (v201) { goto L30; }
     else { v18 = v5; v19 = v6; goto L60; }
 L30:;
-    v208 = (u64)((u64)v206 << (1u & 63u));
-    v209 = v6 + v208 * 1u;
-    store16(v209, v121);
+    v202 = (u64)((u64)v200 << (1u & 63u));
+    v203 = v6 + v202 * 1u;
+    store16(v203, v115);
     v18 = v5; v19 = v6; goto L60;
 L31:;
     UNREACHABLE;
 L32:;
-    v210 = (u64)((u64)v15 << (1u & 63u));
-    v211 = v14 + v210 * 1u;
-    store16(v211, 0u);
-    v212 = (u64)((u64)v15 + (u64)1u);
-    store64(v95, v212);
+    v204 = (u64)((u64)v15 << (1u & 63u));
+    v205 = v14 + v204 * 1u;
+    store16(v205, 0u);
+    v206 = (u64)((u64)v15 + (u64)1u);
+    store64(v89, v206);
     v18 = v14; v19 = v14; goto L60;
 L33:;
-    v213 = v76 + 1u * 1u;
-    v214 = load8(v213);
-    v215 = (u32)v214;
-    v216 = (u32)(((u32)v215 << (3u & 31u)) & UINT64_C(16777215));
-    v217 = (u32)(((u32)UINT32_C(196864) >> (v216 & 31u)) & UINT64_C(16777215));
-    v218 = (u8)(v217);
-    v219 = v75 + 16u * 1u;
-    v220 = load64(v219);
-    v221 = v220 == 0u;
-    if (v221) { goto L35; }
+    v207 = v70 + 1u * 1u;
+    v208 = load8(v207);
+    v209 = (u32)v208;
+    v210 = (u32)(((u32)v209 << (3u & 31u)) & UINT64_C(16777215));
+    v211 = (u32)(((u32)UINT32_C(196864) >> (v210 & 31u)) & UINT64_C(16777215));
+    v212 = (u8)(v211);
+    v213 = v69 + 16u * 1u;
+    v214 = load64(v213);
+    v215 = v214 == 0u;
+    if (v215) { goto L35; }
     else { goto L34; }
 L34:;
-    v222 = load_address(v75);
-    portable_rattle_dealloc(v222);
+    v216 = load_address(v69);
+    portable_rattle_dealloc(v216);
     goto L35;
 L35:;
-    v223 = load_address(v74);
-    v224 = load64(v94);
-    v225 = v74 + 16u * 1u;
-    v226 = load64(v225);
-    v227 = v224 == 0u;
-    if (v227) { goto L41; }
+    v217 = load_address(v68);
+    v218 = load64(v88);
+    v219 = v68 + 16u * 1u;
+    v220 = load64(v219);
+    v221 = v218 == 0u;
+    if (v221) { goto L41; }
     else { v16 = 0u; goto L36; }
 L36:;
-    v228 = (u64)((u64)v16 << (6u & 63u));
-    v229 = v223 + v228 * 1u;
-    v230 = v229 + 32u * 1u;
-    v231 = load64(v230);
-    v232 = v229 + 40u * 1u;
-    v233 = load_address(v232);
-    v234 = v229 + 56u * 1u;
-    v235 = load64(v234);
-    v236 = v231 == 0u;
-    if (v236) { goto L38; }
+    v222 = (u64)((u64)v16 << (6u & 63u));
+    v223 = v217 + v222 * 1u;
+    v224 = v223 + 32u * 1u;
+    v225 = load64(v224);
+    v226 = v223 + 40u * 1u;
+    v227 = load_address(v226);
+    v228 = v223 + 56u * 1u;
+    v229 = load64(v228);
+    v230 = v225 == 0u;
+    if (v230) { goto L38; }
     else { goto L37; }
 L37:;
-    v237 = v229 + 16u * 1u;
-    v238 = load_address(v237);
-    portable_rattle_dealloc(v238);
+    v231 = v223 + 16u * 1u;
+    v232 = load_address(v231);
+    portable_rattle_dealloc(v232);
     goto L38;
 L38:;
-    v239 = v235 == 0u;
-    if (v239) { goto L40; }
+    v233 = v229 == 0u;
+    if (v233) { goto L40; }
     else { goto L39; }
 L39:;
-    portable_rattle_dealloc(v233);
+    portable_rattle_dealloc(v227);
     goto L40;
 L40:;
-    v240 = (u64)((u64)v16 + (u64)1u);
-    v241 = v240 == v224;
-    if (v241) { goto L41; }
-    else { v16 = v240; goto L36; }
+    v234 = (u64)((u64)v16 + (u64)1u);
+    v235 = v234 == v218;
+    if (v235) { goto L41; }
+    else { v16 = v234; goto L36; }
 L41:;
-    v242 = v226 == 0u;
-    if (v242) { goto L43; }
+    v236 = v220 == 0u;
+    if (v236) { goto L43; }
     else { goto L42; }
 L42:;
-    portable_rattle_dealloc(v223);
+    portable_rattle_dealloc(v217);
     goto L43;
 L43:;
-    v243 = v73 + 48u * 1u;
-    v244 = load64(v243);
-    v245 = v244 == 0u;
-    if (v245) { goto L45; }
+    v237 = v67 + 48u * 1u;
+    v238 = load64(v237);
+    v239 = v238 == 0u;
+    if (v239) { goto L45; }
     else { goto L44; }
 L44:;
-    v246 = load_address(v90);
-    portable_rattle_dealloc(v246);
+    v240 = load_address(v84);
+    portable_rattle_dealloc(v240);
     goto L45;
 L45:;
-    v247 = v73 + 72u * 1u;
-    v248 = load64(v247);
-    v249 = v248 == 0u;
-    if (v249) { v61 = v218; goto L198; }
-    else { v20 = v218; goto L62; }
+    v241 = v67 + 72u * 1u;
+    v242 = load64(v241);
+    v243 = v242 == 0u;
+    if (v243) { v57 = v212; goto L165; }
+    else { v20 = v212; goto L62; }
 L46:;
-    v250 = load64(v114);
-    v251 = v250 == 0u;
-    if (v251) { goto L48; }
+    v244 = load64(v108);
+    v245 = v244 == 0u;
+    if (v245) { goto L48; }
     else { goto L47; }
 L47:;
-    v252 = load_address(v75);
-    portable_rattle_dealloc(v252);
+    v246 = load_address(v69);
+    portable_rattle_dealloc(v246);
     goto L48;
 L48:;
-    v253 = load_address(v74);
-    v254 = load64(v94);
-    v255 = load64(v113);
-    v256 = v254 == 0u;
-    if (v256) { goto L54; }
+    v247 = load_address(v68);
+    v248 = load64(v88);
+    v249 = load64(v107);
+    v250 = v248 == 0u;
+    if (v250) { goto L54; }
     else { v17 = 0u; goto L49; }
 L49:;
-    v257 = (u64)((u64)v17 << (6u & 63u));
-    v258 = v253 + v257 * 1u;
-    v259 = v258 + 32u * 1u;
-    v260 = load64(v259);
-    v261 = v258 + 40u * 1u;
-    v262 = load_address(v261);
-    v263 = v258 + 56u * 1u;
-    v264 = load64(v263);
-    v265 = v260 == 0u;
-    if (v265) { goto L51; }
+    v251 = (u64)((u64)v17 << (6u & 63u));
+    v252 = v247 + v251 * 1u;
+    v253 = v252 + 32u * 1u;
+    v254 = load64(v253);
+    v255 = v252 + 40u * 1u;
+    v256 = load_address(v255);
+    v257 = v252 + 56u * 1u;
+    v258 = load64(v257);
+    v259 = v254 == 0u;
+    if (v259) { goto L51; }
     else { goto L50; }
 L50:;
-    v266 = v258 + 16u * 1u;
-    v267 = load_address(v266);
-    portable_rattle_dealloc(v267);
+    v260 = v252 + 16u * 1u;
+    v261 = load_address(v260);
+    portable_rattle_dealloc(v261);
     goto L51;
 L51:;
-    v268 = v264 == 0u;
-    if (v268) { goto L53; }
+    v262 = v258 == 0u;
+    if (v262) { goto L53; }
     else { goto L52; }
 L52:;
-    portable_rattle_dealloc(v262);
+    portable_rattle_dealloc(v256);
     goto L53;
 L53:;
-    v269 = (u64)((u64)v17 + (u64)1u);
-    v270 = v269 == v254;
-    if (v270) { goto L54; }
-    else { v17 = v269; goto L49; }
+    v263 = (u64)((u64)v17 + (u64)1u);
+    v264 = v263 == v248;
+    if (v264) { goto L54; }
+    else { v17 = v263; goto L49; }
 L54:;
-    v271 = v255 == 0u;
-    if (v271) { goto L56; }
+    v265 = v249 == 0u;
+    if (v265) { goto L56; }
     else { goto L55; }
 L55:;
-    portable_rattle_dealloc(v253);
+    portable_rattle_dealloc(v247);
     goto L56;
 L56:;
-    v272 = v73 + 48u * 1u;
-    v273 = load64(v272);
-    v274 = v273 == 0u;
-    if (v274) { goto L58; }
+    v266 = v67 + 48u * 1u;
+    v267 = load64(v266);
+    v268 = v267 == 0u;
+    if (v268) { goto L58; }
     else { goto L57; }
 L57:;
-    v275 = load_address(v90);
-    portable_rattle_dealloc(v275);
+    v269 = load_address(v84);
+    portable_rattle_dealloc(v269);
     goto L58;
 L58:;
-    v276 = v73 + 72u * 1u;
-    v277 = load64(v276);
-    v278 = v277 == 0u;
-    if (v278) { goto L59; }
+    v270 = v67 + 72u * 1u;
+    v271 = load64(v270);
+    v272 = v271 == 0u;
+    if (v272) { goto L59; }
     else { v20 = 3u; goto L62; }
 L59:;
-    goto L201;
+    goto L168;
 L60:;
-    v279 = (u64)((u64)v8 + (u64)6u);
-    v280 = (u64)((u64)v279 + (u64)v128);
-    v281 = (u64)((u64)v280 + (u64)v129);
-    v282 = v86 + v281 * 1u;
-    v283 = (u64)((u64)a2 - (u64)v281);
-    f102(v76, v73, v282, v283);
-    v284 = load8(v76);
-    v285 = v284 == 0u;
-    if (v285) { v5 = v18; v6 = v19; v7 = v282; v8 = v281; goto L3; }
+    v273 = (u64)((u64)v8 + (u64)6u);
+    v274 = (u64)((u64)v273 + (u64)v122);
+    v275 = (u64)((u64)v274 + (u64)v123);
+    v276 = v80 + v275 * 1u;
+    v277 = (u64)((u64)a2 - (u64)v275);
+    f102(v70, v67, v276, v277);
+    v278 = load8(v70);
+    v279 = v278 == 0u;
+    if (v279) { v5 = v18; v6 = v19; v7 = v276; v8 = v275; goto L3; }
     else { goto L33; }
 L61:;
-    v286 = load_address(v74);
-    v287 = load64(v94);
-    v288 = load64(v113);
-    v289 = load_address(v75);
-    v290 = load64(v95);
-    v291 = load64(v114);
-    v292 = v79 + 6u * 1u;
-    memory_cpy(v292, v73, 88u);
-    memory_cpy(v77, v292, 88u);
-    store8(v80, 5u);
-    v293 = v80 + 1u * 1u;
-    store8(v293, 0u);
-    v294 = f98(v77, v80);
-    if (v294) { goto L78; }
+    v280 = load_address(v68);
+    v281 = load64(v88);
+    v282 = load64(v107);
+    v283 = load_address(v69);
+    v284 = load64(v89);
+    v285 = load64(v108);
+    v286 = v73 + 6u * 1u;
+    memory_cpy(v286, v67, 88u);
+    memory_cpy(v71, v286, 88u);
+    store8(v74, 5u);
+    v287 = v74 + 1u * 1u;
+    store8(v287, 0u);
+    v288 = f98(v71, v74);
+    if (v288) { goto L78; }
     else { goto L63; }
 L62:;
-    v295 = load_address(v92);
-    portable_rattle_dealloc(v295);
-    v61 = v20; goto L198;
+    v289 = load_address(v86);
+    portable_rattle_dealloc(v289);
+    v57 = v20; goto L165;
 L63:;
-    v296 = v291 == 0u;
-    if (v296) { goto L65; }
+    v290 = v285 == 0u;
+    if (v290) { goto L65; }
     else { goto L64; }
 L64:;
-    portable_rattle_dealloc(v289);
+    portable_rattle_dealloc(v283);
     goto L65;
 L65:;
-    v297 = v287 == 0u;
-    if (v297) { goto L71; }
+    v291 = v281 == 0u;
+    if (v291) { goto L71; }
     else { v21 = 0u; goto L66; }
 L66:;
-    v298 = (u64)((u64)v21 << (6u & 63u));
-    v299 = v286 + v298 * 1u;
-    v300 = v299 + 32u * 1u;
-    v301 = load64(v300);
-    v302 = v299 + 40u * 1u;
-    v303 = load_address(v302);
-    v304 = v299 + 56u * 1u;
-    v305 = load64(v304);
-    v306 = v301 == 0u;
-    if (v306) { goto L68; }
+    v292 = (u64)((u64)v21 << (6u & 63u));
+    v293 = v280 + v292 * 1u;
+    v294 = v293 + 32u * 1u;
+    v295 = load64(v294);
+    v296 = v293 + 40u * 1u;
+    v297 = load_address(v296);
+    v298 = v293 + 56u * 1u;
+    v299 = load64(v298);
+    v300 = v295 == 0u;
+    if (v300) { goto L68; }
     else { goto L67; }
 L67:;
-    v307 = v299 + 16u * 1u;
-    v308 = load_address(v307);
-    portable_rattle_dealloc(v308);
+    v301 = v293 + 16u * 1u;
+    v302 = load_address(v301);
+    portable_rattle_dealloc(v302);
     goto L68;
 L68:;
-    v309 = v305 == 0u;
-    if (v309) { goto L70; }
+    v303 = v299 == 0u;
+    if (v303) { goto L70; }
     else { goto L69; }
 L69:;
-    portable_rattle_dealloc(v303);
+    portable_rattle_dealloc(v297);
     goto L70;
 L70:;
-    v310 = (u64)((u64)v21 + (u64)1u);
-    v311 = v310 == v287;
-    if (v311) { goto L71; }
-    else { v21 = v310; goto L66; }
+    v304 = (u64)((u64)v21 + (u64)1u);
+    v305 = v304 == v281;
+    if (v305) { goto L71; }
+    else { v21 = v304; goto L66; }
 L71:;
-    v312 = v288 == 0u;
-    if (v312) { goto L73; }
+    v306 = v282 == 0u;
+    if (v306) { goto L73; }
     else { goto L72; }
 L72:;
-    portable_rattle_dealloc(v286);
+    portable_rattle_dealloc(v280);
     goto L73;
 L73:;
-    v313 = v77 + 48u * 1u;
-    v314 = load64(v313);
-    v315 = v314 == 0u;
-    if (v315) { goto L75; }
+    v307 = v71 + 48u * 1u;
+    v308 = load64(v307);
+    v309 = v308 == 0u;
+    if (v309) { goto L75; }
     else { goto L74; }
 L74:;
-    v316 = v77 + 32u * 1u;
-    v317 = load_address(v316);
-    portable_rattle_dealloc(v317);
+    v310 = v71 + 32u * 1u;
+    v311 = load_address(v310);
+    portable_rattle_dealloc(v311);
     goto L75;
 L75:;
-    v318 = v77 + 72u * 1u;
-    v319 = load64(v318);
-    v320 = v319 == 0u;
-    if (v320) { goto L77; }
+    v312 = v71 + 72u * 1u;
+    v313 = load64(v312);
+    v314 = v313 == 0u;
+    if (v314) { goto L77; }
     else { goto L76; }
 L76:;
-    v321 = v77 + 56u * 1u;
-    v322 = load_address(v321);
-    portable_rattle_dealloc(v322);
+    v315 = v71 + 56u * 1u;
+    v316 = load_address(v315);
+    portable_rattle_dealloc(v316);
     goto L77;
 L77:;
-    v64 = 131u; goto L224;
+    v60 = 131u; goto L191;
 L78:;
-    memory_set(v70, 0u, 24u);
-    memory_set(v71, 0u, 6u);
-    store_address(v69, v65);
-    v323 = v69 + 8u * 1u;
-    memory_set(v323, 0u, 16u);
-    v324 = v287 == 0u;
-    if (v324) { goto L79; }
-    else { goto L80; }
+    store_address(v65, v61);
+    v317 = v65 + 8u * 1u;
+    memory_set(v317, 0u, 16u);
+    v318 = v281 == 0u;
+    if (v318) { goto L144; }
+    else { goto L79; }
 L79:;
-    store_address(v70, v65);
-    v325 = v70 + 8u * 1u;
-    memory_set(v325, 0u, 16u);
-    v53 = 0u; v54 = v65; goto L138;
+    v319 = v63 + 8u * 1u;
+    v320 = v65 + 16u * 1u;
+    v321 = v64 + 8u * 1u;
+    v22 = v61; v23 = 0u; v24 = 0u; v25 = v61; v26 = 0u; goto L80;
 L80:;
-    v326 = v69 + 16u * 1u;
-    v22 = v65; v23 = 0u; v24 = 0u; goto L81;
+    v322 = (u64)((u64)v26 << (6u & 63u));
+    v323 = v280 + v322 * 1u;
+    v324 = load64(v323);
+    switch (v24) {
+    case 0u: v30 = v24; goto L85;
+    case 1u: v29 = 0u; goto L82;
+    default: v27 = v24; v28 = 0u; goto L81;
+    }
 L81:;
-    v327 = (u64)((u64)v24 << (6u & 63u));
-    v328 = v286 + v327 * 1u;
+    v325 = (u64)((u64)v27 >> (1u & 63u));
+    v326 = (u64)((u64)v325 + (u64)v28);
+    v327 = (u64)((u64)v326 << (4u & 63u));
+    v328 = v25 + v327 * 1u;
     v329 = load64(v328);
-    v330 = load64(v326);
-    v331 = v330 == v23;
-    if (v331) { goto L82; }
-    else { v25 = v22; v26 = v23; goto L84; }
+    v330 = v329 > v324;
+    v331 = v330 ? v28 : v326;
+    v332 = (u64)((u64)v27 - (u64)v325);
+    v333 = v332 > 1u;
+    if (v333) { v27 = v332; v28 = v331; goto L81; }
+    else { v29 = v331; goto L82; }
 L82:;
-    v332 = f148(v69);
-    if (v332) { goto L83; }
-    else { goto L85; }
+    v334 = (u64)((u64)v29 << (4u & 63u));
+    v335 = v25 + v334 * 1u;
+    v336 = load64(v335);
+    v337 = v336 == v324;
+    v338 = v336 < v324;
+    v339 = v338 ? 0u : 2u;
+    v340 = v337 ? 1u : v339;
+    switch (v340) {
+    case 1u: v42 = v22; v43 = v23; v44 = v24; v45 = v25; goto L107;
+    case 0u: goto L83;
+    case 2u: v30 = v29; goto L85;
+    default: goto L84;
+    }
 L83:;
-    v333 = load64(v323);
-    v334 = load_address(v69);
-    v25 = v334; v26 = v333; goto L84;
+    v341 = (u64)((u64)v29 + (u64)1u);
+    v30 = v341; goto L85;
 L84:;
-    v335 = (u64)((u64)v26 << (3u & 63u));
-    v336 = v25 + v335 * 1u;
-    store64(v336, v329);
-    v337 = (u64)((u64)v26 + (u64)1u);
-    store64(v323, v337);
-    v338 = (u64)((u64)v24 + (u64)1u);
-    v339 = v338 == v287;
-    if (v339) { goto L87; }
-    else { v22 = v25; v23 = v337; v24 = v338; goto L81; }
+    UNREACHABLE;
 L85:;
-    v340 = load64(v326);
-    v341 = v340 == 0u;
-    if (v341) { goto L142; }
-    else { goto L86; }
+    store64(v63, v324);
+    store64(v319, 0u);
+    v342 = v24 < v23;
+    if (v342) { goto L86; }
+    else { goto L87; }
 L86:;
-    v342 = load_address(v69);
-    v55 = v342; goto L141;
+    store64(v64, v324);
+    store64(v321, 0u);
+    v31 = v23; v32 = v22; v33 = v24; v34 = v64; goto L90;
 L87:;
-    v343 = load_address(v69);
-    v344 = v337 < 21u;
-    if (v344) { goto L88; }
-    else { goto L96; }
+    v343 = v23 == v24;
+    if (v343) { goto L88; }
+    else { v31 = v23; v32 = v22; v33 = v24; v34 = v63; goto L90; }
 L88:;
-    v345 = v337 > 1u;
-    if (v345) { v27 = 1u; goto L89; }
-    else { goto L124; }
-L89:;
-    v346 = (u64)((u64)v27 << (3u & 63u));
-    v347 = v343 + v346 * 1u;
-    v348 = (u64)((u64)v27 + (u64)UINT64_C(18446744073709551615));
-    v349 = (u64)((u64)v348 << (3u & 63u));
-    v350 = v343 + v349 * 1u;
-    v351 = load64(v347);
-    v352 = load64(v350);
-    v353 = v351 < v352;
-    if (v353) { goto L90; }
-    else { goto L95; }
-L90:;
-    store64(v347, v352);
-    v354 = v348 == 0u;
-    if (v354) { v30 = 0u; goto L94; }
-    else { v28 = v348; goto L91; }
-L91:;
-    v355 = (u64)((u64)v28 + (u64)UINT64_C(18446744073709551615));
-    v356 = (u64)((u64)v355 << (3u & 63u));
-    v357 = v343 + v356 * 1u;
-    v358 = load64(v357);
-    v359 = v351 < v358;
-    if (v359) { goto L92; }
-    else { v29 = v28; goto L93; }
-L92:;
-    v360 = (u64)((u64)v28 << (3u & 63u));
-    v361 = v343 + v360 * 1u;
-    store64(v361, v358);
-    v362 = v355 == 0u;
-    if (v362) { v29 = 0u; goto L93; }
-    else { v28 = v355; goto L91; }
-L93:;
-    v363 = (u64)((u64)v29 << (3u & 63u));
-    v30 = v363; goto L94;
-L94:;
-    v364 = v343 + v30 * 1u;
-    store64(v364, v351);
-    goto L95;
-L95:;
-    v365 = (u64)((u64)v27 + (u64)1u);
-    v366 = v27 == v26;
-    if (v366) { goto L123; }
-    else { v27 = v365; goto L89; }
-L96:;
-    v367 = v343 + 8u * 1u;
-    v368 = load64(v367);
-    v369 = load64(v343);
-    v370 = v368 < v369;
-    if (v370) { v31 = 2u; goto L97; }
-    else { v32 = 2u; goto L99; }
-L97:;
-    v371 = (u64)((u64)v31 << (3u & 63u));
-    v372 = v343 + v371 * 1u;
-    v373 = v372 + UINT64_C(18446744073709551608) * 1u;
-    v374 = load64(v372);
-    v375 = load64(v373);
-    v376 = v374 < v375;
-    if (v376) { goto L98; }
-    else { v33 = v31; goto L101; }
-L98:;
-    v377 = (u64)((u64)v31 + (u64)1u);
-    v378 = v31 == v26;
-    if (v378) { goto L103; }
-    else { v31 = v377; goto L97; }
-L99:;
-    v379 = (u64)((u64)v32 << (3u & 63u));
-    v380 = v343 + v379 * 1u;
-    v381 = v380 + UINT64_C(18446744073709551608) * 1u;
-    v382 = load64(v380);
-    v383 = load64(v381);
-    v384 = v382 < v383;
-    if (v384) { v33 = v32; goto L101; }
-    else { goto L100; }
-L100:;
-    v385 = (u64)((u64)v32 + (u64)1u);
-    v386 = v32 == v26;
-    if (v386) { goto L123; }
-    else { v32 = v385; goto L99; }
-L101:;
-    v387 = v33 == v337;
-    if (v387) { goto L102; }
-    else { goto L104; }
-L102:;
-    if (v370) { goto L103; }
-    else { goto L123; }
-L103:;
-    v388 = (u64)((u64)v337 >> (1u & 63u));
-    v389 = (u64)((u64)v337 - (u64)v388);
-    v390 = (u64)((u64)v389 << (3u & 63u));
-    v391 = v343 + v390 * 1u;
-    f149(v343, v391, v388);
-    goto L123;
-L104:;
-    v392 = (u64)((u64)v337 << (3u & 63u));
-    v393 = (i64)v392 < (i64)0u;
-    if (v393) { goto L128; }
+    v344 = f148(v65);
+    if (v344) { goto L89; }
     else { goto L105; }
+L89:;
+    v345 = load64(v317);
+    v346 = load_address(v65);
+    v347 = load64(v320);
+    v31 = v347; v32 = v346; v33 = v345; v34 = v63; goto L90;
+L90:;
+    memory_cpy(v62, v34, 16u);
+    memory_set(v317, 0u, 16u);
+    v348 = v30 == UINT64_C(18446744073709551615);
+    if (v348) { goto L91; }
+    else { goto L102; }
+L91:;
+    v349 = (u64)((u64)v33 + (u64)1u);
+    v350 = v349 > 128u;
+    if (v350) { v35 = 0u; goto L92; }
+    else { v38 = v32; v39 = v349; goto L97; }
+L92:;
+    v351 = (u64)((u64)v35 << (4u & 63u));
+    v352 = v32 + v351 * 1u;
+    v353 = v352 + UINT64_C(18446744073709551600) * 1u;
+    v354 = v35 == 0u;
+    if (v354) { v36 = 0u; goto L93; }
+    else { v37 = 0u; goto L94; }
+L93:;
+    v355 = (u64)((u64)v36 << (4u & 63u));
+    v356 = v352 + v355 * 1u;
+    v357 = v353 + v355 * 1u;
+    memory_cpy(v356, v357, 16u);
+    v358 = (u64)((u64)v36 + (u64)1u);
+    v359 = v358 == 128u;
+    if (v359) { goto L95; }
+    else { v36 = v358; goto L93; }
+L94:;
+    v360 = (u64)((u64)v37 << (4u & 63u));
+    v361 = (u64)((u64)2032u - (u64)v360);
+    v362 = v352 + v361 * 1u;
+    v363 = v353 + v361 * 1u;
+    memory_cpy(v362, v363, 16u);
+    v364 = (u64)((u64)v37 + (u64)1u);
+    v365 = v364 == 128u;
+    if (v365) { goto L95; }
+    else { v37 = v364; goto L94; }
+L95:;
+    v366 = (u64)((u64)v35 + (u64)128u);
+    v367 = (u64)((u64)v349 - (u64)v366);
+    v368 = v367 > 128u;
+    if (v368) { v35 = v366; goto L92; }
+    else { goto L96; }
+L96:;
+    v369 = (u64)((u64)v366 << (4u & 63u));
+    v370 = v32 + v369 * 1u;
+    v371 = v370 + UINT64_C(18446744073709551600) * 1u;
+    v372 = v366 == 0u;
+    if (v372) { v38 = v370; v39 = v367; goto L97; }
+    else { goto L100; }
+L97:;
+    v373 = v349 == 0u;
+    if (v373) { goto L104; }
+    else { goto L98; }
+L98:;
+    v374 = v38 + UINT64_C(18446744073709551600) * 1u;
+    v40 = 0u; goto L99;
+L99:;
+    v375 = (u64)((u64)v40 << (4u & 63u));
+    v376 = v38 + v375 * 1u;
+    v377 = v374 + v375 * 1u;
+    memory_cpy(v376, v377, 16u);
+    v378 = (u64)((u64)v40 + (u64)1u);
+    v379 = v378 == v39;
+    if (v379) { goto L104; }
+    else { v40 = v378; goto L99; }
+L100:;
+    v380 = v349 == v366;
+    if (v380) { goto L104; }
+    else { v41 = 0u; goto L101; }
+L101:;
+    v381 = (u64)((u64)v41 ^ (u64)UINT64_C(18446744073709551615));
+    v382 = (u64)((u64)v367 + (u64)v381);
+    v383 = (u64)((u64)v382 << (4u & 63u));
+    v384 = v370 + v383 * 1u;
+    v385 = v371 + v383 * 1u;
+    memory_cpy(v384, v385, 16u);
+    v386 = (u64)((u64)v41 + (u64)1u);
+    v387 = v386 == v367;
+    if (v387) { goto L104; }
+    else { v41 = v386; goto L101; }
+L102:;
+    v388 = v33 == v30;
+    if (v388) { goto L104; }
+    else { goto L103; }
+L103:;
+    v389 = (u64)((u64)v30 << (4u & 63u));
+    v390 = v32 + v389 * 1u;
+    v391 = v390 + 16u * 1u;
+    v392 = (u64)((u64)v33 - (u64)v30);
+    v393 = (u64)((u64)v392 << (4u & 63u));
+    memory_move(v391, v390, v393);
+    goto L104;
+L104:;
+    v394 = (u64)((u64)v33 + (u64)1u);
+    v395 = (u64)((u64)v30 << (4u & 63u));
+    v396 = v32 + v395 * 1u;
+    memory_cpy(v396, v62, 16u);
+    store64(v317, v394);
+    store64(v320, v31);
+    v42 = v32; v43 = v31; v44 = v394; v45 = v32; goto L107;
 L105:;
-    v394 = portable_rattle_alloc(v392, 8u);
-    v395 = v394.m0;
-    v396 = v394.m1;
-    v397 = (u8)((v395) & UINT64_C(1));
-    v398 = (address)v396;
-    v399 = v397 ? v398 : 0u;
-    if (v397) { goto L106; }
-    else { goto L128; }
+    v397 = load64(v320);
+    v398 = v397 == 0u;
+    if (v398) { goto L109; }
+    else { goto L106; }
 L106:;
-    store_address(v68, v398);
-    v400 = v68 + 8u * 1u;
-    store64(v400, v337);
-    v401 = v337 < 65u;
-    v402 = (u64)((u64)v337 >> (1u & 63u));
-    v403 = v33 < v402;
-    v404 = (u8)(((u32)v401 & (u32)v403) & UINT64_C(1));
-    if (v404) { goto L107; }
-    else { goto L108; }
+    v399 = load_address(v65);
+    portable_rattle_dealloc(v399);
+    goto L109;
 L107:;
-    v405 = (u64)ctlz(v337, 64u);
-    v406 = (u32)(v405);
-    v407 = (u32)((u32)v406 << (1u & 31u));
-    v408 = (u32)((u32)126u - (u32)v407);
-    f150(v343, v337, v337, v408, v68);
-    goto L122;
+    v400 = (u64)((u64)v26 + (u64)1u);
+    v401 = v400 == v281;
+    if (v401) { goto L108; }
+    else { v22 = v42; v23 = v43; v24 = v44; v25 = v45; v26 = v400; goto L80; }
 L108:;
-    memory_set(v67, 0u, 40u);
-    v409 = v337 < 4097u;
-    if (v409) { v36 = 64u; goto L111; }
-    else { v34 = 0u; v35 = UINT64_C(4294967296); goto L109; }
+    v402 = load_address(v65);
+    v403 = v281 > 65535u;
+    v404 = v44 > 65535u;
+    v405 = v403 ? 1u : v404;
+    if (v405) { goto L123; }
+    else { goto L139; }
 L109:;
-    v410 = (u64)((u64)v35 + (u64)v34);
-    v411 = (u64)((u64)v410 >> (1u & 63u));
-    v412 = (u64)((u64)v411 * (u64)v411);
-    v413 = v412 > v337;
-    v414 = v413 ? v411 : v35;
-    v415 = v413 ? v34 : v411;
-    v416 = (u64)((u64)v415 + (u64)1u);
-    v417 = v416 < v414;
-    if (v417) { v34 = v415; v35 = v414; goto L109; }
+    v406 = v285 == 0u;
+    if (v406) { goto L111; }
     else { goto L110; }
 L110:;
-    v418 = v415 > 64u ? v415 : 64u;
-    v36 = v418; goto L111;
+    portable_rattle_dealloc(v283);
+    goto L111;
 L111:;
-    v419 = v402 < v36 ? v402 : v36;
-    v420 = (u64)((u64)UINT64_C(4611686018427387904) / (u64)v337);
-    v421 = (u64)((u64)v420 + (u64)1u);
-    v422 = v33 >= v419;
-    v423 = (u8)(((u32)v370 & (u32)v422) & UINT64_C(1));
-    v424 = (u8)v422;
-    v425 = v33 > v419 ? v33 : v419;
-    if (v423) { goto L112; }
-    else { v41 = v424; v42 = v425; goto L119; }
+    v46 = 0u; goto L112;
 L112:;
-    v426 = v33 > 15u;
-    if (v426) { goto L114; }
+    v407 = (u64)((u64)v46 << (6u & 63u));
+    v408 = v280 + v407 * 1u;
+    v409 = v408 + 32u * 1u;
+    v410 = load64(v409);
+    v411 = v408 + 40u * 1u;
+    v412 = load_address(v411);
+    v413 = v408 + 56u * 1u;
+    v414 = load64(v413);
+    v415 = v410 == 0u;
+    if (v415) { goto L114; }
     else { goto L113; }
 L113:;
-    v427 = (u64)((u64)v33 + (u64)UINT64_C(18446744073709551614));
-    v428 = (u64)((u64)v427 >> (1u & 63u));
-    v37 = 0u; v38 = v33; goto L115;
+    v416 = v408 + 16u * 1u;
+    v417 = load_address(v416);
+    portable_rattle_dealloc(v417);
+    goto L114;
 L114:;
-    v429 = (u64)((u64)v33 >> (1u & 63u));
-    v430 = (u64)((u64)v33 - (u64)v429);
-    v431 = (u64)((u64)v430 << (3u & 63u));
-    v432 = v343 + v431 * 1u;
-    f149(v343, v432, v429);
-    v41 = 1u; v42 = v33; goto L119;
+    v418 = v414 == 0u;
+    if (v418) { goto L116; }
+    else { goto L115; }
 L115:;
-    v433 = (u64)((u64)v38 + (u64)UINT64_C(18446744073709551615));
-    v434 = v37 < v433;
-    if (v434) { v39 = v37; v40 = v433; goto L117; }
-    else { goto L116; }
+    portable_rattle_dealloc(v412);
+    goto L116;
 L116:;
-    v435 = v433 < v37;
-    if (v435) { v39 = v433; v40 = v37; goto L117; }
-    else { goto L118; }
+    v419 = (u64)((u64)v46 + (u64)1u);
+    v420 = v419 == v281;
+    if (v420) { goto L117; }
+    else { v46 = v419; goto L112; }
 L117:;
-    v436 = (u64)((u64)v39 << (3u & 63u));
-    v437 = v343 + v436 * 1u;
-    v438 = (u64)((u64)v40 << (3u & 63u));
-    v439 = v343 + v438 * 1u;
-    v440 = load64(v437);
-    v441 = load64(v439);
-    store64(v437, v441);
-    store64(v439, v440);
-    goto L118;
+    v421 = v282 == 0u;
+    if (v421) { goto L119; }
+    else { goto L118; }
 L118:;
-    v442 = (u64)((u64)v37 + (u64)1u);
-    v443 = v37 == v428;
-    if (v443) { v41 = 1u; v42 = v33; goto L119; }
-    else { v37 = v442; v38 = v433; goto L115; }
+    portable_rattle_dealloc(v280);
+    goto L119;
 L119:;
-    f156(v67, v343, v337, 0u, v42, v41, 0u, v419, v421, v68);
-    v444 = v67 + 8u * 1u;
-    v445 = load8(v444);
-    v446 = (u8)((v445) & UINT64_C(1));
-    if (v446) { goto L121; }
+    v422 = v71 + 48u * 1u;
+    v423 = load64(v422);
+    v424 = v423 == 0u;
+    if (v424) { goto L121; }
     else { goto L120; }
 L120:;
-    v447 = load64(v67);
-    v448 = (u64)ctlz(v447, 64u);
-    v449 = (u32)(v448);
-    v450 = (u32)((u32)v449 << (1u & 31u));
-    v451 = (u32)((u32)126u - (u32)v450);
-    f150(v343, v447, v447, v451, v68);
+    v425 = v71 + 32u * 1u;
+    v426 = load_address(v425);
+    portable_rattle_dealloc(v426);
     goto L121;
 L121:;
-    goto L122;
+    v427 = v71 + 72u * 1u;
+    v428 = load64(v427);
+    v429 = v428 == 0u;
+    if (v429) { goto L168; }
+    else { goto L122; }
 L122:;
-    portable_rattle_dealloc(v399);
-    goto L124;
+    v430 = v71 + 56u * 1u;
+    v431 = load_address(v430);
+    v56 = v431; goto L164;
 L123:;
-    store_address(v70, v65);
-    v452 = v70 + 8u * 1u;
-    memory_set(v452, 0u, 16u);
-    v43 = v452; goto L125;
+    v432 = v43 == 0u;
+    if (v432) { goto L125; }
+    else { goto L124; }
 L124:;
-    store_address(v70, v65);
-    v453 = v70 + 8u * 1u;
-    memory_set(v453, 0u, 16u);
-    v454 = v337 == 0u;
-    if (v454) { v53 = 0u; v54 = v343; goto L138; }
-    else { v43 = v453; goto L125; }
+    portable_rattle_dealloc(v402);
+    goto L125;
 L125:;
-    v455 = v70 + 16u * 1u;
-    v456 = load64(v343);
-    v457 = f157(v70);
-    if (v457) { goto L126; }
-    else { goto L134; }
+    v433 = v285 == 0u;
+    if (v433) { goto L127; }
+    else { goto L126; }
 L126:;
-    v458 = load_address(v70);
-    v459 = load64(v43);
-    v460 = (u64)((u64)v459 << (4u & 63u));
-    v461 = v458 + v460 * 1u;
-    store64(v461, v456);
-    v462 = v461 + 8u * 1u;
-    v463 = (u64)((u64)v459 + (u64)1u);
-    store64(v462, 0u);
-    store64(v43, v463);
-    v464 = v26 == 0u;
-    if (v464) { v53 = v463; v54 = v343; goto L138; }
-    else { goto L127; }
+    portable_rattle_dealloc(v283);
+    goto L127;
 L127:;
-    v465 = load64(v343);
-    v44 = v463; v45 = v458; v46 = 1u; v47 = v465; goto L129;
+    v47 = 0u; goto L128;
 L128:;
-    v466 = load64(v326);
-    v467 = v466 == 0u;
-    if (v467) { goto L142; }
-    else { v55 = v343; goto L141; }
+    v434 = (u64)((u64)v47 << (6u & 63u));
+    v435 = v280 + v434 * 1u;
+    v436 = v435 + 32u * 1u;
+    v437 = load64(v436);
+    v438 = v435 + 40u * 1u;
+    v439 = load_address(v438);
+    v440 = v435 + 56u * 1u;
+    v441 = load64(v440);
+    v442 = v437 == 0u;
+    if (v442) { goto L130; }
+    else { goto L129; }
 L129:;
-    v468 = (u64)((u64)v46 << (3u & 63u));
-    v469 = v343 + v468 * 1u;
-    v470 = load64(v469);
-    v471 = v47 == v470;
-    if (v471) { v50 = v44; v51 = v45; v52 = v47; goto L137; }
-    else { goto L130; }
+    v443 = v435 + 16u * 1u;
+    v444 = load_address(v443);
+    portable_rattle_dealloc(v444);
+    goto L130;
 L130:;
-    memory_cpy(v66, v71, 6u);
-    v472 = load64(v455);
-    v473 = v472 == v44;
-    if (v473) { goto L131; }
-    else { v48 = v45; v49 = v44; goto L133; }
+    v445 = v441 == 0u;
+    if (v445) { goto L132; }
+    else { goto L131; }
 L131:;
-    v474 = f157(v70);
-    if (v474) { goto L132; }
-    else { goto L134; }
+    portable_rattle_dealloc(v439);
+    goto L132;
 L132:;
-    v475 = load64(v43);
-    v476 = load_address(v70);
-    v48 = v476; v49 = v475; goto L133;
+    v446 = (u64)((u64)v47 + (u64)1u);
+    v447 = v446 == v281;
+    if (v447) { goto L133; }
+    else { v47 = v446; goto L128; }
 L133:;
-    v477 = (u64)((u64)v49 << (4u & 63u));
-    v478 = v48 + v477 * 1u;
-    store64(v478, v470);
-    v479 = v478 + 8u * 1u;
-    store8(v479, 0u);
-    v480 = v478 + 9u * 1u;
-    store8(v480, 0u);
-    v481 = v478 + 10u * 1u;
-    memory_cpy(v481, v66, 6u);
-    v482 = (u64)((u64)v49 + (u64)1u);
-    store64(v43, v482);
-    v483 = load64(v469);
-    v50 = v482; v51 = v48; v52 = v483; goto L137;
+    v448 = v282 == 0u;
+    if (v448) { goto L135; }
+    else { goto L134; }
 L134:;
-    v484 = load64(v455);
-    v485 = v484 == 0u;
-    if (v485) { goto L136; }
-    else { goto L135; }
+    portable_rattle_dealloc(v280);
+    goto L135;
 L135:;
-    v486 = load_address(v70);
-    portable_rattle_dealloc(v486);
-    goto L136;
+    v449 = v71 + 48u * 1u;
+    v450 = load64(v449);
+    v451 = v450 == 0u;
+    if (v451) { goto L137; }
+    else { goto L136; }
 L136:;
-    v487 = load64(v326);
-    v488 = v487 == 0u;
-    if (v488) { goto L142; }
-    else { v55 = v343; goto L141; }
+    v452 = v71 + 32u * 1u;
+    v453 = load_address(v452);
+    portable_rattle_dealloc(v453);
+    goto L137;
 L137:;
-    v489 = (u64)((u64)v46 + (u64)1u);
-    v490 = v46 == v26;
-    if (v490) { v53 = v50; v54 = v343; goto L138; }
-    else { v44 = v50; v45 = v51; v46 = v489; v47 = v52; goto L129; }
+    v454 = v71 + 72u * 1u;
+    v455 = load64(v454);
+    v456 = v455 == 0u;
+    if (v456) { goto L167; }
+    else { goto L138; }
 L138:;
-    v491 = v69 + 16u * 1u;
-    v492 = load64(v491);
-    v493 = v492 == 0u;
-    if (v493) { goto L140; }
-    else { goto L139; }
+    v457 = v71 + 56u * 1u;
+    v458 = load_address(v457);
+    v58 = v458; goto L166;
 L139:;
-    portable_rattle_dealloc(v54);
-    goto L140;
+    v459 = v71 + 56u * 1u;
+    v460 = v71 + 64u * 1u;
+    v461 = load64(v460);
+    v462 = load_address(v459);
+    v48 = 0u; goto L140;
 L140:;
-    v494 = load_address(v70);
-    v495 = v70 + 16u * 1u;
-    v496 = load64(v495);
-    v497 = v287 > 65535u;
-    v498 = v53 > 65535u;
-    v499 = v497 ? 1u : v498;
-    if (v499) { goto L156; }
-    else { goto L172; }
+    v463 = v461 > v48;
+    if (v463) { goto L141; }
+    else { goto L142; }
 L141:;
-    portable_rattle_dealloc(v55);
-    goto L142;
+    v464 = v462 + v48 * 1u;
+    v465 = load8(v464);
+    v466 = v465 == 5u;
+    if (v466) { v49 = 2u; goto L143; }
+    else { goto L142; }
 L142:;
-    v500 = v291 == 0u;
-    if (v500) { goto L144; }
-    else { goto L143; }
+    v467 = (u64)((u64)v48 + (u64)1u);
+    v468 = v467 == v281;
+    if (v468) { v49 = v83; goto L143; }
+    else { v48 = v467; goto L140; }
 L143:;
-    portable_rattle_dealloc(v289);
-    goto L144;
-L144:;
-    v56 = 0u; goto L145;
-L145:;
-    v501 = (u64)((u64)v56 << (6u & 63u));
-    v502 = v286 + v501 * 1u;
-    v503 = v502 + 32u * 1u;
-    v504 = load64(v503);
-    v505 = v502 + 40u * 1u;
-    v506 = load_address(v505);
-    v507 = v502 + 56u * 1u;
-    v508 = load64(v507);
-    v509 = v504 == 0u;
-    if (v509) { goto L147; }
+    v469 = portable_rattle_alloc(8221u, 1u);
+    v470 = v469;
+    v471 = v470.m0;
+    v472 = (u8)((v471) & UINT64_C(1));
+    if (v472) { v50 = v470; v51 = v49; v52 = v402; v53 = v44; v54 = v43; goto L145; }
     else { goto L146; }
+L144:;
+    v473 = v71 + 56u * 1u;
+    v474 = portable_rattle_alloc(8221u, 1u);
+    v475 = v474;
+    v476 = v475.m0;
+    v477 = (u8)((v476) & UINT64_C(1));
+    if (v477) { v50 = v475; v51 = v83; v52 = v61; v53 = 0u; v54 = 0u; goto L145; }
+    else { v55 = v473; goto L148; }
+L145:;
+    v478 = v50.m1;
+    v479 = (address)v478;
+    memory_set(v479, 0u, 8221u);
+    store8(v72, v51);
+    v480 = v72 + 8u * 1u;
+    memory_cpy(v480, v71, 88u);
+    v481 = v72 + 96u * 1u;
+    store_address(v481, v280);
+    v482 = v72 + 104u * 1u;
+    store64(v482, v281);
+    v483 = v72 + 112u * 1u;
+    store64(v483, v282);
+    v484 = v72 + 120u * 1u;
+    store_address(v484, v283);
+    v485 = v72 + 128u * 1u;
+    store64(v485, v284);
+    v486 = v72 + 136u * 1u;
+    store64(v486, v285);
+    v487 = v72 + 144u * 1u;
+    store_address(v487, v52);
+    v488 = v72 + 152u * 1u;
+    store64(v488, v53);
+    v489 = v72 + 160u * 1u;
+    store64(v489, v54);
+    v490 = v72 + 168u * 1u;
+    store16(v490, 0u);
+    v491 = v72 + 170u * 1u;
+    store8(v491, 0u);
+    v492 = v72 + 172u * 1u;
+    v493 = v72 + 184u * 1u;
+    store64(v492, 0u);
+    store_address(v493, v479);
+    v494 = v72 + 192u * 1u;
+    store64(v494, 8221u);
+    v495 = v72 + 200u * 1u;
+    store64(v495, 8221u);
+    v496 = v72 + 208u * 1u;
+    store64(v496, 0u);
+    v497 = f149(v72);
+    if (v497) { goto L154; }
+    else { goto L155; }
 L146:;
-    v510 = v502 + 16u * 1u;
-    v511 = load_address(v510);
-    portable_rattle_dealloc(v511);
-    goto L147;
+    v498 = v43 == 0u;
+    if (v498) { v55 = v459; goto L148; }
+    else { goto L147; }
 L147:;
-    v512 = v508 == 0u;
-    if (v512) { goto L149; }
-    else { goto L148; }
+    portable_rattle_dealloc(v402);
+    v55 = v459; goto L148;
 L148:;
-    portable_rattle_dealloc(v506);
-    goto L149;
+    v499 = v285 == 0u;
+    if (v499) { goto L150; }
+    else { goto L149; }
 L149:;
-    v513 = (u64)((u64)v56 + (u64)1u);
-    v514 = v513 == v287;
-    if (v514) { goto L150; }
-    else { v56 = v513; goto L145; }
+    portable_rattle_dealloc(v283);
+    goto L150;
 L150:;
-    v515 = v288 == 0u;
-    if (v515) { goto L152; }
+    store_address(v75, v280);
+    v500 = v75 + 8u * 1u;
+    store64(v500, v281);
+    v501 = v75 + 16u * 1u;
+    store64(v501, v282);
+    f151(v75);
+    v502 = v71 + 48u * 1u;
+    v503 = load64(v502);
+    v504 = v503 == 0u;
+    if (v504) { goto L152; }
     else { goto L151; }
 L151:;
-    portable_rattle_dealloc(v286);
+    v505 = v71 + 32u * 1u;
+    v506 = load_address(v505);
+    portable_rattle_dealloc(v506);
     goto L152;
 L152:;
-    v516 = v77 + 48u * 1u;
-    v517 = load64(v516);
-    v518 = v517 == 0u;
-    if (v518) { goto L154; }
+    v507 = v71 + 72u * 1u;
+    v508 = load64(v507);
+    v509 = v508 == 0u;
+    if (v509) { goto L168; }
     else { goto L153; }
 L153:;
-    v519 = v77 + 32u * 1u;
-    v520 = load_address(v519);
-    portable_rattle_dealloc(v520);
-    goto L154;
+    v510 = load_address(v55);
+    v56 = v510; goto L164;
 L154:;
-    v521 = v77 + 72u * 1u;
-    v522 = load64(v521);
-    v523 = v522 == 0u;
-    if (v523) { goto L201; }
+    v511 = f150(v72);
+    if (v511) { goto L163; }
     else { goto L155; }
 L155:;
-    v524 = v77 + 56u * 1u;
-    v525 = load_address(v524);
-    v60 = v525; goto L197;
+    v512 = v72 + 56u * 1u;
+    v513 = load64(v512);
+    v514 = v72 + 64u * 1u;
+    v515 = load_address(v514);
+    v516 = v72 + 80u * 1u;
+    v517 = load64(v516);
+    v518 = v513 == 0u;
+    if (v518) { goto L157; }
+    else { goto L156; }
 L156:;
-    v526 = v496 == 0u;
-    if (v526) { goto L158; }
-    else { goto L157; }
+    v519 = v72 + 40u * 1u;
+    v520 = load_address(v519);
+    portable_rattle_dealloc(v520);
+    goto L157;
 L157:;
-    portable_rattle_dealloc(v494);
-    goto L158;
+    v521 = v517 == 0u;
+    if (v521) { goto L159; }
+    else { goto L158; }
 L158:;
-    v527 = v291 == 0u;
-    if (v527) { goto L160; }
-    else { goto L159; }
+    portable_rattle_dealloc(v515);
+    goto L159;
 L159:;
-    portable_rattle_dealloc(v289);
-    goto L160;
+    f151(v481);
+    v522 = v285 == 0u;
+    if (v522) { goto L161; }
+    else { goto L160; }
 L160:;
-    if (v324) { goto L166; }
-    else { v57 = 0u; goto L161; }
+    portable_rattle_dealloc(v283);
+    goto L161;
 L161:;
-    v528 = (u64)((u64)v57 << (6u & 63u));
-    v529 = v286 + v528 * 1u;
-    v530 = v529 + 32u * 1u;
-    v531 = load64(v530);
-    v532 = v529 + 40u * 1u;
-    v533 = load_address(v532);
-    v534 = v529 + 56u * 1u;
-    v535 = load64(v534);
-    v536 = v531 == 0u;
-    if (v536) { goto L163; }
+    v523 = v54 == 0u;
+    if (v523) { v58 = v479; goto L166; }
     else { goto L162; }
 L162:;
-    v537 = v529 + 16u * 1u;
-    v538 = load_address(v537);
-    portable_rattle_dealloc(v538);
-    goto L163;
+    portable_rattle_dealloc(v52);
+    v58 = v479; goto L166;
 L163:;
-    v539 = v535 == 0u;
-    if (v539) { goto L165; }
-    else { goto L164; }
-L164:;
-    portable_rattle_dealloc(v533);
-    goto L165;
-L165:;
-    v540 = (u64)((u64)v57 + (u64)1u);
-    v541 = v540 == v287;
-    if (v541) { goto L166; }
-    else { v57 = v540; goto L161; }
-L166:;
-    v542 = v288 == 0u;
-    if (v542) { goto L168; }
-    else { goto L167; }
-L167:;
-    portable_rattle_dealloc(v286);
-    goto L168;
-L168:;
-    v543 = v77 + 48u * 1u;
-    v544 = load64(v543);
-    v545 = v544 == 0u;
-    if (v545) { goto L170; }
-    else { goto L169; }
-L169:;
-    v546 = v77 + 32u * 1u;
-    v547 = load_address(v546);
-    portable_rattle_dealloc(v547);
-    goto L170;
-L170:;
-    v548 = v77 + 72u * 1u;
-    v549 = load64(v548);
-    v550 = v549 == 0u;
-    if (v550) { goto L200; }
-    else { goto L171; }
-L171:;
-    v551 = v77 + 56u * 1u;
-    v552 = load_address(v551);
-    v62 = v552; goto L199;
-L172:;
-    v553 = v77 + 56u * 1u;
-    if (v324) { v59 = v89; goto L177; }
+    v524 = load_address(v72);
+    v525 = v72 + 40u * 1u;
+    v526 = load_address(v525);
+    v527 = v72 + 48u * 1u;
+    v528 = load64(v527);
+    v529 = v72 + 56u * 1u;
+    v530 = load64(v529);
+    v531 = v72 + 64u * 1u;
+    v532 = load_address(v531);
+    v533 = v72 + 72u * 1u;
+    v534 = load64(v533);
+    v535 = v72 + 80u * 1u;
+    v536 = load64(v535);
+    v537 = v72 + 88u * 1u;
+    v538 = load64(v537);
+    memory_cpy(v76, v71, 32u);
+    memory_cpy(v77, v490, 16u);
+    v539 = portable_rattle_alloc(216u, 8u);
+    v540 = v539.m0;
+    v541 = (u8)((v540) & UINT64_C(1));
+    if (v541) { goto L169; }
     else { goto L173; }
+L164:;
+    portable_rattle_dealloc(v56);
+    goto L168;
+L165:;
+    v542 = (u64)v57;
+    v543 = ADDRESS(c370) + v542 * 4u;
+    v544 = load32(v543);
+    v60 = v544; goto L191;
+L166:;
+    portable_rattle_dealloc(v58);
+    goto L167;
+L167:;
+    v60 = 107u; goto L191;
+L168:;
+    v60 = 35u; goto L191;
+L169:;
+    v545 = v539.m1;
+    v546 = (address)v545;
+    store_address(v546, v524);
+    v547 = v546 + 8u * 1u;
+    memory_cpy(v547, v76, 32u);
+    v548 = v546 + 40u * 1u;
+    store_address(v548, v526);
+    v549 = v546 + 48u * 1u;
+    store64(v549, v528);
+    v550 = v546 + 56u * 1u;
+    store64(v550, v530);
+    v551 = v546 + 64u * 1u;
+    store_address(v551, v532);
+    v552 = v546 + 72u * 1u;
+    store64(v552, v534);
+    v553 = v546 + 80u * 1u;
+    store64(v553, v536);
+    v554 = v546 + 88u * 1u;
+    store64(v554, v538);
+    v555 = v546 + 96u * 1u;
+    store_address(v555, v280);
+    v556 = v546 + 104u * 1u;
+    store64(v556, v281);
+    v557 = v546 + 112u * 1u;
+    store64(v557, v282);
+    v558 = v546 + 120u * 1u;
+    store_address(v558, v283);
+    v559 = v546 + 128u * 1u;
+    store64(v559, v284);
+    v560 = v546 + 136u * 1u;
+    store64(v560, v285);
+    v561 = v546 + 144u * 1u;
+    store_address(v561, v52);
+    v562 = v546 + 152u * 1u;
+    store64(v562, v53);
+    v563 = v546 + 160u * 1u;
+    store64(v563, v54);
+    v564 = v546 + 168u * 1u;
+    memory_cpy(v564, v77, 16u);
+    v565 = v546 + 184u * 1u;
+    store_address(v565, v479);
+    v566 = v546 + 192u * 1u;
+    store64(v566, 8221u);
+    v567 = v546 + 200u * 1u;
+    store64(v567, 8221u);
+    v568 = v546 + 208u * 1u;
+    store64(v568, 0u);
+    v569 = portable_rattle_alloc(16u, 8u);
+    v570 = v569.m0;
+    v571 = (u8)((v570) & UINT64_C(1));
+    if (v571) { goto L170; }
+    else { goto L172; }
+L170:;
+    v572 = v569.m1;
+    v573 = (address)v572;
+    store64(v573, 7u);
+    v574 = v573 + 8u * 1u;
+    store64(v574, v545);
+    v575 = load_address(a0);
+    v576 = a0 + 8u * 1u;
+    v577 = load8(v576);
+    v578 = (u8)((v577) & UINT64_C(1));
+    memory_set(a0, 0u, 16u);
+    if (v578) { goto L171; }
+    else { goto L190; }
+L171:;
+    v579 = load8(v575);
+    v580 = v575 + 8u * 1u;
+    v581 = load64(v580);
+    portable_rattle_dealloc(v575);
+    v582 = (address)v581;
+    f12(v579, v582);
+    goto L190;
+L172:;
+    f19(v546);
+    v60 = 35u; goto L191;
 L173:;
-    v554 = v77 + 64u * 1u;
-    v555 = load64(v554);
-    v556 = load_address(v553);
-    v58 = 0u; goto L174;
+    v583 = v530 == 0u;
+    if (v583) { goto L175; }
+    else { goto L174; }
 L174:;
-    v557 = v555 > v58;
-    if (v557) { goto L175; }
-    else { goto L176; }
+    portable_rattle_dealloc(v526);
+    goto L175;
 L175:;
-    v558 = v556 + v58 * 1u;
-    v559 = load8(v558);
-    v560 = v559 == 5u;
-    if (v560) { v59 = 2u; goto L177; }
+    v584 = v536 == 0u;
+    if (v584) { goto L177; }
     else { goto L176; }
 L176:;
-    v561 = (u64)((u64)v58 + (u64)1u);
-    v562 = v561 == v287;
-    if (v562) { v59 = v89; goto L177; }
-    else { v58 = v561; goto L174; }
+    portable_rattle_dealloc(v532);
+    goto L177;
 L177:;
-    v563 = portable_rattle_alloc(8221u, 1u);
-    v564 = v563;
-    v565 = v564.m0;
-    v566 = (u8)((v565) & UINT64_C(1));
-    if (v566) { goto L178; }
-    else { goto L179; }
+    if (v318) { goto L183; }
+    else { v59 = 0u; goto L178; }
 L178:;
-    v567 = v564.m1;
-    v568 = (address)v567;
-    memory_set(v568, 0u, 8221u);
-    store8(v78, v59);
-    v569 = v78 + 8u * 1u;
-    memory_cpy(v569, v77, 88u);
-    v570 = v78 + 96u * 1u;
-    store_address(v570, v286);
-    v571 = v78 + 104u * 1u;
-    store64(v571, v287);
-    v572 = v78 + 112u * 1u;
-    store64(v572, v288);
-    v573 = v78 + 120u * 1u;
-    store_address(v573, v289);
-    v574 = v78 + 128u * 1u;
-    store64(v574, v290);
-    v575 = v78 + 136u * 1u;
-    store64(v575, v291);
-    v576 = v78 + 144u * 1u;
-    store_address(v576, v494);
-    v577 = v78 + 152u * 1u;
-    store64(v577, v53);
-    v578 = v78 + 160u * 1u;
-    store64(v578, v496);
-    v579 = v78 + 168u * 1u;
-    store16(v579, 0u);
-    v580 = v78 + 170u * 1u;
-    store8(v580, 0u);
-    v581 = v78 + 172u * 1u;
-    v582 = v78 + 184u * 1u;
-    store64(v581, 0u);
-    store_address(v582, v568);
-    v583 = v78 + 192u * 1u;
-    store64(v583, 8221u);
-    v584 = v78 + 200u * 1u;
-    store64(v584, 8221u);
-    v585 = v78 + 208u * 1u;
-    store64(v585, 0u);
-    v586 = f158(v78);
-    if (v586) { goto L187; }
-    else { goto L188; }
-L179:;
-    v587 = v496 == 0u;
-    if (v587) { goto L181; }
-    else { goto L180; }
-L180:;
-    portable_rattle_dealloc(v494);
-    goto L181;
-L181:;
-    v588 = v291 == 0u;
-    if (v588) { goto L183; }
-    else { goto L182; }
-L182:;
-    portable_rattle_dealloc(v289);
-    goto L183;
-L183:;
-    store_address(v81, v286);
-    v589 = v81 + 8u * 1u;
-    store64(v589, v287);
-    v590 = v81 + 16u * 1u;
-    store64(v590, v288);
-    f160(v81);
-    v591 = v77 + 48u * 1u;
+    v585 = (u64)((u64)v59 << (6u & 63u));
+    v586 = v280 + v585 * 1u;
+    v587 = v586 + 32u * 1u;
+    v588 = load64(v587);
+    v589 = v586 + 40u * 1u;
+    v590 = load_address(v589);
+    v591 = v586 + 56u * 1u;
     v592 = load64(v591);
-    v593 = v592 == 0u;
-    if (v593) { goto L185; }
-    else { goto L184; }
-L184:;
-    v594 = v77 + 32u * 1u;
+    v593 = v588 == 0u;
+    if (v593) { goto L180; }
+    else { goto L179; }
+L179:;
+    v594 = v586 + 16u * 1u;
     v595 = load_address(v594);
     portable_rattle_dealloc(v595);
+    goto L180;
+L180:;
+    v596 = v592 == 0u;
+    if (v596) { goto L182; }
+    else { goto L181; }
+L181:;
+    portable_rattle_dealloc(v590);
+    goto L182;
+L182:;
+    v597 = (u64)((u64)v59 + (u64)1u);
+    v598 = v597 == v281;
+    if (v598) { goto L183; }
+    else { v59 = v597; goto L178; }
+L183:;
+    v599 = v282 == 0u;
+    if (v599) { goto L185; }
+    else { goto L184; }
+L184:;
+    portable_rattle_dealloc(v280);
     goto L185;
 L185:;
-    v596 = v77 + 72u * 1u;
-    v597 = load64(v596);
-    v598 = v597 == 0u;
-    if (v598) { goto L201; }
+    v600 = v285 == 0u;
+    if (v600) { goto L187; }
     else { goto L186; }
 L186:;
-    v599 = load_address(v553);
-    v60 = v599; goto L197;
+    portable_rattle_dealloc(v283);
+    goto L187;
 L187:;
-    v600 = f159(v78);
-    if (v600) { goto L196; }
+    v601 = v54 == 0u;
+    if (v601) { goto L189; }
     else { goto L188; }
 L188:;
-    v601 = v78 + 56u * 1u;
-    v602 = load64(v601);
-    v603 = v78 + 64u * 1u;
-    v604 = load_address(v603);
-    v605 = v78 + 80u * 1u;
-    v606 = load64(v605);
-    v607 = v602 == 0u;
-    if (v607) { goto L190; }
-    else { goto L189; }
+    portable_rattle_dealloc(v52);
+    goto L189;
 L189:;
-    v608 = v78 + 40u * 1u;
-    v609 = load_address(v608);
-    portable_rattle_dealloc(v609);
-    goto L190;
+    portable_rattle_dealloc(v479);
+    v60 = 35u; goto L191;
 L190:;
-    v610 = v606 == 0u;
-    if (v610) { goto L192; }
-    else { goto L191; }
-L191:;
-    portable_rattle_dealloc(v604);
-    goto L192;
-L192:;
-    f160(v570);
-    v611 = v291 == 0u;
-    if (v611) { goto L194; }
-    else { goto L193; }
-L193:;
-    portable_rattle_dealloc(v289);
-    goto L194;
-L194:;
-    v612 = v496 == 0u;
-    if (v612) { v62 = v568; goto L199; }
-    else { goto L195; }
-L195:;
-    portable_rattle_dealloc(v494);
-    v62 = v568; goto L199;
-L196:;
-    v613 = load_address(v78);
-    v614 = v78 + 40u * 1u;
-    v615 = load_address(v614);
-    v616 = v78 + 48u * 1u;
-    v617 = load64(v616);
-    v618 = v78 + 56u * 1u;
-    v619 = load64(v618);
-    v620 = v78 + 64u * 1u;
-    v621 = load_address(v620);
-    v622 = v78 + 72u * 1u;
-    v623 = load64(v622);
-    v624 = v78 + 80u * 1u;
-    v625 = load64(v624);
-    v626 = v78 + 88u * 1u;
-    v627 = load64(v626);
-    memory_cpy(v82, v77, 32u);
-    memory_cpy(v83, v579, 16u);
-    v628 = portable_rattle_alloc(216u, 8u);
-    v629 = v628.m0;
-    v630 = (u8)((v629) & UINT64_C(1));
-    if (v630) { goto L202; }
-    else { goto L206; }
-L197:;
-    portable_rattle_dealloc(v60);
-    goto L201;
-L198:;
-    v631 = (u64)v61;
-    v632 = ADDRESS(c370) + v631 * 4u;
-    v633 = load32(v632);
-    v64 = v633; goto L224;
-L199:;
-    portable_rattle_dealloc(v62);
-    goto L200;
-L200:;
-    v64 = 107u; goto L224;
-L201:;
-    v64 = 35u; goto L224;
-L202:;
-    v634 = v628.m1;
-    v635 = (address)v634;
-    store_address(v635, v613);
-    v636 = v635 + 8u * 1u;
-    memory_cpy(v636, v82, 32u);
-    v637 = v635 + 40u * 1u;
-    store_address(v637, v615);
-    v638 = v635 + 48u * 1u;
-    store64(v638, v617);
-    v639 = v635 + 56u * 1u;
-    store64(v639, v619);
-    v640 = v635 + 64u * 1u;
-    store_address(v640, v621);
-    v641 = v635 + 72u * 1u;
-    store64(v641, v623);
-    v642 = v635 + 80u * 1u;
-    store64(v642, v625);
-    v643 = v635 + 88u * 1u;
-    store64(v643, v627);
-    v644 = v635 + 96u * 1u;
-    store_address(v644, v286);
-    v645 = v635 + 104u * 1u;
-    store64(v645, v287);
-    v646 = v635 + 112u * 1u;
-    store64(v646, v288);
-    v647 = v635 + 120u * 1u;
-    store_address(v647, v289);
-    v648 = v635 + 128u * 1u;
-    store64(v648, v290);
-    v649 = v635 + 136u * 1u;
-    store64(v649, v291);
-    v650 = v635 + 144u * 1u;
-    store_address(v650, v494);
-    v651 = v635 + 152u * 1u;
-    store64(v651, v53);
-    v652 = v635 + 160u * 1u;
-    store64(v652, v496);
-    v653 = v635 + 168u * 1u;
-    memory_cpy(v653, v83, 16u);
-    v654 = v635 + 184u * 1u;
-    store_address(v654, v568);
-    v655 = v635 + 192u * 1u;
-    store64(v655, 8221u);
-    v656 = v635 + 200u * 1u;
-    store64(v656, 8221u);
-    v657 = v635 + 208u * 1u;
-    store64(v657, 0u);
-    v658 = portable_rattle_alloc(16u, 8u);
-    v659 = v658.m0;
-    v660 = (u8)((v659) & UINT64_C(1));
-    if (v660) { goto L203; }
-    else { goto L205; }
-L203:;
-    v661 = v658.m1;
-    v662 = (address)v661;
-    store64(v662, 7u);
-    v663 = v662 + 8u * 1u;
-    store64(v663, v634);
-    v664 = load_address(a0);
-    v665 = a0 + 8u * 1u;
-    v666 = load8(v665);
-    v667 = (u8)((v666) & UINT64_C(1));
-    memory_set(a0, 0u, 16u);
-    if (v667) { goto L204; }
-    else { goto L223; }
-L204:;
-    v668 = load8(v664);
-    v669 = v664 + 8u * 1u;
-    v670 = load64(v669);
-    portable_rattle_dealloc(v664);
-    v671 = (address)v670;
-    f12(v668, v671);
-    goto L223;
-L205:;
-    f19(v635);
-    v64 = 35u; goto L224;
-L206:;
-    v672 = v619 == 0u;
-    if (v672) { goto L208; }
-    else { goto L207; }
-L207:;
-    portable_rattle_dealloc(v615);
-    goto L208;
-L208:;
-    v673 = v625 == 0u;
-    if (v673) { goto L210; }
-    else { goto L209; }
-L209:;
-    portable_rattle_dealloc(v621);
-    goto L210;
-L210:;
-    if (v324) { goto L216; }
-    else { v63 = 0u; goto L211; }
-L211:;
-    v674 = (u64)((u64)v63 << (6u & 63u));
-    v675 = v286 + v674 * 1u;
-    v676 = v675 + 32u * 1u;
-    v677 = load64(v676);
-    v678 = v675 + 40u * 1u;
-    v679 = load_address(v678);
-    v680 = v675 + 56u * 1u;
-    v681 = load64(v680);
-    v682 = v677 == 0u;
-    if (v682) { goto L213; }
-    else { goto L212; }
-L212:;
-    v683 = v675 + 16u * 1u;
-    v684 = load_address(v683);
-    portable_rattle_dealloc(v684);
-    goto L213;
-L213:;
-    v685 = v681 == 0u;
-    if (v685) { goto L215; }
-    else { goto L214; }
-L214:;
-    portable_rattle_dealloc(v679);
-    goto L215;
-L215:;
-    v686 = (u64)((u64)v63 + (u64)1u);
-    v687 = v686 == v287;
-    if (v687) { goto L216; }
-    else { v63 = v686; goto L211; }
-L216:;
-    v688 = v288 == 0u;
-    if (v688) { goto L218; }
-    else { goto L217; }
-L217:;
-    portable_rattle_dealloc(v286);
-    goto L218;
-L218:;
-    v689 = v291 == 0u;
-    if (v689) { goto L220; }
-    else { goto L219; }
-L219:;
-    portable_rattle_dealloc(v289);
-    goto L220;
-L220:;
-    v690 = v496 == 0u;
-    if (v690) { goto L222; }
-    else { goto L221; }
-L221:;
-    portable_rattle_dealloc(v494);
-    goto L222;
-L222:;
-    portable_rattle_dealloc(v568);
-    v64 = 35u; goto L224;
-L223:;
-    store64(a0, v661);
-    store8(v665, 1u);
-    v691 = a0 + 9u * 1u;
-    memory_set(v691, 0u, 7u);
+    store64(a0, v572);
+    store8(v576, 1u);
+    v602 = a0 + 9u * 1u;
+    memory_set(v602, 0u, 7u);
     store64(a4, v8);
-    v64 = 0u; goto L224;
-L224:;
-    return v64;
+    v60 = 0u; goto L191;
+L191:;
+    return v60;
 }
 
 u32 portable_ptpm_session_restore(address a0, address a1, address a2, u64 a3) {
@@ -54051,7 +52224,7 @@ L3:;
     memory_set(v43, 0u, 24u);
     v44 = v4 + 136u * 1u;
     store64(v44, UINT64_C(2611923443488327891));
-    v45 = f161(a0, v4);
+    v45 = f152(a0, v4);
     v2 = v45; goto L4;
 L4:;
     return v2;
@@ -54151,7 +52324,7 @@ L6:;
     memory_set(v48, 0u, 24u);
     v49 = v5 + 136u * 1u;
     store64(v49, UINT64_C(2611923443488327891));
-    v50 = f161(a0, v5);
+    v50 = f152(a0, v5);
     v3 = v50; goto L7;
 L7:;
     return v3;
@@ -54438,9 +52611,9 @@ L53:;
     if (v123) { goto L54; }
     else { v20 = v122; goto L53; }
 L54:;
-    f162(v56, a1);
+    f153(v56, a1);
     memory_set(v54, 0u, 24u);
-    f163(v54, v92, v56, v55, a3);
+    f154(v54, v92, v56, v55, a3);
     v124 = load8(v54);
     v125 = v54 + 1u * 1u;
     v126 = load8(v125);
@@ -54480,7 +52653,7 @@ L56:;
     if (v155) { v36 = 0u; v37 = 1u; v38 = 0u; v39 = 0u; v40 = 0u; v41 = 0u; v42 = 0u; v43 = 0u; v44 = 0u; v45 = 0u; v46 = 0u; v47 = 0u; v48 = 0u; goto L64; }
     else { goto L57; }
 L57:;
-    f162(v52, a1);
+    f153(v52, a1);
     memory_set(v51, 0u, 200u);
     v156 = a3 == 0u;
     if (v156) { goto L60; }
@@ -54523,7 +52696,7 @@ L59:;
     else { v34 = v181; goto L59; }
 L60:;
     memory_set(v50, 0u, 24u);
-    f163(v50, v151, v52, v51, a3);
+    f154(v50, v151, v52, v51, a3);
     v183 = load8(v50);
     v184 = v50 + 1u * 1u;
     v185 = load8(v184);
@@ -54556,9 +52729,9 @@ L61:;
     v208 = v53 + 16u * 1u;
     v209 = load64(v208);
     v210 = v150 + 8u * 1u;
-    f163(v53, v210, v52, v51, a3);
+    f154(v53, v210, v52, v51, a3);
     v211 = v150 + 448u * 1u;
-    f163(v53, v211, v52, v51, a3);
+    f154(v53, v211, v52, v51, a3);
     v212 = v150 + 952u * 1u;
     v213 = load8(v212);
     v214 = (u8)((v213) & UINT64_C(1));
@@ -55163,7 +53336,7 @@ L1:;
 L2:;
     v22 = v20 + 8u * 1u;
     v23 = load_address(v22);
-    f165(v10, v23, a1, a2, a3, v14, a5);
+    f156(v10, v23, a1, a2, a3, v14, a5);
     v24 = load8(v10);
     v25 = v10 + 1u * 1u;
     v26 = load8(v25);
@@ -55207,7 +53380,7 @@ L10:;
     v35 = load_address(v34);
     memory_set(v9, 0u, 16u);
     v36 = load_address(v35);
-    f165(v9, v36, a1, a2, a3, v14, a5);
+    f156(v9, v36, a1, a2, a3, v14, a5);
     v37 = load8(v9);
     v38 = v37 == 0u;
     if (v38) { goto L11; }
@@ -55295,7 +53468,7 @@ L1:;
 L2:;
     v18 = v16 + 8u * 1u;
     v19 = load_address(v18);
-    f166(v8, v19, a1, v12, a3);
+    f157(v8, v19, a1, v12, a3);
     v20 = load8(v8);
     v21 = v20 == 0u;
     if (v21) { goto L3; }
@@ -55328,7 +53501,7 @@ L7:;
 L8:;
     v29 = v16 + 8u * 1u;
     v30 = load_address(v29);
-    f167(v9, v30, a1, v12, a3);
+    f158(v9, v30, a1, v12, a3);
     v31 = load8(v9);
     v32 = v31 == 0u;
     if (v32) { goto L9; }
@@ -55571,7 +53744,7 @@ L6:;
     if (v34) { goto L7; }
     else { goto L16; }
 L7:;
-    f167(v10, v22, a1, v14, a3);
+    f158(v10, v22, a1, v14, a3);
     v35 = load8(v10);
     v36 = v35 == 0u;
     if (v36) { goto L8; }

@@ -9,7 +9,7 @@
 #include <stdio.h>
 
 /* A member: its name in the standard, and its value as a text. The only one is `value`, with the octets in hexadecimal, if they
-   are no dataField of the id or it has no member. */
+   are not a dataField of the id or it has no member. */
 struct member { const char *name, *value; };
 
 struct field_lines { char text[PTPM_MOST_FIELD_TEXT + 1], *rest; };

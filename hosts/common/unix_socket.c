@@ -91,7 +91,7 @@ static void remove_own(void) {
 
 /* Says why no socket can be made there, by errno. What is there already stays. */
 _Noreturn static void refuse_path(const char *path) {
-    const char *what = "it is there already, and is no socket: it stays as it is";
+    const char *what = "it is there already, and is not a socket: it stays as it is";
     if (errno != EADDRINUSE) give_up(path);
     if (is_unheard(path)) what = "the socket of a program that has ended is there, and can't be removed";
     else if (is_socket(path)) what = "another program listens there";

@@ -55,7 +55,7 @@ _ptpm_last() {
 
 _ptpm() {
     local before=${COMP_WORDS[COMP_CWORD - 1]} command
-    local -a commands=(answer show ids make run check schedule draw site findings plan)
+    local -a commands=(answer show ids make run check schedule draw site monitor findings plan)
     command=$(_ptpm_last "${commands[*]}")
     case $command,$before,${COMP_WORDS[COMP_CWORD]} in
     ,*) _ptpm_offer "${commands[@]}" --help --version ;;

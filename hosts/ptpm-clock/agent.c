@@ -75,7 +75,7 @@ void report_twin(void) {
     socklen_t whole = (socklen_t)(offsetof(struct sockaddr_un, sun_path) + 1 + (size_t)size);
     if (claim < 0 || bind(claim, (const struct sockaddr *)&address, whole) == 0) return;
     if (errno == EADDRINUSE) {
-        say("another clock %s runs in domain %u of this machine: both answer, and a SET may change one of them alone", identity, domain());
+        say("another clock %s runs in domain %u of this machine: both answer, and a SET may change only one of them", identity, domain());
     }
     close(claim);
 }

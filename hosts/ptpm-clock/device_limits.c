@@ -118,7 +118,7 @@ static void read_line(struct reading *reading, struct device_limits *limits, cha
     struct ptpm_limit *limit = &limits->all[limits->count];
     if (line[strspn(line, " \t\r")] == '#') return;
     if (!is_ascii(line)) {
-        fault(reading, "it has an octet that is no ASCII text");
+        fault(reading, "it has an octet that is not ASCII");
         return;
     }
     const char *word = strtok_r(line, " \t\r", &reading->rest), *id = NULL;

@@ -228,7 +228,7 @@ static bool take_parent_port(struct observation *observation, const char *text) 
     return true;
 }
 
-/* A line that ptpm-manage prints, of what is no member of the clock's struct. */
+/* A line that ptpm-manage prints, of what is not a member of the clock's struct. */
 static bool take_printed(struct observation *observation, char **words, size_t count) {
     const char *name = words[0];
     bool is_port = strcmp(name, "portIdentity") == 0, is_parent = strcmp(name, "parentPortIdentity") == 0;
@@ -259,7 +259,7 @@ static bool take_line(struct observation *observation, char *line) {
     char *words[MOST_LINE_WORDS], *place = NULL;
     size_t count = 0;
     if (line[strspn(line, " \t\r")] == '#') return true;
-    if (!is_ascii(line)) return wrong("it has an octet that is no ASCII text");
+    if (!is_ascii(line)) return wrong("it has an octet that is not ASCII");
     for (char *word = strtok_r(line, " \t\r", &place); word != NULL; word = strtok_r(NULL, " \t\r", &place)) {
         if (count < MOST_LINE_WORDS) words[count++] = word;
     }

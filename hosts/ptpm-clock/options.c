@@ -17,6 +17,9 @@
 #include <sys/un.h>
 #include <unistd.h>
 
+/* The first managementId that makers may use as they like. A `ptp4l` uses some. */
+enum { IDS_OF_MAKERS = 0xc000 };
+
 enum { SECOND = 1000, HOPS_AT_FIRST = 8, RATE_AT_FIRST = 1000, MANAGER_RATE_AT_FIRST = 100, MOST_RATE = 1000000, MODE_AT_FIRST = 0660,
        ASK_TIME_AT_FIRST = 10, MOST_ASK_TIME = 3600, DIVERTED_AT_FIRST = 10320, LEAST_DIVERTED = 1024 };
 
@@ -168,8 +171,8 @@ static struct ptpm_manager_settings read_manager(const char *text) {
     if (!ptpm_port_identity_parse(text, strlen(text), manager.clock, &manager.port)) {
         refuse_command_line("-m %s: it takes aabbccfffeddee01/1 or aabbcc.fffe.ddee01-1", text);
     }
-    if (manager.port == UINT16_MAX) refuse_command_line("-m %s: port 65535 means every port, and is of no manager", text);
-    if (memcmp(manager.clock, every, sizeof every) == 0) refuse_command_line("-m %s: it means every clock, and is no manager", text);
+    if (manager.port == UINT16_MAX) refuse_command_line("-m %s: port 65535 means every port", text);
+    if (memcmp(manager.clock, every, sizeof every) == 0) refuse_command_line("-m %s: it means every clock", text);
     return manager;
 }
 
@@ -192,6 +195,7 @@ static struct value value_named(void) {
     long id = read_id_named(name), port = slash == NULL ? 0 : decimal(slash + 1, PORTS);
     if (id < 0) refuse_command_line("--give %s: it takes a managementId, such as CLOCK_DESCRIPTION", optarg);
     if (id_name((uint16_t)id) != NULL) refuse_command_line("--give %s: the clock has a value of its own", optarg);
+    if (id >= IDS_OF_MAKERS && read_id_name((uint16_t)id) != NULL) refuse_command_line("--give %s: it is an id of ptp4l: take another one", optarg);
     if (slash != NULL && port < 1) refuse_command_line("--give %s: a port has a number from 1 to 8", optarg);
     return (struct value){ .id = (uint16_t)id, .port = (uint16_t)port };
 }

@@ -77,13 +77,13 @@ static void open_other(struct port *port, unsigned index) {
     const struct port *other = other_at(index, port);
     int opened = other == NULL ? open_socket(port, &what) : -1;
     if (opened >= 0) {
-        say("%s: the interface was made anew", port->name);
+        say("%s: the interface was created again", port->name);
         close_port(port);
         take_socket(port, opened, index);
         port->refused = 0;
     } else if (port->refused != index) {
         const char *why = other == NULL ? strerror(errno) : "";
-        say("%s: the interface was made anew: %s%s%s", port->name, what, other == NULL ? ": " : "", why);
+        say("%s: the interface was created again: %s%s%s", port->name, what, other == NULL ? ": " : "", why);
         port->refused = index;
     }
 }

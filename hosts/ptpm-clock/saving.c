@@ -97,7 +97,7 @@ static bool read_state(size_t *size) {
     case KEPT_FILE: return true;
     case KEPT_NONE: return false;
     case KEPT_LINK: refuse_file("it is a link");
-    case KEPT_OTHER: refuse_file("it is no file");
+    case KEPT_OTHER: refuse_file("it is not a regular file");
     case KEPT_UNREADABLE: break;
     }
     refuse_file(NULL);
@@ -106,7 +106,7 @@ static bool read_state(size_t *size) {
 static const char *reason(enum ptpm_restored refusal) {
     switch (refusal) {
     case PTPM_NOT_AN_IMAGE: return "it has no state of a clock";
-    case PTPM_DAMAGED: return "octets of the state were lost or changed: ptpm-clock(8), \"What it keeps\", says how to go on";
+    case PTPM_DAMAGED: return "octets of the state were lost or changed: ptpm-clock(8), \"Saved state\", says how to go on";
     case PTPM_OTHER_VERSION: return "it has a state in the form of another version of this program";
     case PTPM_OTHER_KIND: return "it has the session of a manager, and not the state of a clock";
     case PTPM_OTHER_PORTS: return "it has the state of a clock with another number of ports";
@@ -138,7 +138,7 @@ static size_t restore(struct ptpm_clock *clock, size_t size) {
 
 static void tell_gone(size_t gone) {
     if (gone == 0) return;
-    say("%s: %zu manager%s of it %s not configured any more, and what was kept of %s is let go", options->state, gone,
+    say("%s: %zu manager%s of it %s not configured any more, and what was kept of %s is forgotten", options->state, gone,
         gone == 1 ? "" : "s", gone == 1 ? "is" : "are", gone == 1 ? "its requests" : "their requests");
 }
 
@@ -148,7 +148,7 @@ static void tell_domain(const struct ptpm_clock *clock) {
     size_t size;
     if (!options->has_domain || ptpm_clock_read(clock, PTPM_ID_DOMAIN, 0, field, sizeof field, &size) != PTPM_READ) return;
     if (*field == options->settings.domain) return;
-    say("%s: -d %u counts at the first start alone: the clock is in domain %u", options->state, options->settings.domain, *field);
+    say("%s: -d %u counts only at the first start: the clock is in domain %u", options->state, options->settings.domain, *field);
 }
 
 bool restore_clock(struct ptpm_clock *clock, const struct options *given) {

@@ -86,7 +86,7 @@ int open_source(struct source *source, const char *path) {
 }
 
 int open_file_source(struct source *source, const char *path) {
-    if (!S_ISREG(start_source(source, path))) refuse(source, "it is no file");
+    if (!S_ISREG(start_source(source, path))) refuse(source, "it is not a regular file");
     return watch_file(source);
 }
 
@@ -174,7 +174,7 @@ int read_source(struct source *source) {
     if (source->is_pipe) read_pipe(source);
     else if (read_events(source) || is_other(source)) read_file(source);
     for (size_t k = before; k < source->size; k++) {
-        if (source->held[k] == '\0') source->held[k] = 1;       /* which is no text either */
+        if (source->held[k] == '\0') source->held[k] = 1;       /* which is not a text either */
     }
     return source->polled;
 }

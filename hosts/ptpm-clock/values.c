@@ -43,7 +43,7 @@ static const char *read_file(const char *path, uint8_t *octets, size_t room, siz
     int file = open_to_read(path, &found);
     *size = 0;
     if (file < 0) return strerror(errno);
-    const char *fault = S_ISREG(found.st_mode) ? NULL : "it is no file";
+    const char *fault = S_ISREG(found.st_mode) ? NULL : "it is not a regular file";
     while (fault == NULL && *size < room) {
         ssize_t count = read(file, octets + *size, room - *size);
         if (count == 0) break;

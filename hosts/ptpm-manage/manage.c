@@ -1,9 +1,9 @@
 /* ptpm-manage: one request to one clock by a session of the library, a survey of all clocks, or a whole site. It goes over UDP
    port 320 (IEEE 1588-2019, annexes C and D), over Ethernet (annex E) or on a Unix socket. How it is used is in
-   docs/ptpm-manage.md. The library decides which answer is a request's, and what is wrong with a site is found by `ptpm site`.
+   docs/ptpm-manage.md. The library decides which answer is a request's, and what is wrong with a site is found by `ptpm`.
    What is here and in the files below it is not proved. It reads words, moves octets, measures time and prints. It chooses the
-   number of a session's first request, and when a request goes out again. It judges which answers of a site are copies of others,
-   and which findings are printed. docs/architecture.md has more of that ("What the hosts decide"). */
+   number of a session's first request, and when a request goes out again. It judges which answers of a site are copies of others.
+   docs/architecture.md has more of that ("Decisions of the hosts"). */
 #include "apply.h"
 #include "asking.h"
 #include "collect.h"

@@ -36,7 +36,7 @@ __attribute__((format(printf, 1, 2))) void show_progress(const char *format, ...
 /* Shows a line too, and each line of progress after it begins with this one, until another one is shown so. An empty text ends that. */
 __attribute__((format(printf, 1, 2))) void head_progress(const char *format, ...);
 
-/* Says what progress was made, if standard error is no terminal: a line after the program's name. */
+/* Says what progress was made, if standard error is not a terminal: a line after the program's name. */
 __attribute__((format(printf, 1, 2))) void log_progress(const char *format, ...);
 
 /* Takes that line away. It comes before what is printed otherwise. */

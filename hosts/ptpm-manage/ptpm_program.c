@@ -8,6 +8,7 @@
 #include <limits.h>
 #include <spawn.h>
 #include <stdbool.h>
+#include <stdio.h>
 #include <stdlib.h>
 #include <string.h>
 #include <sys/mman.h>
@@ -40,17 +41,15 @@ void find_ptpm_program(void) {
 }
 
 /* A file without a name that has the lines, and is read from its beginning. -1 if there is no room for it. */
-static int file_of(const struct piece *lines, size_t count) {
+static int file_of(const struct piece *lines) {
     int opened = memfd_create("lines", MFD_CLOEXEC);
-    for (size_t i = 0; opened >= 0 && i < count; i++) {
-        for (size_t done = 0; done < lines[i].size;) {
-            ssize_t written = write(opened, lines[i].at + done, lines[i].size - done);
-            if (written <= 0) {
-                close(opened);
-                return -1;
-            }
-            done += (size_t)written;
+    for (size_t done = 0; opened >= 0 && done < lines->size;) {
+        ssize_t written = write(opened, lines->at + done, lines->size - done);
+        if (written <= 0) {
+            close(opened);
+            return -1;
         }
+        done += (size_t)written;
     }
     if (opened >= 0) lseek(opened, 0, SEEK_SET);
     return opened;
@@ -120,8 +119,8 @@ static void close_end(int *end) {
 /* Opens what the program is started with, and a pipe from which its output is read; whether there is room for all. */
 static bool open_ends(struct ends *ends, int *output, const struct given *given) {
     int both[2];
-    ends->from = file_of(given->lines, given->count);
-    if (given->beside != NULL) ends->beside = file_of(given->beside, given->count);
+    ends->from = file_of(given->lines);
+    if (given->beside != NULL) ends->beside = file_of(given->beside);
     if (ends->from < 0 || (given->beside != NULL && ends->beside < 0) || pipe2(both, O_CLOEXEC)) return false;
     *output = both[0];
     ends->to = both[1];
@@ -163,4 +162,22 @@ int run_ptpm_program(char **arguments, const struct given *given, struct printed
     }
     close_end(&output);
     return status;
+}
+
+bool start_ptpm_program(char **arguments, struct running *running) {
+    int input[2] = { -1, -1 }, output[2] = { -1, -1 };
+    arguments[0] = ptpm_program;
+    bool has_started = pipe2(input, O_CLOEXEC) == 0 && pipe2(output, O_CLOEXEC) == 0
+                       && start_program(&running->process, arguments, &(struct ends){ input[0], output[1], -1 });
+    running->to = input[1];
+    running->from = output[0];
+    close_end(&input[0]);
+    close_end(&output[1]);
+    return has_started;
+}
+
+int end_ptpm_program(struct running *running) {
+    close_end(&running->to);
+    close_end(&running->from);
+    return status_at_end(running->process);
 }

@@ -7,7 +7,7 @@
 #include <stdio.h>
 
 /* Prints a text of UTF-8 so that it stays on its line and moves nothing on a terminal. A backslash is printed as \x and two
-   hexadecimal digits. So is each octet that is no UTF-8, or of a character that controls, formats or fills. If the locale does
+   hexadecimal digits. So is each octet that is not UTF-8, or of a character that controls, formats or fills. If the locale does
    not read UTF-8, so are the octets of each character with one that could be read there as a control character. */
 void print_text(FILE *to, const uint8_t *octets, size_t size);
 
@@ -20,7 +20,7 @@ void print_lines(FILE *to, const char *text, size_t size);
 void print_json(FILE *to, const char *text, size_t size);
 
 /* Prints a text as a string of JSON, in quotes. Characters that a terminal does not show as they are come as \u and their number,
-   and an octet that is no UTF-8 as U+FFFD. */
+   and an octet that is not UTF-8 as U+FFFD. */
 void print_json_text(FILE *to, const uint8_t *octets, size_t size);
 
 #endif

@@ -65,7 +65,7 @@ const char *transport_name(void) { return name; }
 static void read_address(const char *text) {
     static const struct addrinfo wanted = { .ai_flags = AI_NUMERICHOST | AI_NUMERICSERV, .ai_socktype = SOCK_DGRAM };
     struct addrinfo *found;
-    if (getaddrinfo(text, "320", &wanted, &found) != 0) refuse("--udp %s: it is no address of IPv4 or IPv6", text);
+    if (getaddrinfo(text, "320", &wanted, &found) != 0) refuse("--udp %s: not an address of IPv4 or IPv6", text);
     is_six = found->ai_family == AF_INET6;
     memcpy(&clock_address, found->ai_addr, found->ai_addrlen);
     clock_size = found->ai_addrlen;
@@ -126,12 +126,6 @@ static bool write_own_identity(uint8_t identity[8], const char *interface) {
 /* That with its universal/local bit turned, as IPv6 does. A clock of this host, such as a ptp4l, has it as it is, and no manager may have
    the clockIdentity of a clock. */
 static void turn_local_bit(uint8_t identity[8]) { identity[0] ^= 0x02; }
-
-bool former_identity(uint8_t identity[8]) {
-    if (ends[0].interface == NULL) return false;
-    turn_local_bit(identity);
-    return true;
-}
 
 bool own_identity(size_t place, uint8_t identity[8]) {
     return place < end_count && ends[place].interface != NULL && write_own_identity(identity, ends[place].interface);
@@ -324,11 +318,11 @@ static char passed_on[INET6_ADDRSTRLEN];
 
 void tell_deaf_port(void) {
     if (*passed_on != '\0') {
-        complain("what came from %s to UDP port 320 of this host alone is not taken: another machine sent it, or nobody is there",
+        complain("what came from %s only to UDP port 320 of this host is ignored: another machine sent it, or nobody is there",
                  passed_on);
     }
     if (copies >= 0 || is_ethernet || ends[0].interface == NULL) return;
-    complain("a clock that answers to UDP port 320 of this host alone isn't heard: it takes root, or the capability CAP_NET_RAW");
+    complain("a clock that answers only to UDP port 320 of this host isn't heard: it takes root, or the capability CAP_NET_RAW");
 }
 
 static void close_events(struct end *end) {
@@ -354,7 +348,7 @@ void renew_transport(void) {
         if (ends[i].asking >= 0) close(ends[i].asking);
         close_events(&ends[i]);
         ends[i] = other;
-        complain("%s: the interface was made anew", other.interface);
+        complain("%s: the interface was created again", other.interface);
     }
     widen_transport();
 }
@@ -515,7 +509,7 @@ static void tell_stranger(const struct end *end, const struct sockaddr *sender, 
     }
     if (count == MOST_STRANGERS) return;
     strcpy(told[count++], address);
-    complain("%s: what came from %s is not taken, %s", end->interface, address, why);
+    complain("%s: what came from %s is ignored, %s", end->interface, address, why);
 }
 
 /* Whether a datagram comes from the link, or from the address that is asked. An interface without an address has no link that is
@@ -532,7 +526,7 @@ static bool is_near(const struct arrival *arrival, const struct end *end, struct
     const struct sockaddr *sender = (const struct sockaddr *)&from->sender;
     bool is_unicast = arrival->end == NULL || arrival->socket == end->asking;
     if (is_near_alone && is_unicast && from->ttl != FULL_TTL) {
-        tell_stranger(end, sender, "since a router may have passed it on: --ttl-security takes TTL 255 alone");
+        tell_stranger(end, sender, "since a router may have passed it on: --ttl-security takes only TTL 255");
         return false;
     }
     if (arrival->end != NULL || is_any_source || is_of_neighbour(packets, from->index, sender, octets, found)) return true;
@@ -686,7 +680,7 @@ static bool is_of_namesake(const struct arrival *arrival, const uint8_t *message
     if (arrival->end == &own_clock || size < SOURCE_PORT_AT || is_request || memcmp(asker, nobody, sizeof asker) == 0) return false;
     if (memcmp(message + SOURCE_AT, asker, sizeof asker) != 0) return false;
     write_identity(identity, asker);
-    if (!is_told) complain("a clock has this manager's identity %s: what it sends is not taken, and -m names another manager", identity);
+    if (!is_told) complain("a clock has this manager's identity %s: what it sends is ignored, and -m names another manager", identity);
     return is_told = true;
 }
 

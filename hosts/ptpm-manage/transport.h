@@ -94,10 +94,6 @@ bool asks_one_address(void);
 /* Whether it came from whom is asked: from the address of --udp, or else from anybody. */
 bool came_from_asked(void);
 
-/* Makes such an identity the one that earlier versions gave the manager, which is also that of a clock of this host. Whether there is
-   one. */
-bool former_identity(uint8_t identity[8]);
-
 /* The identity that this host has at an interface by its hardware address: at the first, the second and so on. Whether there is
    one. */
 bool own_identity(size_t place, uint8_t identity[8]);

@@ -23,7 +23,7 @@ KILLS, LOSES, FAILS = ENDS = ("KILLS", "LOSES", "FAILS")     # what may become o
 MOST_CALLS, FEW_CALLS = 25, 12                      # of a step and what comes before it; of what comes before it
 GIVE_UPS = 0.15                                     # of the runs after the first
 SETTLED = 0.1                                       # by then what was on its way has come in,
-MOST_LATE, LATE = 5, "no answer of"                 # runs that are left alone, and what one says to which a clock gave none
+MOST_LATE, LATE = 5, "no answer from"                 # runs that are left alone, and what one says to which a clock gave none
 MOST_SAVING, COPIES = 10, 1                         # and a clock has saved, and judged it; and copies, if it judges them
 
 

@@ -118,8 +118,8 @@ class Network:
         link = next((place for place, ends in enumerate(self.links) if end in ends), None)
         self.connect(clock.namespace, f"e{port}", f"v{number}p{port}", link, 20 + 10 * number + port)
 
-    def start(self, clock):
-        """Starts its process, on the state that it has."""
+    def start(self, clock, *words):
+        """Starts its process, with these words too, on the state that it has."""
         lead = os.path.join(self.work, clock.name)
         clock.log = lead + ".log"
         with open(lead + ".observed", "w") as observed:
@@ -128,7 +128,7 @@ class Network:
         with open(clock.log, "a") as log:
             before = log.tell()
             clock.process = subprocess.Popen(
-                [*within(clock.namespace), CLOCK, "-v", "--user", "root", "-s", lead + ".state", "-o", lead + ".observed", *managers, clock.identity]
+                [*within(clock.namespace), CLOCK, "-v", "--user", "root", "-s", lead + ".state", "-o", lead + ".observed", *managers, *words, clock.identity]
                 + [f"e{port}" for port in range(1, clock.ports + 1)], stdout=log, stderr=log)
         said = ""
         while "managers" not in said and "1 manager" not in said:
@@ -139,11 +139,11 @@ class Network:
                 log.seek(before)
                 said = log.read()
 
-    def crash(self, clock):
+    def crash(self, clock, *words):
         """It is killed, and started again on the state that it saved."""
         clock.process.kill()
         clock.process.wait()
-        self.start(clock)
+        self.start(clock, *words)
 
     def words(self, *words, namespace=None):
         """The command line of the manager's program, there or at another end."""

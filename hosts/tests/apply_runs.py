@@ -1,5 +1,5 @@
-"""Runs of ptpm-manage that are killed while they change a site, and their journals, for apply, apply_kills.py and apply_ptp4l.py. What a
-journal's octets are is in docs/changing-a-site.md."""
+"""Runs of ptpm-manage that are killed while they change a site, and their journals, for apply, apply_kills.py and apply_ptp4l.py. A journal's
+octets are those of crates/ptpm_journal/specs."""
 import glob
 import os
 import random

@@ -103,11 +103,11 @@ def limits_that_are_wrong():
                        ("PRIORITY1", "PRIORITY1: it takes values, or never"), ("PRIORITY1 never 1", "PRIORITY1 never 1: nothing goes with never"),
                        ("PRIORITY 1", "PRIORITY: no such id of the profile"), ("2ffe 1", "2ffe: no such id of the profile"),
                        ("port 2 PRIORITY1 1", "port 2: it takes a number from 1 to 1, of a port of the clock"), ("port 1", "it takes port PORT ID VALUE.."),
-                       ("DOMAIN 1..4", "DOMAIN: line 1 has it already"), ("PRIORITY1 \x07", "it has an octet that is no ASCII text")]:
+                       ("DOMAIN 1..4", "DOMAIN: line 1 has it already"), ("PRIORITY1 \x07", "it has an octet that is not ASCII")]:
         clock = device_clock("--limits", write("limits", f"DOMAIN 0 7\n{line}\n"))
         check(f"limits with {line} are refused", clock.end(None)[0] == 2 and f"limits: line 2: {said}" in clock.text())
     os.mkfifo(os.path.join(work, "pipe"))
-    for name, said in [("none", "No such file or directory"), ("pipe", "it is no file"), (".", "it is no file")]:
+    for name, said in [("none", "No such file or directory"), ("pipe", "it is not a regular file"), (".", "it is not a regular file")]:
         holder = os.open(os.path.join(work, "pipe"), os.O_RDWR)
         clock = device_clock("--limits", os.path.join(work, name))
         check(f"limits that are no file are refused: {name}", clock.end(None)[0] == 2 and f"{name}: {said}\n" in clock.text())
@@ -362,7 +362,8 @@ def values_of_ports():
     check("it ends in order", clock.end()[0] == 0)
     for wire in wires:
         wire.remove()
-    for given, said in [("2014/9", "a port has a number from 1 to 8"), ("2014/", "a port has a number"), ("2014/2", "there is no port 2, but 1")]:
+    for given, said in [("2014/9", "a port has a number from 1 to 8"), ("2014/", "a port has a number"), ("2014/2", "there is no port 2, but 1"),
+                        ("c000", "it is an id of ptp4l"), ("TIME_STATUS_NP", "it is an id of ptp4l"), ("2005", "the clock has a value of its own")]:
         clock = Clock("-u", path, "--give", given, "value", ME)
         check(f"{given} is refused", clock.end(None)[0] == 2 and said in clock.text())
     for one, other in [("2014", "2014/1"), ("2014/1", "2014")]:

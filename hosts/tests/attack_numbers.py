@@ -1,5 +1,6 @@
 """What may become of a manager's session: of the file that keeps it, and of runs that are killed, hang, or go beside each other.
 What a run of manage.c reports is so all the same."""
+import fcntl
 import os
 import re
 import shutil
@@ -98,8 +99,6 @@ def sessions():
             (image(200, 999999), (), image((200 + 999999) % 65536, 2, attempts=3)),
             (image(20000, 2, hops=4, attempts=1), (), image(20002, 2, attempts=3)),
             (image(20100, 2, domain=5), (), image(20100, 4)),
-            (image(20150, 2, ports=8), (), image(20150, 4)),        # of an earlier version
-            (image(20170, 2, set_of(79), ports=8), (), image(20170, 4)),
             (image(20200, 2, set_of(78)), ("--give-up",), image(20200, 4))]:
         write_session(content)
         done = two.is_honest(*words)
@@ -107,8 +106,7 @@ def sessions():
         told = [line for line in two.said.splitlines() if "of an earlier run" in line or "priority2 7" in line]
         lead = "ptpm-manage: set PRIORITY2 of an earlier run, number "
         wanted = {77: [lead + "101, had no answer yet, and was sent again:", "ptpm-manage: priority2 77"],
-                  79: [lead + "20171, had no answer yet, and was sent again:", "ptpm-manage: priority2 79"],
-                  78: [lead + "20201, is let go: a get shows whether it was carried out"]}
+                  78: [lead + "20201, is given up: a get shows whether it was carried out"]}
         value = content[-2] if len(content) > 53 else 0
         check("what was under way is reported", told == wanted.get(value, []))
     number = next_number("number")
@@ -213,31 +211,44 @@ def losses_of_power():
 def next_sent(port, is_wanted):
     """The next message that goes out at a port and is wanted."""
     found = []
-    wait_until(lambda: found or found.extend(filter(is_wanted, port.sent())))
+    wait_until(lambda: found or found.extend(filter(is_wanted, port.sent())), 30)
     if not found:
         raise OSError("nothing was asked")
     return found[0]
 
 
+def has_open(process, name):
+    """Whether a program has this file open."""
+    folder = f"/proc/{process.pid}/fd"
+    try:
+        return any(os.readlink(os.path.join(folder, one)) == name for one in os.listdir(folder))
+    except OSError:                     # one that was closed meanwhile
+        return False
+
+
 @by_both
 def answers_to_others(port):
-    """A SET is lost, and another run of this host asks for the same id with the same number, in no session. The answer to that one
-    is none to the SET."""
-    me = ("-m", MANAGER + "/1")
-    for who, words in [((), ("survey", "PRIORITY1")), (me, ("survey", "PRIORITY1")), (me, ("--target", ME + "-300", "get", "PRIORITY1"))]:
-        port.sent()
-        other = start("manage", *who, "-i", port.name, "-a", "1", "-t", str(3000 * SLOW), *words, stdout=subprocess.PIPE, text=True)
-        asked = next_sent(port, lambda request: request[52:54] == b"\x20\x05")
-        before = (int.from_bytes(asked[30:32], "big") - 1) % 65536
-        number = write_session(image(before, 0, manager=asked[20:28].hex() + "0001"))
-        session = start("manage", *who, "-w", "0", "-i", port.name, "-k", number, "-a", "2", "-t", str(100 * SLOW), "--target", ME, "set",
-                        "PRIORITY1", "100", stdout=subprocess.PIPE, stderr=subprocess.DEVNULL, text=True)
+    """Another run of this host, in no session, asks for the id of a SET with its number. The answer to that one is none to the SET, though
+    it comes in first. The session has started before the other run asks, which then waits for no start: it waits for its turn."""
+    me, number = ("-m", MANAGER + "/1"), os.path.join(work, "number")
+    for who, words in [((), ("-t", str(3000 * SLOW), "survey", "PRIORITY1")), (me, ("-t", str(3000 * SLOW), "survey", "PRIORITY1")),
+                       (me, ("-t", "30000", "--target", ME + "-300", "get", "PRIORITY1"))]:
+        with open(number + ".lock", "a") as turn:
+            fcntl.lockf(turn, fcntl.LOCK_EX)
+            session = start("manage", *who, "-w", "0", "-i", port.name, "-k", number, "-a", "1", "-t", "30000", "--target", ME, "set", "PRIORITY1",
+                            "100", stdout=subprocess.PIPE, stderr=subprocess.DEVNULL, text=True)
+            wait_until(lambda: has_open(session, os.path.realpath(turn.name)), 30)
+            port.sent()
+            other = start("manage", *who, "-i", port.name, "-a", "1", *words, stdout=subprocess.PIPE, text=True)
+            asked = next_sent(port, lambda request: request[52:54] == b"\x20\x05")
+            write_session(image((int.from_bytes(asked[30:32], "big") - 1) % 65536, 0, manager=asked[20:28].hex() + "0001"))
         port.come_in(response(next_sent(port, lambda request: request[52:54] == b"\x20\x00"), b"\x20\x00" + bytes(20)))
-        lost = next_sent(port, lambda request: request[46] == 1)
-        port.come_in(response(asked, b"\x20\x05\x64\x00"))
-        check(f"{who} {words} has the number of the SET", lost[30:32] == asked[30:32])
-        check("and an answer to it is none to the SET", (session.communicate()[0], session.returncode) == ("", 3))
-        check("but its own", other.communicate()[0].endswith("priority1 100\n") and other.returncode == 0)
+        changing = next_sent(port, lambda request: request[46] == 1)
+        check(f"{who} {words} has the number of the SET", changing[30:32] == asked[30:32])
+        port.come_in(response(asked, b"\x20\x05\x07\x00"))
+        port.come_in(response(changing, b"\x20\x05\x64\x00"))
+        check("the SET has its own answer", (session.communicate()[0], session.returncode) == ("priority1 100\n", 0))
+        check("and the other run its own", other.communicate()[0].endswith("priority1 7\n") and other.returncode == 0)
 
 
 class TwoManagers:
@@ -314,7 +325,7 @@ def old_files():
         is_true = two.other_sets() and two.is_honest()
         check(f"an older copy of the file, {content.hex()}, is dropped by the clock", is_true and two.last == 3)
     check("which is reported", all(part in two.said for part in [
-        "this one was not sent", f"set PRIORITY2 of an earlier run, number {number - 2}, comes before it; --give-up lets it go",
+        "this one was not sent", f"set PRIORITY2 of an earlier run, number {number - 2}, comes before it; --give-up gives it up",
         "and has by now", "priority2 60", " since another file or a copy of the manager is ahead", two.number]))
     write_octets("number", newer)
     copies = [two.number, os.path.join(work, "copy")]

@@ -10,7 +10,7 @@ import time
 
 from attack_numbers import next_number
 from attack_saves import Calls
-from attacking import (CLOCK, HAS_STRACE, MANAGE, MANAGER, ME, OTHER, TRACED, Clock, Peer, check, clear, fill_disk, flips, get, image_in, manage,
+from attacking import (CLOCK, HAS_STRACE, MANAGE, MANAGER, ME, OTHER, SLOW, TRACED, Clock, Peer, check, clear, fill_disk, flips, get, image_in, manage,
                        octets, path, run, saves_in, sealed, wait_until, work, write_octets)
 
 NOBODY = 65534
@@ -95,10 +95,10 @@ def configurations():
     peer.close()
     clock.end()
     said = begins("-d", "3", *WORDS)[1]
-    check("and at no later one, which is said", f"{state}: -d 3 counts at the first start alone: the clock is in domain 7\n" in said
+    check("and at no later one, which is said", f"{state}: -d 3 counts only at the first start: the clock is in domain 7\n" in said
           and " in domain 7: " in said)
     check("nor is the same domain reported", "counts" not in begins("-d", "7", *WORDS)[1])
-    gone = f"{state}: 1 manager of it is not configured any more, and what was kept of its requests is let go\n"
+    gone = f"{state}: 1 manager of it is not configured any more, and what was kept of its requests is forgotten\n"
     check("a manager that is gone loses its entry", gone in begins("-s", state, "-u", path, ME)[1])
     check("which is said once", "configured any more" not in begins("-s", state, "-u", path, ME)[1])
     whole = octets(state)
@@ -140,9 +140,9 @@ def files_in_the_way():
     os.symlink("nothing", state)
     check("a link is refused", is_refused(2, f"{state}: it is a link", *WORDS) and os.readlink(state) == "nothing")
     os.unlink(state), os.mkdir(state)
-    check("a folder is refused", is_refused(2, f"{state}: it is no file", *WORDS))
+    check("a folder is refused", is_refused(2, f"{state}: it is not a regular file", *WORDS))
     os.rmdir(state), os.mkfifo(state)
-    check("a pipe is refused", is_refused(2, f"{state}: it is no file", *WORDS))
+    check("a pipe is refused", is_refused(2, f"{state}: it is not a regular file", *WORDS))
     os.unlink(state)
     not_made = f"its folder can't be made: mkdir -p {folder}/no makes the one above it"
     for name, why in [(folder + "/", "no name of a file"), (folder + "/no/no/state", not_made), ("/proc/state", "")]:
@@ -251,6 +251,7 @@ def calls_that_fail():
     clock, number = Clock(*WORDS), next_number("session")
     os.unlink(state), os.mkdir(state + ".new")
     peer = Peer("peer")
+    peer.socket.settimeout(2 * SLOW)
     check("a clock whose file is gone answers no manager", not peer.is_answered(number))
     os.rmdir(state + ".new")
     check("and then it has a file again", wait_until(lambda: os.path.exists(state)) and clock.end()[0] == 0 and image_in(octets(state)) is not None)

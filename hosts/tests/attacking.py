@@ -164,13 +164,13 @@ class Peer:
         self.path = os.path.join(work, name)
         self.socket = socket.socket(socket.AF_UNIX, socket.SOCK_DGRAM)
         self.socket.bind(self.path)
-        self.socket.settimeout(2 * SLOW)
+        self.socket.settimeout(10 * SLOW)
 
     def ask(self, octets):
         self.socket.sendto(octets, path)
 
     def is_answered(self, number):
-        """Whether its GET is answered within two seconds."""
+        """Whether its GET is answered in time."""
         try:
             self.ask(get(number))
             answer = self.socket.recv(2048)

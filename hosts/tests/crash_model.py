@@ -234,7 +234,7 @@ class ClockState(NamedTuple):
 
 
 class ManagerState(NamedTuple):
-    """All requests that were begun, in their order, whether the last has no answer yet, and those that were let go without one. A session
+    """All requests that were begun, in their order, whether the last has no answer yet, and those that were given up without one. A session
     may go on from an earlier one, at its next number: how many requests were begun before it."""
 
     begun: tuple = ()

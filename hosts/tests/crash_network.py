@@ -359,7 +359,7 @@ class World:
     def give_up(self, session):
         session.give_up()
         self.judge_session(session)
-        self.counts["requests that were let go"] += 1
+        self.counts["requests that were given up"] += 1
 
     def save_session(self, session, chance):
         self.counts["saves of sessions"] += 1
@@ -374,7 +374,7 @@ class World:
     # ---- after all
 
     def judge_end(self):
-        """Each request that stands was answered, and carried out once, in the order of its manager. One that was let go may have been."""
+        """Each request that stands was answered, and carried out once, in the order of its manager. One that was given up may have been."""
         for number in range(len(self.clocks)):
             self.judge_restart(number)
         for session in self.sessions:

@@ -200,7 +200,7 @@ static void restore(struct ptpm_clock *clock, const struct base *base) {
     if (answer < PTPM_OTHER_SESSION) answers[answer]++;
     check(may_be(answer, octets, size), "an answer that the head permits");
     if (answer != PTPM_RESTORED) {
-        check(gone == 0, "nothing is let go by a refusal");
+        check(gone == 0, "nothing is forgotten by a refusal");
         check(has_image(clock, base->image, base->size), "the clock is as it was after a refusal");
         return;
     }

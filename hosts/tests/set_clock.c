@@ -1,4 +1,4 @@
-/* set_clock.so, for hosts/tests/try_site: LD_PRELOAD of a program. One second after it starts, the clock of the host is set by SET_BY
+/* set_clock.so, for hosts/tests/try_site: LD_PRELOAD of a program. SET_AFTER seconds after it starts, the clock of the host is set by SET_BY
    seconds, as this program sees it. */
 #define _GNU_SOURCE
 #include <stdlib.h>
@@ -7,18 +7,19 @@
 #include <unistd.h>
 
 static struct timespec started;
-static long set_by;
+static long set_by, set_after;
 
 __attribute__((constructor)) static void begin(void) {
-    const char *by = getenv("SET_BY");
+    const char *by = getenv("SET_BY"), *after = getenv("SET_AFTER");
     set_by = by == NULL ? 0 : atol(by);
+    set_after = after == NULL ? 0 : atol(after);
     syscall(SYS_clock_gettime, CLOCK_MONOTONIC, &started);
 }
 
 static int is_set(void) {
     struct timespec now;
     syscall(SYS_clock_gettime, CLOCK_MONOTONIC, &now);
-    return now.tv_sec - started.tv_sec - (now.tv_nsec < started.tv_nsec) >= 1;
+    return now.tv_sec - started.tv_sec - (now.tv_nsec < started.tv_nsec) >= set_after;
 }
 
 int clock_gettime(clockid_t clock, struct timespec *now) {

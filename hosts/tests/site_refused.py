@@ -1,4 +1,4 @@
-"""Command lines of manage.c that are refused, for hosts/tests/try_site: by itself, or by `ptpm site` before anything is asked."""
+"""Command lines of manage.c that are refused, for hosts/tests/try_site: by itself, or by `ptpm monitor` before anything is asked."""
 import os
 import select
 import socket
@@ -8,7 +8,7 @@ import tempfile
 from site_network import PROGRAM, WITH_OWN, identity, manage, text_in, work, write
 from trying import MANAGE, check, run
 
-NOT_ASKED = "nothing was asked: ptpm site refuses these options"
+NOT_ASKED = "nothing was asked: ptpm monitor refuses these options"
 
 REFUSED = """-d 256 collect|--domain 256: it takes a number from 0 to 255, two as 0-7, or all
 -d 7-3 collect|--domain 7-3: it takes
@@ -20,26 +20,27 @@ collect --target aabbccfffeddee01|collect asks every clock: it takes no --target
 -m 0011223344556677/1 collect|--manager: collect asks by no manager
 -x status|status takes none of --port, --text, --hexadecimal and --numbers
 --json collect|--json: collect prints datagrams in hexadecimal
---watch 1 survey PRIORITY1|--watch: it is of status alone
---listen 1 survey PRIORITY1|--listen: it is of collect and status alone
+--watch 1 survey PRIORITY1|--watch: only status takes it
+--listen 1 survey PRIORITY1|--listen: only collect and status take it
 --sdo 4096 collect|--sdo 4096: it takes a number from 0 to 4095, one from 0x000 to 0xfff, or all
 --sdo 0x1000 status|--sdo 0x1000: it takes
 --sdo 0x status|--sdo 0x: it takes
 --sdo -1 status|--sdo -1: it takes
 --sdo 1@0 status|--sdo 1@0: it takes
---sdo 0 survey PRIORITY1|--sdo: it is of collect and status alone
+--sdo 0 survey PRIORITY1|--sdo: only collect and status take it
 --watch 0 status|--watch 0: it takes a number from 1 to 86400
 --for 0 status|--for 0: it takes a number from 1 to 86400
---for 4 collect|--for: it is of status alone
+--for 4 collect|--for: only status takes it
 --for 4 --once status|--for excludes --once and --watch
 --for 4 --watch 1 status|--for excludes --once and --watch
 --watch 1 --forget 31622401 status|--forget 31622401: it takes a number from 1 to 31622400
---forget 60 status|--forget: it goes with --watch alone
+--forget 60 status|--forget: it takes --watch
 --max-offset -1 status|--max-offset -1: it takes none, or a number of nanoseconds from 0 to 18446744073709551615
 --max-delay none status|--max-delay none: it takes a number of nanoseconds from 0 to 18446744073709551615
 --tai-utc 32768 status|--tai-utc 32768: it takes a number of seconds from -32768 to 32767
 --settle 4294967296 status|--settle 4294967296: it takes a number of seconds from 0 to 4294967295
---tai-utc 37 collect|--tai-utc: it is of status alone
+--tai-utc 37 collect|--tai-utc: only status takes it
+--lines hall collect|--lines: only status takes it
 --json --draw status|--json excludes --draw, --html, --openmetrics and --nagios
 --draw --html status|--draw, --html, --openmetrics and --nagios exclude each other
 --expect hall1 --expect hall2 status|--expect hall2: --expect hall1 is there already

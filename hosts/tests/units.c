@@ -1,17 +1,15 @@
 /* Tests of what the hosts decide without a socket. They try the library's token buckets, its table of messages that were
    passed on, and its stops. They try where a message is in a frame, which sdoId it has, and what the image of a session says. They try
-   the seal of a file, and TimeIntervals and JSON as texts. They try what a watch keeps of earlier looks, how long a change takes
-   through a site, and that a wait takes its time. They try who is answered once a clock is saved. Prints what does not hold, and `units: N passed, M failed`. */
+   the seal of a file, and TimeIntervals and JSON as texts. They try that a wait takes its time, and who is answered once a clock is saved.
+   Prints what does not hold, and `units: N passed, M failed`. */
 #define _GNU_SOURCE
 #include "checking.h"
 #include "domains.h"
 #include "ethernet.h"
 #include "field_text.h"
 #include "kept_file.h"
-#include "look_lines.h"
 #include "ptpm-clock/askers.h"
 #include "ptpm.h"
-#include "seen.h"
 #include "session_image.h"
 #include "stopping.h"
 #include "text.h"
@@ -245,11 +243,6 @@ static void images(void) {
     octets[52] = 0;
     check(!read_image(octets, 53).is_under_way && read_image(octets, 53).first == 7, "a session at rest");
     check(read_image(octets, 52).first == 0, "fewer octets are no session");
-    take_former_image(octets, 53);
-    check(octets[30] == 2, "a session of two ports keeps them");
-    octets[30] = 8;
-    take_former_image(octets, 53);
-    check(octets[30] == 255, "one of an earlier version has more ports from now on");
 }
 
 /* The octets of digits in hexadecimal; how many there are. */
@@ -360,138 +353,6 @@ static void waits(void) {
 
 const char program[] = "units";
 
-enum { SEEN = 1, LOST = 2 };
-
-/* Which clocks the latest look has. */
-bool is_seen(struct domain domain, const uint8_t clock[8]) { return domain.number == 0 && clock[7] == SEEN; }
-
-/* A line of a look. In it this clock says that its port is in a state. If that is 0, it is asked for it. */
-static const char *look_line(const char *words, unsigned clock, unsigned sequence, unsigned state) {
-    static char lines[16][256];
-    static size_t next;
-    char *line = lines[next++ % 16];
-    snprintf(line, sizeof lines[0], "%s0d02004a%032x%016x0001%04x04%02x%020x0101%02x000001001a2004%016x0001%02x%030x\n", words, 0, clock, sequence,
-             0x7f, 0, state == 0 ? 0 : 2, clock, state, 0);
-    return line;
-}
-
-static struct lines lines_of(const char *one, const char *two, const char *three) {
-    struct lines lines = { 0 };
-    int size = asprintf(&lines.at, "%s%s%s", one, two, three);
-    lines.size = size < 0 ? 0 : (size_t)size;
-    return lines;
-}
-
-/* Whether these are the lines, which are freed. */
-static bool are_lines(struct lines lines, const char *one, const char *two) {
-    size_t size = strlen(one);
-    bool is_same = lines.size == size + strlen(two) && memcmp(lines.at, one, size) == 0 && memcmp(lines.at + size, two, strlen(two)) == 0;
-    free(lines.at);
-    return is_same;
-}
-
-/* Whether this is kept before a look, of the looks before it. */
-static bool keeps(struct lines earlier, struct lines look, bool is_over_time, const char *one, const char *two) {
-    keep_over_time(&earlier, &look, is_over_time);
-    free(look.at);
-    return are_lines(earlier, one, two);
-}
-
-/* A line in which a clock says its stepsRemoved, or that its port is a master with a logAnnounceInterval. */
-static const char *steps_line(unsigned steps) {
-    static char line[256];
-    snprintf(line, sizeof line, "at=1 0d020038%084x02000001000a2001%04x\n", 0, steps);
-    return line;
-}
-
-static const char *announce_line(unsigned log) {
-    static char line[256];
-    snprintf(line, sizeof line, "0d02004a%084x02000001001a2004%020x06%018x%02x03\n", 0, 0, 0, log);
-    return line;
-}
-
-static int64_t change_time_of(unsigned steps, unsigned log) {
-    struct lines look = lines_of(steps_line(steps), announce_line(log), "#ptpm\n");
-    int64_t time = change_time(&look);
-    free(look.at);
-    return time;
-}
-
-static void change_times(void) {
-    check(change_time_of(3, 1) == 6000, "three steps at two seconds each");
-    check(change_time_of(5, 0xff) == 2500, "five at half a second");
-    check(change_time_of(1, 1) == 2000 && change_time_of(0, 4) == 2000 && change_time_of(9, 0x80) == 2000, "two seconds at least");
-    check(change_time_of(3, 4) == 10000 && change_time_of(65535, 127) == 10000, "ten seconds at most");
-}
-
-static void single_gets(void) {
-    const char *to_all = "0d02003600000000000000000000000000000000000000000000000100010007007fffffffffffffffffffff01010000000100022004\n";
-    struct lines lines = lines_of(to_all, look_line("at=1 ", SEEN, 7, 0), look_line("", SEEN, 7, PTPM_STATE_MASTER));
-    struct lines left = lines_of(to_all, "", look_line("", SEEN, 7, PTPM_STATE_MASTER));
-    leave_out_single(&lines);
-    check(lines.size == left.size && memcmp(lines.at, left.at, left.size) == 0, "without the GET to one clock");
-    free(lines.at);
-    free(left.at);
-}
-
-static void kept_lines(void) {
-    const char *words = "at=1.5 from=::1 on=e ", *get = look_line(words, SEEN, 6, 0);
-    const char *one = look_line(words, SEEN, 7, PTPM_STATE_UNCALIBRATED);
-    const char *two = look_line("at=2 ", SEEN, 8, PTPM_STATE_LISTENING);
-    const char *look = look_line("", SEEN, 9, PTPM_STATE_UNCALIBRATED);
-    check(keeps(lines_of(get, one, two), lines_of(look, "", ""), true, one, two), "since when a port is on its way");
-    check(keeps(lines_of(get, one, two), lines_of(look, "", ""), false, "", ""), "which only counts if time decides");
-    check(keeps(lines_of(one, one, two), lines_of(look, "", ""), true, one, two), "two answers to two requests");
-    two = look_line("at=3 ", SEEN, 8, PTPM_STATE_SLAVE);
-    check(keeps(lines_of(one, two, two), lines_of(look, "", ""), true, "", ""), "a state ends the stay in another one");
-    look = look_line("", SEEN, 9, PTPM_STATE_SLAVE);
-    check(keeps(lines_of(one, two, ""), lines_of(look, "", ""), true, two, ""), "since when a port is a slave");
-    one = look_line(words, SEEN, 7, PTPM_STATE_MASTER);
-    look = look_line("", SEEN, 9, PTPM_STATE_MASTER);
-    check(keeps(lines_of(one, "", ""), lines_of(look, "", ""), true, "", ""), "a state that may last");
-    struct lines kept = lines_of(look, "", ""), earlier = lines_of(get, look_line(words, LOST, 7, PTPM_STATE_MASTER), one);
-    add_lines_of_seen(&kept, &earlier);
-    free(earlier.at);
-    char *added;
-    check(asprintf(&added, "%s%s", get, one) > 0 && are_lines(kept, look, added), "nothing that a clock answered that is gone");
-    free(added);
-}
-
-/* A line in which a clock says its offset. */
-static const char *offset_line(unsigned sequence, unsigned offset) {
-    static char lines[32][256];
-    static size_t next;
-    char *line = lines[next++ % 32];
-    snprintf(line, sizeof lines[0], "at=%u 0d02004a%032x%016x0001%04x04%02x%020x0101%02x000001001a2001%04x%016x\n", sequence, 0, SEEN, sequence,
-             0x7f, 0, 2, 1, offset);
-    return line;
-}
-
-/* Whether these answers with an offset are kept before one more, as letters from a on. The first one has another offset. */
-static bool keeps_offsets(unsigned count, unsigned offset, const char *expected) {
-    struct lines earlier = lines_of(offset_line(0, offset + 1), "", ""), look = lines_of(offset_line(count, offset), "", "");
-    char found[32] = "";
-    for (unsigned i = 1; i < count; i++) {
-        struct lines more = lines_of(offset_line(i, offset), "", ""), both = lines_of(earlier.at, more.at, "");
-        free(earlier.at);
-        free(more.at);
-        earlier = both;
-    }
-    keep_over_time(&earlier, &look, false);
-    const char *end = earlier.at + earlier.size;
-    size_t place = 0;
-    for (const char *at = earlier.at; at < end; at = end_of_line(at, end)) found[place++] = (char)('a' + strtoul(at + strlen("at="), NULL, 10));
-    free(earlier.at);
-    free(look.at);
-    return strcmp(found, expected) == 0;
-}
-
-static void offsets(void) {
-    check(keeps_offsets(4, 7, "bcd"), "the answers with the offset that a clock still has");
-    check(keeps_offsets(17, 7, "bhijklmnopq"), "of these the first, and eleven with the latest");
-    check(keeps_offsets(4, 0, ""), "but none of a clock that is not off");
-}
-
 static struct port any_port;
 
 /* A request that came in with this sequenceId, at a port or on a Unix socket. It stays until the next one. */
@@ -555,10 +416,6 @@ int main(void) {
     seals();
     intervals();
     json();
-    kept_lines();
-    offsets();
-    change_times();
-    single_gets();
     waits();
     free(printed);
     return print_checks("units");

@@ -39,7 +39,8 @@ class ElementOfCall:
 def call(function, name, words):
     words = re.sub(r'^(?:fastcc )', '', words)
     kind, rest = take_type(without_attributes(words))
-    rest = re.sub(r'^\([^()]*\.\.\.\) ', '', rest)                  # of a function with any number of parameters
+    any_number = re.match(r'\(([^()]*)\.\.\.\) ', rest)
+    rest = rest[any_number.end():] if any_number else rest
     found = re.match(rf'@({NAME})(?=\()', rest)
     if not found:
         not_known('a call', words)
@@ -51,6 +52,8 @@ def call(function, name, words):
     for part in parts_of(inner):
         part_kind, text = take_type(part)
         taken.append((part_kind, without_attributes(text)))
+    if any_number:                                                  # only its named parameters: a page makes no file
+        taken = taken[:any_number[1].count(',')]
     here = Call(function, name, kind, taken)
     if called.startswith('llvm.'):
         _, operation, *more = called.split('.')

@@ -216,7 +216,7 @@ def switch(it):
     lines = [f'switch ({it.value(kind, found[2])}) {{']
     for number, label in re.findall(rf'{kind} (-?\w+), label %({NAME})', cases):
         lines.append(f'case {it.value(kind, number)}: {it.function.go(it.block, label)}')
-    if len(lines) - 1 != cases.count('label'):
+    if len(lines) - 1 != cases.count(', label %'):
         not_known('the cases of a switch', it.words)
     return [*lines, f'default: {it.function.go(it.block, found[3])}', '}']
 

@@ -36,9 +36,10 @@ from .seal import newest_image, sealed, unsealed
 from .session import Session
 from .session_file import DamagedFileError, OpenApplyError, SessionFile, SessionFileError, usual_path
 from .settings import ClockSettings, DelayMechanism, Manager, PortSettings, PortState, Rights, TimeSource
-from .site import AskedDomain, Domain, Finding, Grandmaster, Lack, Site, SiteClock, SiteError, read_site, site
+from .site import AskedDomain, Domain, Finding, Grandmaster, Lack, Site, SiteClock, read_site
+from .site_programs import SiteError, site
 from .survey import SURVEY_PORT, Survey, SurveySettings, survey
-from .time_interval import TimeInterval, time_interval
+from .time_interval import TimeInterval
 from .transport import Transport, UdpTransport, UnixTransport
 
 __all__ = [
@@ -50,6 +51,6 @@ __all__ = [
     "ObservedGrandmaster", "ObservedPort", "OpenApplyError", "ParentDataSet", "PassedOn", "PortDataSet", "PortIdentity",
     "PortMembers", "PortSettings", "PortState", "PtpmError", "Rate", "read_site", "Report", "Requests", "Rights", "Rollout", "Saved", "SavingClock",
     "Say", "sealed", "Session", "SessionAnswer", "SessionFile", "SessionFileError", "SessionSettings", "Site", "site",
-    "SiteClock", "SiteError", "Survey", "survey", "SURVEY_PORT", "SurveyAnswer", "SurveySettings", "time_interval", "TimeInterval",
+    "SiteClock", "SiteError", "Survey", "survey", "SURVEY_PORT", "SurveyAnswer", "SurveySettings", "TimeInterval",
     "TimePropertiesDataSet", "TimeSource", "Transport", "UdpTransport", "UnixTransport", "unsealed", "usual_path",
 ]

@@ -3,7 +3,6 @@
 from __future__ import annotations
 
 import argparse
-import os
 import re
 import signal
 import sys
@@ -20,8 +19,7 @@ from .nobody import ask_as_nobody, ask_in_no_session, nobody, refuse_nobody
 from .report import Report
 from .requests import Requests, SessionSettings, begin_request
 from .session import Session
-from .session_file import SessionFile, SessionFileError, usual_path
-from .site_command import main as show_site
+from .session_file import SessionFile, SessionFileError
 from .streams import NOT_AS_ASKED, NOT_WRITTEN, NotWritten, complain, flush, hold_streams, parsed
 from .survey import survey
 from .transport import Transport, UdpTransport, UnixTransport
@@ -56,7 +54,7 @@ def _parser() -> argparse.ArgumentParser:
     parser = argparse.ArgumentParser(
         prog="python -m ptpm",
         description="Reads and changes the settings of PTP clocks (IEEE 1588-2019, clause 15).",
-        epilog="ptpm-manage has the same options, and more of them. `python -m ptpm site` shows a whole site.",
+        epilog="ptpm-manage has the same options, and more of them. Its status shows a whole site.",
     )
     add = parser.add_argument
     add("verb", choices=["get", "set", "command", "survey"])
@@ -136,7 +134,7 @@ class Task:
         if words.text:
             return data_field(self.id, value[0])
         if not re.fullmatch("([0-9a-fA-F]{4})*", value[0]):
-            raise ValueError(f"{value[0]}: it is no even number of octets in hexadecimal")
+            raise ValueError(f"{value[0]}: not an even number of octets in hexadecimal")
         return bytes.fromhex(value[0])
 
     def _judge(self) -> None:
@@ -195,8 +193,6 @@ class Task:
         if self.is_numbered:
             # An answer to this host alone comes in at the latest socket, so who waits for its turn has none yet.
             with SessionFile(settings.manager, self.target, words.numbers) as file, self.way() as way:
-                if file.octets is None and self._is_unnamed:
-                    self._tell_former_session(PortIdentity.of(settings.manager))
                 return self._ask_by(file, settings, way)
         is_managers = words.manager is not None and self.action != Action.GET
         ask = ask_in_no_session if is_managers else ask_as_nobody
@@ -207,14 +203,6 @@ class Task:
     def _is_unnamed(self) -> bool:
         """Whether the manager has the name of its interface."""
         return self.words.manager is None and self.words.numbers is None and self.words.unix is None
-
-    def _tell_former_session(self, manager: PortIdentity) -> None:
-        """Says how the session goes on that earlier versions kept under the identity of a clock of this host."""
-        assert self.target is not None
-        former = PortIdentity(manager.clock.turned, manager.port)
-        path = usual_path(former, self.target)
-        if os.path.exists(path):
-            complain(f"{path} has the session of an earlier version: -m {former} goes on with it")
 
     def _ask_by(self, file: SessionFile, settings: SessionSettings, way: Transport) -> int:
         words = self.words
@@ -252,7 +240,7 @@ class Task:
         where = "" if domain == words.domain else f" in domain {domain}"
         if words.give_up and session.is_under_way:
             session.let_go()
-            complain(f"the request of an earlier run is let go: a get{where} shows whether it was carried out")
+            complain(f"the request of an earlier run is given up: a get{where} shows whether it was carried out")
         if session.is_under_way:
             earlier = self._finish_in(session, way)
             said = complain(f"a request of an earlier run{where} had no answer yet, and was sent again:") and complain(earlier)
@@ -311,7 +299,7 @@ def _run(given: List[str]) -> int:
         may_be = error.was_sent and words.verb in ("set", "command")
         complain(f"{error}{': the request may have been carried out' if may_be else ''}")
         if error.was_sent and task.is_numbered:
-            complain("the next run sends it again before its own; --give-up lets it go")
+            complain("the next run sends it again before its own; --give-up gives it up")
         return NOT_ANSWERED
     except KeyboardInterrupt:
         changes = words.verb in ("set", "command")
@@ -328,9 +316,8 @@ def _run(given: List[str]) -> int:
 def main(arguments: Optional[List[str]] = None) -> int:
     """Asks what a command line says; its status."""
     hold_streams()
-    given = sys.argv[1:] if arguments is None else arguments
     try:
-        return show_site(given[1:]) if given[:1] == ["site"] else _run(given)
+        return _run(sys.argv[1:] if arguments is None else arguments)
     except KeyboardInterrupt:
         return BY_SIGNAL + signal.SIGINT
     except NotWritten as error:

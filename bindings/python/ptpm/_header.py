@@ -10,7 +10,7 @@ from typing import Any, Dict, List, Tuple, Type
 from .enumeration import Answer, Enumeration
 
 if sizeof(c_void_p) != 8 or sys.byteorder != "little":
-    raise ImportError("ptpm is built for 64-bit little-endian processors alone")
+    raise ImportError("ptpm is built only for 64-bit little-endian processors")
 
 # tools/bindings -u writes all that follows from ptpm.h.
 

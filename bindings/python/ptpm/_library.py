@@ -57,7 +57,7 @@ def text_by(call: Callable[..., int], *words: Any, room: int = header.PTPM_MOST_
 
 
 def typed(text: str) -> Tuple[bytes, int]:
-    """A text for the library to read, and how many octets it has. What is no character is no UTF-8, and is refused there."""
+    """A text for the library to read, and how many octets it has. What is not a character is not UTF-8, and is refused there."""
     octets = str.encode(text, errors="surrogatepass")
     return octets, len(octets)
 

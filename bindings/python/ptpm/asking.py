@@ -25,12 +25,12 @@ class NoAnswer(PtpmError, TimeoutError):
 
 
 def judge_seconds(name: str, seconds: float) -> None:
-    """Refuses a time below 0, or one that is no number, as the sockets of Python do."""
+    """Refuses a time below 0, or one that is not a number, as the sockets of Python do."""
     if not seconds >= 0:
         raise ValueError(f"{name} {seconds}: it takes seconds, not below 0")
 
 
-# More answers than this with numbers that were not asked are no late ones: somebody guesses.
+# More answers than this with numbers that were not asked are not late ones: somebody guesses.
 _FEW = 16
 
 # The places of portIdentities, of the number and of the action in a message (13.3, 15.4), and the actions of a RESPONSE and an ACKNOWLEDGE.
@@ -79,11 +79,11 @@ class Answerer:
 
     def why_none(self, way: Transport) -> str:
         """What is known if there is no answer, each after a semicolon."""
-        why = [f"what came from {sender} is not taken, {reason}" for sender, reason in way.not_taken.items()]
+        why = [f"what came from {sender} is ignored, {reason}" for sender, reason in way.not_taken.items()]
         if self._guesses > _FEW:
             why.append(f"{self._guesses} answers had numbers that were not asked: somebody guesses numbers, or asks by this manager too")
         if self._elsewhere is not None:
-            why.append(f"an answer from {self._elsewhere.sender} came in another way than the first one, and is not taken")
+            why.append(f"an answer from {self._elsewhere.sender} came by a different way than the first one, and is ignored")
         return "".join(f"; {one}" for one in why)
 
 

@@ -44,16 +44,6 @@ class CurrentDataSet:
     offset_from_master: Decimal
     mean_delay: Decimal
 
-    @property
-    def offset_from_master_ns(self) -> Decimal:
-        """The same in a name that says that it is in nanoseconds."""
-        return self.offset_from_master
-
-    @property
-    def mean_delay_ns(self) -> Decimal:
-        """As above."""
-        return self.mean_delay
-
 
 @dataclass(frozen=True)
 class ParentDataSet:
@@ -94,41 +84,26 @@ class PortDataSet:
     log_min_pdelay_req_interval: int
     version_number: int
 
-    @property
-    def mean_link_delay_ns(self) -> Decimal:
-        """The same in a name that says that it is in nanoseconds."""
-        return self.mean_link_delay
-
 
 def number_of(value: Any) -> int:
-    """A whole number of JSON, which is no flag."""
+    """A whole number of JSON, which is not a flag."""
     if not isinstance(value, int) or isinstance(value, bool):
-        raise ValueError(f"{value!r} is no whole number")
+        raise ValueError(f"{value!r} is not a whole number")
     return value
 
 
 def flag_of(value: Any) -> bool:
     """A flag of JSON."""
     if not isinstance(value, bool):
-        raise ValueError(f"{value!r} is no flag")
+        raise ValueError(f"{value!r} is not a flag")
     return value
 
 
 def text_of(value: Any) -> str:
     """A text of JSON."""
     if not isinstance(value, str):
-        raise ValueError(f"{value!r} is no text")
+        raise ValueError(f"{value!r} is not a text")
     return value
-
-
-def interval(scaled: int) -> Decimal:
-    """A TimeInterval (5.3.2), in nanoseconds times 2^16, as nanoseconds with all digits of their fraction."""
-    return TimeInterval(scaled).nanoseconds
-
-
-def nanoseconds_of(value: Any) -> Decimal:
-    """A TimeInterval of JSON, in nanoseconds times 2^16."""
-    return interval(number_of(value))
 
 
 def identity_of(value: Any) -> Identity:
@@ -146,7 +121,7 @@ _READERS: Dict[str, Callable[[Any], Any]] = {
     "int": number_of,
     "bool": flag_of,
     "str": text_of,
-    "Decimal": nanoseconds_of,
+    "Decimal": lambda value: TimeInterval(number_of(value)).nanoseconds,
     "Identity": identity_of,
     "PortIdentity": port_identity_of,
     "PortState": lambda value: PortState.of(text_of(value)),
@@ -182,7 +157,7 @@ _IDS: Dict[type, ManagementId] = {
 def id_of_data_set(kind: type) -> ManagementId:
     """The id that is asked for a data set."""
     if kind not in _IDS:
-        raise TypeError(f"{kind!r} is no data set")
+        raise TypeError(f"{kind!r} is not a data set")
     return _IDS[kind]
 
 
@@ -196,15 +171,3 @@ def of_members(kind: Type[_Read], members: Mapping[str, Any], head: str = "") ->
         else:
             read[member.name] = members[name].name if str(member.type) == "str" else members[name]
     return kind(**read)
-
-
-# How a member of a data set is read, by its name.
-_OF_MEMBERS = {
-    _name_in_json(member.name): _READERS[str(member.type)]
-    for kind in (DefaultDataSet, CurrentDataSet, ParentDataSet, TimePropertiesDataSet, PortDataSet) for member in fields(kind)
-}
-
-
-def member_of(name: str, value: Any) -> Any:
-    """The value of a member in JSON, as its data set has it; what is no member of one, or not there, as it is."""
-    return value if value is None else _OF_MEMBERS.get(name, lambda same: same)(value)

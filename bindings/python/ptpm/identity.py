@@ -34,7 +34,7 @@ class Identity:
             return cls(identity)
         octets = (ctypes.c_uint8 * 8)()
         if not library.ptpm_identity_parse(*typed(identity), octets):
-            raise ValueError(f"{identity!r} is no identity, such as aabbccfffeddee01 or aabbcc.fffe.ddee01")
+            raise ValueError(f"{identity!r} is not an identity, such as aabbccfffeddee01 or aabbcc.fffe.ddee01")
         return cls(bytes(octets))
 
     @classmethod
@@ -75,7 +75,7 @@ class PortIdentity:
             return identity
         clock, port = (ctypes.c_uint8 * 8)(), ctypes.c_uint16()
         if not library.ptpm_port_identity_parse(*typed(identity), clock, ctypes.byref(port)):
-            raise ValueError(f"{identity!r} is no identity of a port, such as aabbccfffeddee01/1 or aabbcc.fffe.ddee01-1")
+            raise ValueError(f"{identity!r} is not an identity of a port, such as aabbccfffeddee01/1 or aabbcc.fffe.ddee01-1")
         return cls(Identity(bytes(clock)), port.value)
 
     @property

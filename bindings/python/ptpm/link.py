@@ -61,7 +61,7 @@ def _attributes(octets: bytes) -> Iterator[Tuple[int, bytes]]:
 
 
 def _is_routed_to_link(index: int, address: bytes) -> bool:
-    """Whether a route that is no default route leads to an address over the interface without a gateway."""
+    """Whether a route that is not a default route leads to an address over the interface without a gateway."""
     family = socket.AF_INET if len(address) == 4 else socket.AF_INET6
     head = struct.pack("=BBBBBBBBI", family, 8 * len(address), 0, 0, 0, 0, 0, 0, _FIB_MATCH)
     over, to = _attribute(_OVER, struct.pack("=i", index)), _attribute(_DESTINATION, address)
@@ -157,7 +157,7 @@ class Link:
     """The link at an interface, from which answers are taken."""
 
     def __init__(self, interface: str, asked: Optional[str], any_source: bool, ttl_security: bool) -> None:
-        """`asked` is the one address that is asked, if it is no group."""
+        """`asked` is the one address that is asked, if it is not a group."""
         self._interface, self._index = interface, socket.if_nametoindex(interface)
         self._asked = None if asked is None else ipaddress.ip_address(asked.split("%")[0])
         self._any_source, self._ttl_security = any_source, ttl_security
@@ -185,7 +185,7 @@ class Link:
         interface without an address has no link that is known."""
         address = ipaddress.ip_address(sender.split("%")[0])
         if self._ttl_security and is_unicast and ttl != FULL_TTL:
-            return self._refuse(sender, "since a router may have passed it on: --ttl-security takes TTL 255 alone")
+            return self._refuse(sender, "since a router may have passed it on: --ttl-security takes only TTL 255")
         if self._any_source or address == self._asked or self._is_on(address) or not self._has_address(address.version == 6):
             return True
         return self._refuse(sender, "which is not on the link: --any-source takes it")

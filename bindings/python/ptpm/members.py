@@ -20,8 +20,6 @@ Member = Union[int, bool, str, bytes, Decimal, Identity, PortIdentity, Tuple[Ide
 Value = Union[int, bool, str]
 DataField = Union[bytes, Value, Mapping[str, Value], None]
 
-MOST_TEXT = 128
-
 _ESCAPE = re.compile(rb"\\x(..)")
 
 
@@ -101,7 +99,7 @@ def _shown(text: str) -> str:
 
 
 def _shown_text(octets: bytes) -> str:
-    """A text whose octets are no character are shown as these."""
+    """A text whose octets are not a character are shown as these."""
     shown = octets.decode("utf-8", "surrogateescape")
     return "".join(f"\\x{ord(c) - 0xDC00:02x}" if 0xDC80 <= ord(c) <= 0xDCFF else _shown(c) for c in shown)
 
@@ -133,7 +131,7 @@ _DATA_SETS = (
 
 
 def _refuse(number: int, words: Sequence[str], why: int, place: int) -> NoReturn:
-    """Says what is wrong with words that are no dataField."""
+    """Says what is wrong with words that are not a dataField."""
     if number in _DATA_SETS:
         raise ValueError("the id can only be read")
     if why == header.PTPM_NO_VALUE:
@@ -202,13 +200,11 @@ def data_field(named: IdLike, value: DataField) -> bytes:
         return value or b""
     if isinstance(value, Mapping):
         return parse(number, list(_in_order(number, value)))
-    if number == ManagementId.USER_DESCRIPTION and isinstance(value, str) and len(value.encode()) > MOST_TEXT:
-        raise ValueError(f"the text has over {MOST_TEXT} octets")
     return parse(number, [_word(value)])
 
 
 def has_one_member(number: int) -> bool:
-    """Whether an id has one member, which is no text, so that a SET takes its value as a word."""
+    """Whether an id has one member, which is not a text, so that a SET takes its value as a word."""
     return len(_names(number)) == 1 and number != ManagementId.USER_DESCRIPTION
 
 

@@ -25,7 +25,7 @@ def draw() -> int:
 def refuse_nobody(manager: PortIdentity) -> None:
     """Refuses a port at which no manager asks, and that which means every port."""
     if manager.port >= FIRST_OF_NOBODY:
-        raise ValueError(f"manager {manager}: a port from {FIRST_OF_NOBODY} on is of no manager")
+        raise ValueError(f"manager {manager}: the port has to be below {FIRST_OF_NOBODY}")
 
 
 def nobody(manager: PortIdentity, action: int = Action.GET) -> PortIdentity:

@@ -22,7 +22,7 @@ from .nobody import ask_as_nobody, draw, refuse_nobody
 from .report import Report
 from .requests import Requests, SessionSettings, begin_request
 from .session_file import DamagedFileError, SessionFile
-from .session_image import EVERY_PORT, Request, domain_of, first_number, is_same, latest_number, of_this_version, unanswered
+from .session_image import EVERY_PORT, Request, domain_of, first_number, is_same, latest_number, unanswered
 from .transport import Transport
 
 
@@ -59,7 +59,7 @@ class Session(Requests):
         """The domain in which it is sent again."""
         super().__init__(replace(settings, first=draw()) if settings.first is None else settings)
         if octets is not None:
-            self._open(of_this_version(octets, self.settings.target_ports))
+            self._open(octets)
         elif settings.first is not None:
             self._saved = self._image()
         if file is not None:

@@ -205,7 +205,7 @@ class SessionFile:
         self._before = os.fstat(opened)
         if not stat.S_ISREG(self._before.st_mode):
             os.close(opened)
-            raise SessionFileError(f"{self.path}: it is no file")
+            raise SessionFileError(f"{self.path}: it is not a regular file")
         with open(opened, "rb") as file:
             return self._unsealed(file.read(_MOST))
 

@@ -12,10 +12,7 @@ from .ids import Action
 EVERY_PORT = 65535
 
 # Where the members are. Numbers have the highest octet first.
-_PORTS, _FIRST, _DOMAIN, _ISSUED, _IS_UNDER_WAY, _ACTION, _ID, _PORT, _SIZE, _DATA = 30, 31, 35, 36, 52, 53, 54, 56, 58, 60
-
-# Of the clock, in a session of an earlier version.
-_FORMER_PORTS = 8
+_FIRST, _DOMAIN, _ISSUED, _IS_UNDER_WAY, _ACTION, _ID, _PORT, _SIZE, _DATA = 31, 35, 36, 52, 53, 54, 56, 58, 60
 
 
 @dataclass(frozen=True)
@@ -35,13 +32,6 @@ class Request:
 
 def _number_at(octets: bytes, place: int, size: int = 2) -> int:
     return int.from_bytes(octets[place : place + size], "big")
-
-
-def of_this_version(image: bytes, ports: int) -> bytes:
-    """An image. The session of an earlier version, which takes its clock to have eight ports, goes on as one of more."""
-    if image[_PORTS : _PORTS + 1] == bytes([_FORMER_PORTS]) and ports > _FORMER_PORTS:
-        return image[:_PORTS] + bytes([ports]) + image[_PORTS + 1 :]
-    return image
 
 
 def first_number(image: bytes) -> int:

@@ -13,7 +13,6 @@ from ._header import PortState as PortState
 from ._library import library
 from .enumeration import Enumeration
 from .identity import Identity, IdentityLike, PortIdentity, PortIdentityLike
-from .time_interval import time_interval as time_interval
 
 # The members that are TimeIntervals.
 TIME_INTERVALS = ("offset_from_master", "mean_path_delay", "peer_delay")
@@ -54,8 +53,8 @@ class Rights(IntFlag):
 
 
 def write_number(struct: ctypes.Structure, member: str, value: int) -> None:
-    """Writes a member, and refuses a value that does not fit it. ctypes would cut it off. What is no whole number is refused too
-    (TypeError): an offset is no number of nanoseconds here, but a TimeInterval."""
+    """Writes a member, and refuses a value that does not fit it. ctypes would cut it off. What is not a whole number is refused too
+    (TypeError): an offset is not a number of nanoseconds here, but a TimeInterval."""
     if not hasattr(value, "__index__"):
         interval = " of nanoseconds: TimeInterval.from_nanoseconds has what it takes" if member in TIME_INTERVALS else ""
         raise TypeError(f"{member} takes no {value!r}{interval}")

@@ -30,8 +30,3 @@ class TimeInterval(int):
 
     def __repr__(self) -> str:
         return f"TimeInterval({int(self)})"
-
-
-def time_interval(nanoseconds: Union[int, float, Decimal]) -> TimeInterval:
-    """The TimeInterval of N nanoseconds."""
-    return TimeInterval.from_nanoseconds(nanoseconds)

@@ -248,7 +248,7 @@ def _destination(interface: Optional[str], address: Optional[str], ipv6: bool) -
         try:
             family, _, _, _, to = socket.getaddrinfo(address, GENERAL_PORT, type=socket.SOCK_DGRAM, flags=flags)[0]
         except socket.gaierror:
-            raise OSError(f"{address}: it is no address of IPv4 or IPv6") from None
+            raise OSError(f"{address}: not an address of IPv4 or IPv6") from None
     return interface or _interface_to(to, family), family, to
 
 

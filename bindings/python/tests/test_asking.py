@@ -34,7 +34,7 @@ END = bytes.fromhex("08 05 0000 0000000069559b00")
 
 
 def journal_of(*records: bytes) -> bytes:
-    """The octets of the journal of an apply (docs/changing-a-site.md)."""
+    """The octets of the journal of an apply (crates/ptpm_journal/specs)."""
     octets, crc = b"PTPJ", bytes(4)
     for record in records:
         record = len(record).to_bytes(2, "big") + record
@@ -170,7 +170,7 @@ class Asking(Folder):
 
     def test_a_session_has_a_port_of_a_manager(self) -> None:
         settings = ptpm.SessionSettings("0011223344556677/61440", CLOCK)
-        self.assertRaisesRegex(ValueError, "a port from 61440 on is of no manager", ptpm.Session, settings)
+        self.assertRaisesRegex(ValueError, "the port has to be below 61440", ptpm.Session, settings)
 
     def test_nothing_that_was_kept_is_reported(self) -> None:
         self.assertEqual(self.ask(100, 50).members, {"priority1": 50})      # numbers 100 and 101
@@ -366,7 +366,7 @@ class Asking(Folder):
         os.symlink("elsewhere", path)
         self.assertRaisesRegex(ptpm.SessionFileError, "link", ptpm.SessionFile, MANAGER, CLOCK, path)
         os.mkdir(f"{path}-2")
-        self.assertRaisesRegex(ptpm.SessionFileError, "it is no file", ptpm.SessionFile, MANAGER, CLOCK, f"{path}-2")
+        self.assertRaisesRegex(ptpm.SessionFileError, "it is not a regular file", ptpm.SessionFile, MANAGER, CLOCK, f"{path}-2")
 
     def test_a_session_of_an_earlier_version_goes_on(self) -> None:
         """It takes its clock to have eight ports."""
@@ -613,8 +613,8 @@ class Asking(Folder):
 
     def test_a_command_line_whose_help_is_not_read(self) -> None:
         for streams, words, status in (
-            (">&-", ["--version"], 4), ("> /dev/full", ["--help"], 4), (">&-", ["site", "--help"], 4), (">&-", ["get"], 2),
-            ("2>&-", ["get"], 2), ("2> /dev/full", ["site", "-x"], 2), ("2>&-", ["--version"], 0),
+            (">&-", ["--version"], 4), ("> /dev/full", ["--help"], 4), (">&-", ["get", "--help"], 4), (">&-", ["get"], 2),
+            ("2>&-", ["get"], 2), ("2> /dev/full", ["get", "-y"], 2), ("2>&-", ["--version"], 0),
         ):
             self.assertEqual((streams, words, self.run_with(streams, *words)), (streams, words, status))
 

@@ -90,7 +90,7 @@ RUNS: Dict[str, Sequence[Run]] = {
     "killed between the save and the message": [Run("set PRIORITY1 100", "A", 2), Run("get PRIORITY1", "AAA")],
     "killed before the answer": [Run("set PRIORITY1 100", "AN", 3), Run("set PRIORITY1 101", "AAA")],
     "killed before the question": [Run("set PRIORITY1 1", "AA"), Run("-p 2 get PRIORITY1", "", 1), Run("-p 2 get PRIORITY1", "AA")],
-    "let go": [Run("set PRIORITY1 100", "A", 2), Run("--give-up set PRIORITY2 101", "AA"), Run("get PRIORITY1", "AA")],
+    "given up": [Run("set PRIORITY1 100", "A", 2), Run("--give-up set PRIORITY2 101", "AA"), Run("get PRIORITY1", "AA")],
     "a SET of another domain": [Run("set PRIORITY1 100", "A", 2), Run("-d 4 get PRIORITY1", "AAA")],
     "a GET of another domain": [Run("-d 4 get PRIORITY1", "A", 2), Run("get PRIORITY1", "AAA")],
     "a question at a port that the clock lacks": [

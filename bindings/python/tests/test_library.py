@@ -134,7 +134,7 @@ class Clocks(unittest.TestCase):
     def test_observations_have_their_places(self) -> None:
         grandmaster = ptpm.ObservedGrandmaster("c0c1c2c3c4c5c6c7", 0x53, 6, 0x21, 0x6162, 0x56, "b0b1b2b3b4b5b6b7-29042")
         observed = ptpm.ObservedClock(
-            steps_removed=2, offset_from_master=-2, mean_path_delay=ptpm.time_interval(1), parent_stats=True,
+            steps_removed=2, offset_from_master=-2, mean_path_delay=ptpm.TimeInterval.from_nanoseconds(1), parent_stats=True,
             observed_variance=0x5152, observed_rate=0x21222324, grandmaster=grandmaster, utc_offset=37, leap59=True,
             ptp_timescale=True, time_traceable=True, time_source=0x20,
         )
@@ -454,9 +454,9 @@ class Texts(unittest.TestCase):
     def test_texts_that_are_no_identity_are_refused(self) -> None:
         pointed = ("aabbcc.fffeddee01", "aabb.ccfffe.ddee01", "aabbcc.fffe.ddee0x")
         for text in ("", CLOCK[:-1], f"{CLOCK}1", "aabbccfffeddee\u0661\u0662", f"{CLOCK[:-1]}\udcff", *pointed):
-            self.assertRaisesRegex(ValueError, "is no identity, such as", ptpm.Identity.of, text)
+            self.assertRaisesRegex(ValueError, "is not an identity, such as", ptpm.Identity.of, text)
         for text in (CLOCK, f"{CLOCK}/", f"{CLOCK}/+1", f"{CLOCK}/65536", f"{CLOCK}/1/1", "1/1"):
-            self.assertRaisesRegex(ValueError, "is no identity of a port, such as", ptpm.PortIdentity.of, text)
+            self.assertRaisesRegex(ValueError, "is not an identity of a port, such as", ptpm.PortIdentity.of, text)
 
     def test_numbers_of_a_newer_library_are_kept(self) -> None:
         self.assertEqual((HandleAnswer(29), int(HandleAnswer(29))), (HandleAnswer(29), 29))
@@ -530,7 +530,7 @@ class Texts(unittest.TestCase):
             self.assertEqual(str(ptpm.Report(ptpm.ManagementId.USER_DESCRIPTION, octets)), f"userDescription {shown}")
 
     def test_members_of_ids_that_only_other_clocks_have(self) -> None:
-        # A CLOCK_DESCRIPTION (15.5.3.1.2) with a text that is no UTF-8, an address of four octets and one of none.
+        # A CLOCK_DESCRIPTION (15.5.3.1.2) with a text that is not UTF-8, an address of four octets and one of none.
         octets = bytes.fromhex("4000 0161 0004 0a000001 0001 0000 001b19 00 0262ff 00 00 001b19000100 00")
         values = ptpm.members(1, octets)
         self.assertEqual((values["clockType"], values["productDescription"], values["userDescription"]), (0x4000, "b\\xff", ""))

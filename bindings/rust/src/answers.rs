@@ -105,7 +105,7 @@ answers! {
         Answered = PTPM_ANSWERED,
         /// It is of another domain.
         OtherDomain = PTPM_OTHER_DOMAIN,
-        /// It is no answer.
+        /// It is not an answer.
         NotAReply = PTPM_NOT_A_REPLY,
         /// It is an answer to another manager.
         OtherTarget = PTPM_OTHER_TARGET,
@@ -131,7 +131,7 @@ answers! {
         Full = PTPM_FULL,
         /// It is of another domain.
         OtherDomain = PTPM_OTHER_DOMAIN,
-        /// It is no answer.
+        /// It is not an answer.
         NotAReply = PTPM_NOT_A_REPLY,
         /// It is an answer to another manager.
         OtherTarget = PTPM_OTHER_TARGET,

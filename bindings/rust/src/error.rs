@@ -82,7 +82,7 @@ errors! {
     BadLogSync = PTPM_BAD_LOG_SYNC, "a logSyncInterval is -8 to 1";
     BadDelayMechanism = PTPM_BAD_DELAY_MECHANISM, "a delayMechanism is 1, 2 or 0xFE";
     BadLogMinPdelay = PTPM_BAD_LOG_MIN_PDELAY, "a logMinPdelayReqInterval is -8 to 5";
-    NotAnImage = PTPM_NOT_AN_IMAGE, "the octets are no image";
+    NotAnImage = PTPM_NOT_AN_IMAGE, "the octets are not an image";
     OtherVersion = PTPM_OTHER_VERSION, "the image is of another version";
     OtherKind = PTPM_OTHER_KIND, "the image is of something else";
     Damaged = PTPM_DAMAGED, "the image is damaged";
@@ -90,11 +90,11 @@ errors! {
     OtherPorts = PTPM_OTHER_PORTS, "the image is of a clock with another number of ports";
     OtherSession = PTPM_OTHER_SESSION, "the image is of another manager, clock, number of ports or first number";
     OutOfReach = PTPM_OUT_OF_REACH, "32,767 requests were begun since the latest that was answered";
-    NotWords = PTPM_NOT_WORDS, "the last octet is no zero, a word is no UTF-8, or there are over 20";
+    NotWords = PTPM_NOT_WORDS, "the last octet is not a zero, a word is not UTF-8, or there are over 20";
     UnknownId = PTPM_UNKNOWN_ID, "this profile lacks the managementId";
     WordCount = PTPM_WORD_COUNT, "there are more or fewer words than a name and a value for each member";
     OtherName = PTPM_OTHER_NAME, "a word is not the name of the member that comes next";
-    NoValue = PTPM_NO_VALUE, "a word is no value of the member, or no SET has the member";
+    NoValue = PTPM_NO_VALUE, "a word is not a value of the member, or no SET has the member";
     Unsaved = PTPM_UNSAVED, "something is not saved, and this comes only after a save";
     OtherImage = PTPM_OTHER_IMAGE, "not the latest image, or it counted already";
     NoAsker = PTPM_NO_ASKER, "the handle holds no asker";
@@ -107,7 +107,7 @@ errors! {
     NoRollout = PTPM_NO_ROLLOUT, "the handle holds no rollout";
     HasEnded = PTPM_HAS_ENDED, "the journal has an end";
     OutOfTurn = PTPM_OUT_OF_TURN, "the event answers no action that is due";
-    BadSay = PTPM_BAD_SAY, "what a device says is of no kind, has an error that no device gives, or gives what is no dataField";
+    BadSay = PTPM_BAD_SAY, "what a device says is of no kind, has an error that no device gives, or gives what is not a dataField";
 }
 
 /// The number of a call that was done is 0, and every other one an error.

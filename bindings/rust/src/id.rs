@@ -19,7 +19,7 @@ use core::str::FromStr;
 #[repr(transparent)]
 pub struct ManagementId(pub u16);
 
-/// A text that is no managementId.
+/// A text that is not a managementId.
 #[derive(Clone, Copy, Debug, PartialEq, Eq)]
 #[non_exhaustive]
 pub struct UnknownId;

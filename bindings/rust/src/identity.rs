@@ -32,14 +32,14 @@ pub struct PortIdentity {
     pub port: u16,
 }
 
-/// A text is no identity.
+/// A text is not an identity.
 #[derive(Clone, Copy, Debug, PartialEq, Eq)]
 #[non_exhaustive]
 pub struct NoIdentity;
 
 impl fmt::Display for NoIdentity {
     fn fmt(&self, to: &mut fmt::Formatter<'_>) -> fmt::Result {
-        to.write_str("it is no identity, such as aabbccfffeddee01 or aabbcc.fffe.ddee01, with its port aabbccfffeddee01/1")
+        to.write_str("it is not an identity, such as aabbccfffeddee01 or aabbcc.fffe.ddee01, with its port aabbccfffeddee01/1")
     }
 }
 

@@ -103,6 +103,6 @@ refusals! {
     JournalError { NoRoom NoMemory OtherVersion Damaged NoJournal NoRecord NotAllowed JournalWhole }
     /// Why a call of a rollout is refused (`enum ptpm_rolled`).
     RolloutError { NoRoom NoMemory BadValue OtherVersion Damaged NoRollout HasEnded OutOfTurn }
-    /// Why words are no dataField (`enum ptpm_parsed`).
+    /// Why words are not a dataField (`enum ptpm_parsed`).
     ParseError { NoRoom NotWords UnknownId WordCount OtherName NoValue }
 }

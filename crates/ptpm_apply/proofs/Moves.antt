@@ -80,7 +80,7 @@ going_moves : (o x v : RolloutValue) (e : Event) (time : ℕ) → IsAlike o x �
 going_moves o x v e time like (Looks lane h a b c) = moved o x v e (stages.Looking lane) h like.journal
 going_moves o x v e time like (Checks step h a b c) = moved o x v e (stages.Checking step) h like.journal
 going_moves o x v e time like (Reads step h a b c) = moved o x v e (stages.Reading step) h like.journal
-going_moves o x v e time like (Leaves lane h a b c) = subst (λ (y : RolloutValue). IsMove o e y) (sym h) like.journal
+going_moves o x v e time like (Leaves lane h a b c d) = subst (λ (y : RolloutValue). IsMove o e y) (sym h) like.journal
 going_moves o x v e time like (Verifies h a done c d) =
     moved o x v e (stages.Verifying 0) h (like.journal, inl (refl, subst (λ (s : State). AreDone s) like.journal done))
 going_moves o x v e time like (Ends ending step h by a) = ending_moves o x v e time ending step like (read_all o x e ending step like by) h
@@ -183,7 +183,7 @@ heard_moves _ h o v e time octets is fits wanted f = absurd f
 -- ---- what an earlier run left
 
 yields_moves : (o x v : RolloutValue) (e : Event) (lane : ℕ) (changes : Bool) → IsAlike o x → Yields x lane changes v → IsMove o e v
-yields_moves o x v e lane changes like h = moved o x v e (stages.Yielding lane h.0 changes) h.1 like.journal
+yields_moves o x v e lane changes like h = moved o x v e (stages.Yielding lane h.0 changes) h.2 like.journal
 
 sees_moves : (s : Standing) (begun : Option ℕ) (o x v : RolloutValue) (e : Event) (time lane : ℕ) (changes : Bool) → IsAlike o x
     → ((step : ℕ) → begun ≡ Some step → IsBegun o.journal step) → SeesTo time x lane s begun changes v → IsMove o e v

@@ -1,7 +1,8 @@
 -- What comes next in a change of several clocks.
-use Rattle.std.specs.Prelude.{◌≡◌, ◌≢◌, ◌≤◌, ◌<◌, ◌⊎◌, ◌-◌, ℕ, true, false, length, Option, None, Some, slice_get, slice_set, List}
+use Rattle.std.specs.Prelude.{◌≡◌, ◌≢◌, ◌≤◌, ◌<◌, ◌⊎◌, ◌-◌, ℕ, Bool, true, false, length, Option, None, Some, slice_get, slice_set, List}
 use Rattle.ptpm_journal.specs.declared.record.Ending.{Ending}
 use Rattle.ptpm_journal.specs.declared.record.Ending.TheVariants as endings
+use Rattle.ptpm_journal.specs.declared.record.Mark.{Mark}
 use Rattle.ptpm_journal.specs.declared.record.Mark.TheVariants as marks
 use Rattle.ptpm_journal.specs.declared.record.Record.TheVariants as records
 use Rattle.ptpm_journal.specs.Journal.{MayTake, State}
@@ -44,9 +45,20 @@ abbrev pub left_lane : List Lane → ℕ → Option Lane → List Lane
 left_lane lanes lane None = lanes
 left_lane lanes lane (Some l) = slice_set lanes lane (record l { is_left = true })
 
+-- a place without a lane has no mark
+abbrev pub is_left_lane : Option Lane → Bool
+is_left_lane None = true
+is_left_lane (Some l) = l.is_left
+
 -- its mark is gone
 abbrev pub left : RolloutValue → ℕ → RolloutValue
 left o lane = record o { lanes = left_lane o.lanes lane (slice_get o.lanes lane); stage = stages.Leaving lane }
+
+-- the first step that was given up, of the first `count`
+abbrev pub FirstLetGo : List Mark → ℕ → Option ℕ → Type 0
+FirstLetGo ms count None = (step : ℕ) → step < count → slice_get ms step ≡ Some marks.LetGo → ⊥
+FirstLetGo ms count (Some step) = (step < count) × (slice_get ms step ≡ Some marks.LetGo)
+    × ((earlier : ℕ) → earlier < step → slice_get ms earlier ≡ Some marks.LetGo → ⊥)
 
 -- Why a run ends a change of itself. Of the first step that was refused, or answered by another value, that is the end, unless it keeps
 -- going.
@@ -57,7 +69,7 @@ EndsBy o endings.Refused (Some step) = (o.choice ≡ choices.Stop) × (slice_get
 EndsBy o endings.Answered None = ⊥
 EndsBy o endings.Answered (Some step) = (o.choice ≡ choices.Stop) × (slice_get o.journal.marks step ≡ Some marks.Answered)
 EndsBy o endings.Changed step = (step ≡ None) × (o.is_changed ≡ true)
-EndsBy o endings.GivenUp step = o.choice ≡ choices.GiveUp
+EndsBy o endings.GivenUp step = (o.choice ≡ choices.GiveUp) × FirstLetGo o.journal.marks (length o.steps) step
 EndsBy o endings.RolledBack step = ⊥
 EndsBy o endings.Stopped step = ⊥
 EndsBy o endings.InPart step = (step ≡ None) × (o.choice ≡ choices.KeepGoing) × HasNoNext o
@@ -69,6 +81,7 @@ pub data Going (time : ℕ) (o v : RolloutValue) : Type 0 where
   Checks : (step : ℕ) → v ≡ at o (stages.Checking step) → AreSeen o → IsNext o step → IsElsewhere o step → Going time o v
   Reads : (step : ℕ) → v ≡ at o (stages.Reading step) → AreSeen o → IsNext o step → (IsElsewhere o step → ⊥) → Going time o v
   Leaves : (lane : ℕ) → v ≡ left o lane → AreSeen o → o.choice ≡ choices.KeepGoing
+      → is_left_lane (slice_get o.lanes lane) ≡ false
       → ((step : ℕ) → step < length o.steps → IsToCome o lane step → ⊥) → Going time o v
   Verifies : v ≡ at o (stages.Verifying 0) → AreSeen o → AreDone o.journal → o.is_changed ≡ false → 0 < length o.steps → Going time o v
   Ends : (ending : Ending) (step : Option ℕ) → v ≡ ended time o ending step → EndsBy o ending step → AreSeen o → Going time o v

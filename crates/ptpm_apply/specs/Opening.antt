@@ -3,6 +3,9 @@ use Rattle.std.specs.Prelude.{◌≡◌, ◌<◌, ◌+◌, ◌-◌, ℕ, false, 
 use Rattle.ptpm_journal.specs.declared.reading.Next.{Next}
 use Rattle.ptpm_journal.specs.Journal.{State}
 use Rattle.ptpm_journal.specs.Turns.{IsRead}
+use Rattle.ptpm_apply.specs.declared.choice.Choice.{Choice}
+use Rattle.ptpm_apply.specs.declared.choice.Choice.TheVariants as choices
+use Rattle.ptpm_apply.specs.Going.{FirstLetGo}
 use Rattle.ptpm_apply.specs.Rollout.{RolloutValue, clock_in, clock_of, lane_of}
 
 -- before its first record
@@ -14,6 +17,16 @@ pub data AreRead (octets : List ℕ) : ℕ → State → ℕ → Type 0 where
   None_read : AreRead octets 0 no_record 0
   One_more : (place crc later : ℕ) (s t : State) (n : Next) → AreRead octets place s crc
       → IsRead s crc (drop place octets) n t later → AreRead octets (place + n.lead + n.size + 6) t later
+
+-- what is to be done; a change with a step that is given up can only be given up
+abbrev pub chosen : Choice → Option ℕ → Choice
+chosen choice None = choice
+chosen choice (Some step) = choices.GiveUp
+
+pub record IsChosen (o : RolloutValue) (choice : Choice) : Type 0 where
+  pub let_go : Option ℕ
+  pub is_first : FirstLetGo o.journal.marks (length o.steps) let_go
+  pub becomes : o.choice ≡ chosen choice let_go
 
 -- ---- lanes
 

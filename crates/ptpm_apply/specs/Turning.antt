@@ -230,6 +230,38 @@ abbrev pub either : Option ℕ → Option ℕ → Option ℕ
 either None other = other
 either (Some step) other = Some step
 
+-- a step of a lane whose answer is noted, or is not
+abbrev pub IsIn : RolloutValue → ℕ → Bool → ℕ → Type 0
+IsIn o lane told step = (clock_of o step ≡ clock_in o lane) × (is_told o step ≡ told)
+
+-- the first of these
+abbrev pub FirstIn : RolloutValue → ℕ → Bool → Option ℕ → Type 0
+FirstIn o lane told None = (step : ℕ) → step < length o.steps → IsIn o lane told step → ⊥
+FirstIn o lane told (Some step) = (step < length o.steps) × IsIn o lane told step
+    × ((earlier : ℕ) → earlier < step → IsIn o lane told earlier → ⊥)
+
+-- the latest one whose answer is noted
+abbrev pub LatestTold : RolloutValue → ℕ → Option ℕ → Type 0
+LatestTold o lane None = (step : ℕ) → step < length o.steps → IsIn o lane true step → ⊥
+LatestTold o lane (Some step) = (step < length o.steps) × IsIn o lane true step
+    × ((later : ℕ) → step < later → later < length o.steps → IsIn o lane true later → ⊥)
+
+abbrev pub number_at : RolloutValue → Option ℕ → Option ℕ
+number_at o None = None
+number_at o (Some step) = slice_get o.numbers step
+
+abbrev pub domain_at : RolloutValue → Option ℕ → ℕ
+domain_at o None = 0
+domain_at o (Some step) = domain_of o step
+
+-- that of its first step without an answer, or else of its first one
+pub record IsDomainIn (o : RolloutValue) (lane domain : ℕ) : Type 0 where
+  pub untold : Option ℕ
+  pub is_untold : FirstIn o lane false untold
+  pub told : Option ℕ
+  pub is_told : FirstIn o lane true told
+  pub is : domain ≡ domain_at o (either untold told)
+
 abbrev pub target_port : ℕ → ℕ
 target_port port = if port == 0 then 65535 else port
 
@@ -247,7 +279,8 @@ begun_of o (Some step) = begun_by (slice_get o.steps step) (slice_get o.numbers 
 
 -- what became of a step by the image of its session's file
 unfoldable pub standing_at : RolloutValue → Option ℕ → Option ℕ → List ℕ → Standing
-standing_at o step told image = standing_of (record { begun = begun_of o step; told = told }) (option_map in_file_of (session_in image))
+standing_at o step told image =
+    standing_of (record { begun = begun_of o step; told = number_at o told }) (option_map in_file_of (session_in image))
 
 abbrev pub is_get : Action → Bool
 is_get actions.Get = true
@@ -268,9 +301,9 @@ file_changes (Some f) = left_changes f.left
 unfoldable pub may_change : List ℕ → Bool
 may_change image = file_changes (option_map in_file_of (session_in image))
 
--- another program's request is settled in a domain of the clock
+-- another program's request is settled in the domain in which its clock is asked next
 abbrev pub Yields : RolloutValue → ℕ → Bool → RolloutValue → Type 0
-Yields o lane changes v = (domain : ℕ) × (v ≡ at o (stages.Yielding lane domain changes))
+Yields o lane changes v = (domain : ℕ) × IsDomainIn o lane domain × (v ≡ at o (stages.Yielding lane domain changes))
 
 -- the file has the request of a step, or its number
 abbrev pub is_of_step : Standing → Bool
@@ -321,6 +354,7 @@ pub record Found (time : ℕ) (o : RolloutValue) (lane : ℕ) (image : List ℕ)
   pub let_go : Option ℕ
   pub is_let_go : LetGoIn o lane let_go
   pub told : Option ℕ
+  pub is_told : LatestTold o lane told
   pub sees : SeesBy o.choice time (seen_at o lane) lane (standing_at o (either begun let_go) told image) begun (may_change image) v
 
 abbrev pub FoundAt : ℕ → RolloutValue → Stage → List ℕ → RolloutValue → Type 0

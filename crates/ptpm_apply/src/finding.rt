@@ -24,7 +24,7 @@ impl Rollout {
     ghost use Rattle.std.specs.Prelude.{◌≡◌, ◌<◌, ◌≤◌, ◌⊎◌, ◌↔◌, ◌+◌, ℕ, [], IfSome, IfNone, IsTrue, Some, None, false, true, length, slice_get};
     ghost use Rattle.ptpm_journal.specs.declared.record.Mark.{Mark};
     ghost use Rattle.ptpm_apply.specs.Rollout.{IsBegun, clock_in, clock_of};
-    ghost use Rattle.ptpm_apply.specs.Turning.{BegunIn, FoundAt, GivesUp, LetGoIn, SeesTo, Yields, awaits_file, begun_of, either, is_of_step, is_told, standing_at};
+    ghost use Rattle.ptpm_apply.specs.Turning.{BegunIn, FirstIn, FoundAt, GivesUp, IsDomainIn, IsIn, LatestTold, LetGoIn, SeesTo, Yields, awaits_file, begun_of, either, is_of_step, is_told, number_at, standing_at};
 
     pub(crate) fn find(&mut self, time: u64, image: &[u8])
         requires { awaits_file self.old.stage ≡ true }
@@ -35,7 +35,7 @@ impl Rollout {
         };
         let begun = self.begun_in(lane);
         let let_go = self.let_go_in(lane);
-        let standing = self.standing_at(begun.or(let_go), self.told_in(lane), image);
+        let standing = self.standing_at(begun.or(let_go), self.latest_told(lane), image);
         let changes = may_change(image);
         self.seen = lane + 1;
         match self.choice {
@@ -44,14 +44,14 @@ impl Rollout {
         }
     }
 
-    /// What became of a step, by the number of the latest step with an answer and by the image of the session's file.
+    /// What became of a step, by the latest step with an answer and by the image of the session's file.
     #[tactic(auto, unfolding(crate::specs::Turning::standing_at))]
     fn standing_at(&self, step: Option<u16>, told: Option<u16>, image: &[u8]) -> Standing
         ensures { result ≡ standing_at self.now step told image.now }
     {
         let noted = Noted {
             begun: self.begun_of(step),
-            told,
+            told: self.number_at(told),
         };
         find_standing(&noted, image)
     }
@@ -78,6 +78,12 @@ impl Rollout {
         ensures { result ≡ slice_get self.now.numbers step }
     {
         self.numbers.as_slice().get(usize::from(step)).copied()
+    }
+
+    fn number_at(&self, step: Option<u16>) -> Option<u16>
+        ensures { result ≡ number_at self.now step }
+    {
+        self.number_of(step?)
     }
 
     /// The step of a lane that is begun and has no answer.
@@ -119,15 +125,34 @@ impl Rollout {
         self.journal.mark_of(step) == Some(mark)
     }
 
-    /// The number of the latest step of a lane whose answer is noted.
-    pub(crate) fn told_in(&self, lane: u16) -> Option<u16> {
-        let mut told = None;
-        for step in 0..self.step_count() {
-            if self.is_of(step, lane) && self.is_told(step) {
-                told = self.number_of(step);
+    /// The latest step of a lane whose answer is noted.
+    pub(crate) fn latest_told(&self, lane: u16) -> Option<u16>
+        ensures { LatestTold self.now lane result }
+    {
+        for step in (0..self.step_count()).rev() {
+            if self.is_in(step, lane, true) {
+                return Some(step);
             }
         }
-        told
+        None
+    }
+
+    /// The first step of a lane whose answer is noted, or is not.
+    fn first_in(&self, lane: u16, is_told: bool) -> Option<u16>
+        ensures { FirstIn self.now lane is_told result }
+    {
+        for step in 0..self.step_count() {
+            if self.is_in(step, lane, is_told) {
+                return Some(step);
+            }
+        }
+        None
+    }
+
+    fn is_in(&self, step: u16, lane: u16, is_told: bool) -> bool
+        ensures { result ≡ true ↔ IsIn self.now lane is_told step }
+    {
+        self.is_of(step, lane) && self.is_told(step) == is_told
     }
 
     fn is_told(&self, step: u16) -> bool
@@ -227,20 +252,13 @@ impl Rollout {
     }
 
     /// The domain of the first step of a lane without an answer, or else of its first one.
-    fn domain_in(&self, lane: u16) -> u8 {
-        let mut first = None;
-        for step in 0..self.step_count() {
-            if !self.is_of(step, lane) {
-                continue;
-            }
-            if !self.is_told(step) {
-                return self.domain_of(step);
-            }
-            if first.is_none() {
-                first = Some(self.domain_of(step));
-            }
+    fn domain_in(&self, lane: u16) -> u8
+        ensures { IsDomainIn self.now lane result }
+    {
+        match self.first_in(lane, false).or(self.first_in(lane, true)) {
+            Some(step) => self.domain_of(step),
+            None => 0,
         }
-        first.unwrap_or(0)
     }
 }
 

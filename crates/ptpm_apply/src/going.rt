@@ -1,16 +1,20 @@
 //! What comes next in a change of several clocks.
 
+ghost use Rattle.std.specs.Prelude.{◌≤◌, length};
+ghost use Rattle.ptpm_apply.specs.Going.{FirstLetGo};
+
 use crate::action::{Over, Why};
 use crate::choice::Choice;
+use crate::planned::Planned;
 use crate::rollout::Rollout;
 use crate::stage::{Stage, Then};
-use ptpm_journal::{Ending, Mark, Note, Record};
+use ptpm_journal::{Ending, Journal, Mark, Note, Record};
 
 impl Rollout {
     ghost use Rattle.std.specs.Prelude.{◌≡◌, ◌≢◌, ◌<◌, ◌≤◌, ◌⊎◌, ◌↔◌, ℕ, IfSome, IfNone, IsTrue, Some, None, false, true, length, slice_get};
     ghost use Rattle.ptpm_apply.specs.declared.choice.Choice.{Choice};
     ghost use Rattle.ptpm_apply.specs.declared.stage.Stage.{Stage};
-    ghost use Rattle.ptpm_apply.specs.Going.{AreDone, AreSeen, EndsBy, Going, HasNoNext, IsElsewhere, IsNext, IsToCome, left};
+    ghost use Rattle.ptpm_apply.specs.Going.{AreDone, AreSeen, EndsBy, FirstLetGo, Going, HasNoNext, IsElsewhere, IsNext, IsToCome, is_left_lane, left};
     ghost use Rattle.ptpm_apply.specs.Rollout.{CanBegin, is_held_at};
     ghost use Rattle.ptpm_apply.specs.Turning.{BegunAt, CheckedAt, DoneAt, Follows, awaits_check, awaits_done, awaits_number};
 
@@ -111,17 +115,14 @@ impl Rollout {
 
     /// Whether a step of it was begun.
     fn is_touched(&self, lane: u16) -> bool {
-        self.begun_in(lane).is_some() || self.told_in(lane).is_some()
+        self.begun_in(lane).is_some() || self.latest_told(lane).is_some()
     }
 
     /// The first step that was given up.
-    fn first_let_go(&self) -> Option<u16> {
-        for step in 0..self.step_count() {
-            if self.has_mark(step, Mark::LetGo) {
-                return Some(step);
-            }
-        }
-        None
+    fn first_let_go(&self) -> Option<u16>
+        ensures { FirstLetGo self.now.journal.marks (length self.now.steps) result }
+    {
+        first_let_go(&self.journal, self.steps.as_slice())
     }
 
     /// The first fault ends it.
@@ -221,7 +222,8 @@ impl Rollout {
 
     /// The first lane without a step to come, whose mark is there yet.
     fn next_to_leave(&self) -> Option<u16>
-        ensures { IfSome result (λ lane. (step : ℕ) → step < length self.now.steps → IsToCome self.now lane step → ⊥) }
+        ensures marked { IfSome result (λ lane. is_left_lane (slice_get self.now.lanes lane) ≡ false) }
+        ensures over { IfSome result (λ lane. (step : ℕ) → step < length self.now.steps → IsToCome self.now lane step → ⊥) }
     {
         for lane in 0..self.lane_count() {
             if !self.is_left(lane) && !self.has_to_come(lane) {
@@ -231,7 +233,9 @@ impl Rollout {
         None
     }
 
-    fn is_left(&self, lane: u16) -> bool {
+    fn is_left(&self, lane: u16) -> bool
+        ensures { result ≡ is_left_lane (slice_get self.now.lanes lane) }
+    {
         match self.lanes.as_slice().get(usize::from(lane)) {
             Some(lane) => lane.is_left,
             None => true,
@@ -296,4 +300,17 @@ impl Rollout {
             self.stage = Stage::Verifying { step: 0 };
         }
     }
+}
+
+/// The first of these steps that was given up.
+pub(crate) fn first_let_go(journal: &Journal, steps: &[Planned]) -> Option<u16>
+    requires { length steps.now ≤ 65535 }
+    ensures { FirstLetGo journal.now.marks.items (length steps.now) result }
+{
+    for step in 0..steps.len() as u16 {
+        if journal.mark_of(step) == Some(Mark::LetGo) {
+            return Some(step);
+        }
+    }
+    None
 }

@@ -1,16 +1,16 @@
 //! How a change begins, or goes on: with what its journal has.
 
-ghost use Rattle.std.specs.Prelude.{◌≡◌, ◌≤◌, ◌⊎◌, ◌+◌, length, IfOk, IsTrue};
-ghost use Rattle.ptpm_apply.specs.declared.choice.Choice.{Choice};
+ghost use Rattle.std.specs.Prelude.{◌≡◌, ◌≤◌, ◌+◌, length, IfOk, IsTrue};
 ghost use Rattle.ptpm_journal.specs.State.{state_of};
-ghost use Rattle.ptpm_apply.specs.Opening.{AreRead, IsBelow};
+ghost use Rattle.ptpm_apply.specs.Opening.{AreRead, IsBelow, chosen};
 
 use crate::choice::{Choice, OpenError};
+use crate::going::first_let_go;
 use crate::lane::Lane;
 use crate::planned::Planned;
 use crate::rollout::Rollout;
 use crate::stage::Stage;
-use ptpm_journal::{Journal, Mark, Next, NextError, Note, RECORD_OCTETS, Record};
+use ptpm_journal::{Journal, Next, NextError, Note, RECORD_OCTETS, Record};
 use std::alloc::{AllocError, Global};
 
 /// How many octets frame a record's body.
@@ -30,11 +30,10 @@ struct Reading {
 }
 
 impl Rollout {
-    ghost use Rattle.std.specs.Prelude.{◌≡◌, ◌⊎◌, false, true, IfOk, IsTrue};
+    ghost use Rattle.std.specs.Prelude.{◌≡◌, false, true, IfOk, IsTrue};
     ghost use Rattle.ptpm_journal.specs.Journal.{goes_on};
-    ghost use Rattle.ptpm_apply.specs.declared.choice.Choice.{Choice};
     ghost use Rattle.ptpm_apply.specs.declared.stage.Stage.{Stage};
-    ghost use Rattle.ptpm_apply.specs.Opening.{AreApart, AreCovered, AreRead};
+    ghost use Rattle.ptpm_apply.specs.Opening.{AreApart, AreCovered, AreRead, IsChosen};
 
     /// A change with the journal that a file has, and how many octets of it were written whole. It is refused for the first reason that holds.
     /// If a step is given up, the change can only be given up.
@@ -44,7 +43,7 @@ impl Rollout {
         ensures fresh { IfOk result (λ r. (r.0.stage ≡ Stage.Fresh) × (r.0.seen ≡ 0) × (r.0.is_changed ≡ false)) }
         ensures covered { IfOk result (λ r. AreCovered r.0) }
         ensures apart { IfOk result (λ r. AreApart r.0) }
-        ensures choice { IfOk result (λ r. (r.0.choice ≡ choice) ⊎ (r.0.choice ≡ Choice.GiveUp)) }
+        ensures choice { IfOk result (λ r. IsChosen r.0 choice) }
     {
         let reading = read(alloc, octets)?;
         let Reading {
@@ -62,7 +61,7 @@ impl Rollout {
         if steps.len() > STEPS || lanes.len() > STEPS {
             return Err(OpenError::Damaged);
         }
-        let choice = choice_of(choice, has_let_go(&journal, steps.len() as u16));
+        let choice = choice_of(choice, first_let_go(&journal, steps.as_slice()));
         let Ok(room) = vec![in alloc; 0; RECORD_OCTETS] else {
             return Err(OpenError::OutOfMemory);
         };
@@ -112,10 +111,13 @@ impl Rollout {
 }
 
 /// What is to be done. If a step is given up, that is all that can be done.
-fn choice_of(choice: Choice, has_let_go: bool) -> Choice
-    ensures { (result ≡ choice) ⊎ (result ≡ Choice.GiveUp) }
+fn choice_of(choice: Choice, let_go: Option<u16>) -> Choice
+    ensures { result ≡ chosen choice let_go }
 {
-    if has_let_go { Choice::GiveUp } else { choice }
+    match let_go {
+        Some(_) => Choice::GiveUp,
+        None => choice,
+    }
 }
 
 fn is_below(one: Option<u64>, other: Option<u64>) -> bool
@@ -205,32 +207,17 @@ fn take(
     Ok(())
 }
 
-fn has_let_go(journal: &Journal, count: u16) -> bool {
-    for step in 0..count {
-        if journal.mark_of(step) == Some(Mark::LetGo) {
-            return true;
-        }
-    }
-    false
-}
-
 /// The clocks of steps, each once, in the order of their identities.
 fn lanes_of(alloc: Global, steps: &[Planned]) -> Result<Vec<Lane>, AllocError> {
-    let mut clocks = Vec::new(alloc);
+    let mut lanes: Vec<Lane> = Vec::new(alloc);
     for step in steps {
-        clocks.push(step.clock)?;
-    }
-    clocks.sort()?;
-    let mut lanes = Vec::new(alloc);
-    let mut latest = None;
-    for clock in &clocks {
-        if latest != Some(*clock) {
-            lanes.push(Lane {
-                clock: *clock,
+        if let Err(place) = lanes.binary_search_by_key(&step.clock, |lane| lane.clock) {
+            let lane = Lane {
+                clock: step.clock,
                 is_held: false,
                 is_left: false,
-            })?;
-            latest = Some(*clock);
+            };
+            lanes.insert(place, lane)?;
         }
     }
     Ok(lanes)

@@ -1,11 +1,11 @@
 //! The calls of a rollout for hosts in C, each one of `ptpm_apply`.
 
-ghost use Rattle.std.specs.Prelude.{◌≡◌, ◌≢◌, ◌≤◌, ◌++◌, ◌↔◌, ◌⊎◌, IsSomeAnd, None, Some, drop, false, length, true};
+ghost use Rattle.std.specs.Prelude.{◌≡◌, ◌≢◌, ◌≤◌, ◌++◌, ◌↔◌, IsSomeAnd, None, Some, drop, false, length, true};
 ghost use Rattle.ptpm_journal.specs.Journal.{goes_on};
 ghost use Rattle.ptpm_apply.specs.declared.choice.Choice.{Choice};
 ghost use Rattle.ptpm_apply.specs.declared.event.Event.{Event};
 ghost use Rattle.ptpm_apply.specs.declared.stage.Stage.{Stage};
-ghost use Rattle.ptpm_apply.specs.Opening.{AreApart, AreCovered, AreRead};
+ghost use Rattle.ptpm_apply.specs.Opening.{AreApart, AreCovered, AreRead, IsChosen};
 ghost use Rattle.ptpm_apply.specs.Rollout.{RolloutValue};
 ghost use Rattle.ptpm_apply.specs.Turning.{Turned, action_of, answers};
 ghost use Rattle.ptpm_host.specs.Numbers.{no_room};
@@ -35,7 +35,7 @@ pub extern "C" fn ptpm_rollout_open(
         → IsSomeAnd (rollout_held handle.new.keeping)
         (λ r. AreRead journal.now whole.new r.journal r.crc × (goes_on r.journal ≡ true)
         × (r.stage ≡ Stage.Fresh) × (r.seen ≡ 0) × (r.is_changed ≡ false) × AreCovered r × AreApart r
-        × ((r.choice ≡ c) ⊎ (r.choice ≡ Choice.GiveUp))) }
+        × IsChosen r c) }
     ensures no_choice { choice_of choice ≡ None → result ≡ no_choice }
     ensures unchanged { result ≢ 0 → (whole.new ≡ 0) × (held handle.new.keeping ≡ held handle.old.keeping) }
 {

@@ -12,5 +12,5 @@ mod reasons;
 
 pub use cause::{Cause, named};
 pub use causes::causes_of;
-pub use kind::{Kind, KindRow, Severity, not_judged};
+pub use kind::{Course, Kind, KindRow, Severity, not_judged};
 pub use momentary::leave_out_momentary;

@@ -10,6 +10,7 @@ use ptpm_commands::make::{make, make_with_members};
 use ptpm_commands::show::{show_as, show_good_lines_as, show_lines_as};
 use ptpm_commands::{Fault, tell};
 use ptpm_draw::draw;
+use ptpm_monitor::monitor_site;
 use ptpm_schedule::schedule;
 use ptpm_site_report::findings;
 use ptpm_world::{ScriptError, check_script, run_script};
@@ -21,9 +22,9 @@ use std::rt::Files;
 /// Does what the words say, and answers the exit status. The first word is the program's name. 0: it was done.
 /// 1: a fault, with the line `ptpm: FAULT` on `err`, or `check` wrote faults on `out`. 2: the words were refused,
 /// with the reason on `err`. `plan` answers 1 if something can't be set, 2 if its file is refused, and 3 if something is not
-/// reached. `site` answers 1 if it found something, and 3 if no clock answered. With
+/// reached. `site` and `monitor` answer 1 if they found something, and 3 if no clock answered. With
 /// `--nagios` it answers as a plugin of Nagios: 3 at a fault and if the words were refused, too. What `err` does changes nothing.
-/// Only `run`, `check`, `schedule`, `draw`, `site`, `plan` and the option `--lines` read.
+/// Only `run`, `check`, `schedule`, `draw`, `site`, `monitor`, `plan` and the option `--lines` read.
 /// Whatever was written on `out` is flushed, at a fault too.
 pub fn command<F: Files, R: Read, O: Write, E: Write>(
     alloc: Global,
@@ -154,6 +155,7 @@ fn carry_out<F: Files, R: Read, O: Write, E: Write>(
         Task::Schedule(chances) => played(schedule(alloc, chances, reader, out, err)),
         Task::Draw(chosen) => played(draw(alloc, chosen, reader, out)),
         Task::Site(words) => Ok(show_site(alloc, files, &words, reader, out, err)?),
+        Task::Monitor(settings) => Ok(monitor_site(alloc, files, &settings, reader, out, err)?),
         Task::Plan(words) => Ok(plan(alloc, files, words, reader, out, err)?),
         Task::Check => check(alloc, reader, out),
     }

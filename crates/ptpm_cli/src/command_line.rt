@@ -23,6 +23,7 @@ pub(crate) enum Subcommand {
     Schedule,
     Draw,
     Site,
+    Monitor,
     Findings,
     Plan,
 }
@@ -156,7 +157,8 @@ static DRAW: [Argument; 2] = [
     ),
 ];
 
-static SITE: [Argument; 16] = [
+/// What says how a look at a site is judged and shown.
+static LOOK: [Argument; 14] = [
     JSON,
     Argument("draw", Nothing, "Draws the tree, as a picture in SVG"),
     Argument(
@@ -173,11 +175,6 @@ static SITE: [Argument; 16] = [
         "nagios",
         Nothing,
         "Prints a line for Nagios or Icinga, and ends with the status of a plugin",
-    ),
-    Argument(
-        "write-expect",
-        Nothing,
-        "Prints the inventory of the site as it is, for --expect",
     ),
     Argument(
         "max-offset",
@@ -224,10 +221,57 @@ static SITE: [Argument; 16] = [
         Text("FILE"),
         "What is not as the inventory in FILE says is a finding",
     ),
+];
+
+static SITE: [Argument; 2] = [
+    Argument(
+        "write-expect",
+        Nothing,
+        "Prints the inventory of the site as it is, for --expect",
+    ),
     Argument(
         "before",
         Text("FILE"),
         "What may be there only for a moment counts if the lines in FILE, of the look before, show it too",
+    ),
+];
+
+static MONITOR: [Argument; 8] = [
+    Argument(
+        "hops",
+        NumberElse(U8, "7"),
+        "A request is passed on by N boundary clocks at first",
+    ),
+    Argument(
+        "as-far-as-named",
+        Nothing,
+        "It is passed on by no more, even if a clock may be after the last one",
+    ),
+    Argument(
+        "once",
+        Nothing,
+        "What may pass is not looked at a second time",
+    ),
+    Argument(
+        "for",
+        Number("MS", U64),
+        "Looks again for MS milliseconds, and shows what all these looks find",
+    ),
+    Argument(
+        "watch",
+        Number("MS", U64),
+        "Looks again and again, MS milliseconds after each look",
+    ),
+    Argument(
+        "forget",
+        Number("MS", U64),
+        "Forgets a clock that is gone after MS milliseconds, a day if it is not given",
+    ),
+    Argument("colour", Nothing, "The lines of findings have colours"),
+    Argument(
+        "replace",
+        Nothing,
+        "What is printed takes the place of what was printed before",
     ),
 ];
 
@@ -262,6 +306,12 @@ static PLAN_GROUPS: [Group; 2] = [
     Group("printed", &["asks", "status-if-changes"], false),
 ];
 
+static MONITOR_GROUPS: [Group; 1] = [Group(
+    "forms",
+    &["json", "draw", "html", "openmetrics", "nagios"],
+    false,
+)];
+
 static SITE_GROUPS: [Group; 1] = [Group(
     "forms",
     &[
@@ -276,7 +326,7 @@ static SITE_GROUPS: [Group; 1] = [Group(
 )];
 
 impl Subcommand {
-    const ALL: [Subcommand; 11] = [
+    const ALL: [Subcommand; 12] = [
         Subcommand::Answer,
         Subcommand::Show,
         Subcommand::Ids,
@@ -286,6 +336,7 @@ impl Subcommand {
         Subcommand::Schedule,
         Subcommand::Draw,
         Subcommand::Site,
+        Subcommand::Monitor,
         Subcommand::Findings,
         Subcommand::Plan,
     ];
@@ -301,6 +352,7 @@ impl Subcommand {
             Subcommand::Schedule => "schedule",
             Subcommand::Draw => "draw",
             Subcommand::Site => "site",
+            Subcommand::Monitor => "monitor",
             Subcommand::Findings => "findings",
             Subcommand::Plan => "plan",
         }
@@ -330,6 +382,8 @@ impl Subcommand {
                 "Draws what happens in the script on standard input, as a picture in SVG",
             Subcommand::Site =>
                 "Shows a site at a glance, by the answers of its clocks on standard input, a datagram a line",
+            Subcommand::Monitor =>
+                "Looks at a site by a host program, to which it says on standard output what to do",
             Subcommand::Findings => "Prints the table of what site may find",
             Subcommand::Plan =>
                 "Shows what a file would change at the clocks whose answers are on standard input, a datagram a line",
@@ -344,8 +398,17 @@ impl Subcommand {
             Subcommand::Schedule => &SCHEDULE,
             Subcommand::Draw => &DRAW,
             Subcommand::Site => &SITE,
+            Subcommand::Monitor => &MONITOR,
             Subcommand::Plan => &PLAN,
             Subcommand::Ids | Subcommand::Run | Subcommand::Check | Subcommand::Findings => &[],
+        }
+    }
+
+    /// Those that it takes before them, as another does too.
+    fn shared_arguments(self) -> &'static [Argument] {
+        match self {
+            Subcommand::Site | Subcommand::Monitor => &LOOK,
+            _ => &[],
         }
     }
 
@@ -356,6 +419,7 @@ impl Subcommand {
             Subcommand::Show => &SHOW_GROUPS,
             Subcommand::Make => &[Group("values", &["VALUE", "member"], false)],
             Subcommand::Site => &SITE_GROUPS,
+            Subcommand::Monitor => &MONITOR_GROUPS,
             Subcommand::Plan => &PLAN_GROUPS,
             _ => &[],
         }
@@ -387,6 +451,7 @@ fn with_subcommands<'a>(alloc: Global, mut ptpm: Command<'a>) -> Result<Command<
 
 fn command_of<'a>(alloc: Global, subcommand: Subcommand) -> Result<Command<'a>, AllocError> {
     let command = described(alloc, subcommand.name(), subcommand.about());
+    let command = with_arguments(alloc, command, subcommand.shared_arguments())?;
     let command = with_arguments(alloc, command, subcommand.arguments())?;
     with_groups(alloc, command, subcommand.groups())
 }

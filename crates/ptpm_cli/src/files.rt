@@ -8,9 +8,6 @@ use std::{fs, io};
 /// No more is read of a plan file: one octet more than it may have, so that a longer one is refused.
 pub(crate) const MOST_PLAN: u64 = 262_145;
 
-/// The same of an inventory.
-pub(crate) const MOST_INVENTORY: u64 = 16_777_217;
-
 /// The first octets of a file.
 pub(crate) fn read_file<F: Files>(
     alloc: Global,

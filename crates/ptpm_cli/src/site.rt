@@ -1,19 +1,17 @@
 //! `ptpm site` at the command line.
 
-use crate::files::{MOST_INVENTORY, read_file};
 use ptpm_commands::Fault;
 use ptpm_expected::expectations::Expectations;
 use ptpm_expected::inventory::Inventory;
-use ptpm_expected::inventory_fault::InventoryFault;
-use ptpm_expected::inventory_file::read_inventory;
 use ptpm_expected::profile::Profile;
+use ptpm_monitor::inventory_at;
 use ptpm_site_report::ignored::Ignored;
 use ptpm_site_report::names::Names;
 use ptpm_site_report::{Before, Form, Options, Viewing, report, write_inventory};
 use std::alloc::Global;
+use std::fs;
 use std::io::{Read, Write};
 use std::rt::Files;
-use std::{fs, io};
 
 /// What `site` is asked for.
 #[derive(Drop)]
@@ -73,31 +71,6 @@ pub(crate) fn show_site<F: Files, R: Read, O: Write, E: Write>(
     show(alloc, words, &known, reader, out)
 }
 
-/// The inventory at a path. If there is none, `err` has a line that says why.
-fn inventory_at<F: Files, E: Write>(
-    alloc: Global,
-    files: &F,
-    path: &str,
-    err: &mut E,
-) -> Result<Option<Inventory>, Fault> {
-    let text = match read_file(alloc, files, path, MOST_INVENTORY) {
-        Ok(text) => text,
-        Err(error) if error.kind() == io::ErrorKind::OutOfMemory => return Err(Fault::OutOfMemory),
-        Err(error) => {
-            let _ = writeln!(err, "{path}: {error}");
-            return Ok(None);
-        }
-    };
-    match read_inventory(alloc, text.as_slice()) {
-        Ok(inventory) => Ok(Some(inventory)),
-        Err(InventoryFault::OutOfMemory) => Err(Fault::OutOfMemory),
-        Err(fault) => {
-            let _ = writeln!(err, "{path}: {fault}");
-            Ok(None)
-        }
-    }
-}
-
 /// The look whose lines are at a path. If there is none, `err` has a line that says why.
 fn look_at<F: Files, E: Write>(
     alloc: Global,
@@ -154,6 +127,7 @@ fn show<R: Read, O: Write>(
         ignored: &words.ignored,
         is_all: words.is_all,
         before: known.before.as_ref(),
+        tells_momentary: true,
     };
     let options = match words.shown {
         Shown::InForm(options) => options,

@@ -10,6 +10,7 @@ use ptpm_commands::make::RequestWords;
 use ptpm_commands::show::Values;
 use ptpm_draw::Chosen;
 use ptpm_expected::profile::Profile;
+use ptpm_monitor::{Judging, Settings, Times};
 use ptpm_plan::{PlanForm, PlanOptions};
 use ptpm_schedule::Chances;
 use ptpm_site::judging::limits::Limits;
@@ -27,6 +28,12 @@ const TAI_UTC: i16 = 37;
 
 /// How many seconds a port may take to settle without `--settle` (this project's profile).
 const SETTLE: u32 = 10;
+
+/// How many milliseconds a clock is gone without `--forget`.
+const FORGET: u64 = 86_400_000;
+
+/// The findings that say what differs from the look before.
+const CHANGES: &str = "changed,grandmaster_changed";
 
 /// What the words ask for.
 pub(crate) enum Task<'a> {
@@ -51,6 +58,8 @@ pub(crate) enum Task<'a> {
     Plan(PlanWords<'a>),
     /// `site`, with answers on standard input.
     Site(SiteWords<'a>),
+    /// `monitor`, with a host that answers on standard input.
+    Monitor(Settings<'a>),
 }
 
 /// What `answer` or `show` takes.
@@ -131,6 +140,7 @@ fn task_of<'a>(alloc: Global, matches: &ArgMatches<'a>) -> Result<Task<'a>, NoTa
         Subcommand::Schedule => Ok(Task::Schedule(chances(values).ok_or(NoCommand)?)),
         Subcommand::Draw => Ok(Task::Draw(chosen(values).ok_or(NoCommand)?)),
         Subcommand::Site => Ok(Task::Site(site_words(alloc, values)?)),
+        Subcommand::Monitor => Ok(Task::Monitor(monitor_settings(alloc, values)?)),
         Subcommand::Findings => Ok(Task::Findings),
         Subcommand::Plan => Ok(Task::Plan(plan_words(values).ok_or(NoCommand)?)),
     }
@@ -234,6 +244,42 @@ fn site_words<'a>(alloc: Global, values: &ArgMatches<'a>) -> Result<SiteWords<'a
         profile: site_profile(values)?,
         expect: values.get_str("expect"),
         before: values.get_str("before"),
+        is_all: values.get_flag("all"),
+    })
+}
+
+fn monitor_settings<'a>(alloc: Global, values: &ArgMatches<'a>) -> Result<Settings<'a>, NoTask> {
+    Ok(Settings {
+        judging: look_judging(alloc, values)?,
+        times: Times {
+            watch: values.get_one("watch"),
+            duration: values.get_one("for").unwrap_or(0),
+            forget: values.get_one("forget").unwrap_or(FORGET),
+        },
+        hops: values.get_one("hops").ok_or(NoCommand)?,
+        is_as_far_as_named: values.get_flag("as-far-as-named"),
+        is_once: values.get_flag("once"),
+        is_coloured: values.get_flag("colour"),
+        replaces: values.get_flag("replace"),
+    })
+}
+
+/// How the looks of `monitor` are judged and shown.
+fn look_judging<'a>(alloc: Global, values: &ArgMatches<'a>) -> Result<Judging<'a>, NoTask> {
+    let mut ignored_at_first = site_ignored(alloc, values)?;
+    if !ignored_at_first.add(CHANGES)? {
+        return Err(NoTask::BadFinding);
+    }
+    Ok(Judging {
+        options: Options {
+            form: site_form(values),
+            limits: site_limits(values)?,
+        },
+        names: site_names(alloc, values)?,
+        profile: site_profile(values)?,
+        expect: values.get_str("expect"),
+        ignored: site_ignored(alloc, values)?,
+        ignored_at_first,
         is_all: values.get_flag("all"),
     })
 }

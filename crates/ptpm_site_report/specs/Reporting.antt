@@ -31,6 +31,11 @@ status outcomes.Sound = 0
 status outcomes.Findings = 1
 status outcomes.NoClock = 3
 
+-- of a form whose numbers have the findings
+abbrev pub status_of_numbers : Conclusion → ℕ
+status_of_numbers outcomes.NoClock = 3
+status_of_numbers _ = 0
+
 -- ---- the findings that are shown
 
 -- --ignore has its name
@@ -77,6 +82,12 @@ standing_by (Some severities.Critical) = standings.Critical
 abbrev pub standing : List Source → List Remark → Standing
 standing [] found = standings.Unknown
 standing (s ∷ ss) found = standing_by (worst found)
+
+abbrev pub plugin_status : Standing → ℕ
+plugin_status standings.Sound = 0
+plugin_status standings.Warning = 1
+plugin_status standings.Critical = 2
+plugin_status standings.Unknown = 3
 
 -- as a form says it
 abbrev pub concluded : Standing → Conclusion

@@ -3,8 +3,9 @@
 pub(crate) mod finding;
 pub(crate) mod members;
 
+use crate::finding::found_line::FoundLine;
 use crate::finding::remarks::Remark;
-use crate::json::finding::finding_value;
+use crate::json::finding::found_object;
 use crate::json::members::Members;
 use crate::look::Look;
 use crate::names::Names;
@@ -37,27 +38,27 @@ use std::io::Write;
 use std::{fmt, io};
 
 /// Prints one object: what was asked and when, the domains with their clocks, what is open, and the findings. Last is what is not judged,
-/// and how much was left out.
+/// and how much was left out. Answers the objects of the findings.
 pub(crate) fn print_object<O: Write>(
     alloc: Global,
     look: &Look<'_, '_>,
     out: &mut O,
-) -> Result<(), Fault> {
+) -> Result<Vec<FoundLine>, Fault> {
     let picture = look.picture;
     print_head(look, out)?;
     print_domains(alloc, look, out)?;
-    if let Some(count) = look.beside.momentary {
+    if let Some(count) = look.momentary() {
         writeln!(out, "\"momentary\":{count},")?;
     }
-    print_findings(alloc, look, "open", look.open.as_slice(), out)?;
-    print_findings(alloc, look, "findings", look.found.as_slice(), out)?;
+    let _ = print_findings(alloc, look, "open", look.open.as_slice(), out)?;
+    let found = print_findings(alloc, look, "findings", look.found.as_slice(), out)?;
     print_lacks(picture.lacks.as_slice(), out)?;
     let (clocks, ports) = (picture.left_out.clocks, picture.left_out.ports);
     writeln!(
         out,
         "\"leftOut\":{{\"clocks\":{clocks},\"ports\":{ports}}}}}"
     )?;
-    Ok(())
+    Ok(found)
 }
 
 /// Prints when the datagrams came, and in which domains the clocks were asked.
@@ -196,23 +197,25 @@ fn put_time(members: &mut Members, time: &TimePropertiesDataSet) -> Result<(), A
     members.put(DataSet(TimeSource).name(), source)
 }
 
-/// Prints the member with the findings, or with what is open.
+/// Prints the member with the findings, or with what is open. Answers the objects.
 fn print_findings<O: Write>(
     alloc: Global,
     look: &Look<'_, '_>,
     name: &str,
     remarks: &[Remark<'_>],
     out: &mut O,
-) -> Result<(), Fault> {
+) -> Result<Vec<FoundLine>, Fault> {
     write!(out, "\"{name}\":[")?;
+    let mut objects = Vec::new(alloc);
     let mut between = "\n";
     for remark in remarks {
-        write!(out, "{between}")?;
-        print_value(alloc, &finding_value(alloc, look, remark)?, out)?;
+        let object = found_object(alloc, look, remark)?;
+        write!(out, "{between}{}", object.whole)?;
+        objects.push(object).map_err(AllocError::from)?;
         between = ",\n";
     }
     writeln!(out, "],")?;
-    Ok(())
+    Ok(objects)
 }
 
 /// Prints the member with what lines lack, each with the findings that are not judged for that.

@@ -18,8 +18,9 @@ mod text;
 mod trees;
 mod utc_text;
 
+pub use finding::found_line::FoundLine;
 pub use finding::table::findings;
 pub use monitoring::nagios::Standing;
 pub use reading::before::Before;
-pub use reporting::{Came, Conclusion, Form, Options, Viewing, report};
+pub use reporting::{Came, Conclusion, Form, Options, Told, Viewing, report};
 pub use text::inventory::write_inventory;

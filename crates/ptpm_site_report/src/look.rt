@@ -36,6 +36,8 @@ pub(crate) struct Beside<'a> {
     pub(crate) is_all: bool,
     /// How many findings the look before lacks, and so are left out. `None` if no look before was given.
     pub(crate) momentary: Option<usize>,
+    /// Whether it is printed how many that are.
+    pub(crate) tells_momentary: bool,
 }
 
 impl<'a, 'b> Look<'a, 'b> {
@@ -81,6 +83,15 @@ impl Look<'_, '_> {
         match clock_of(finding) {
             Some(_) => Quoted(self.called(finding.source)),
             None => Quoted(None),
+        }
+    }
+
+    /// How many findings are left out since the look before lacks them, if that is printed.
+    pub(crate) fn momentary(&self) -> Option<usize> {
+        if self.beside.tells_momentary {
+            self.beside.momentary
+        } else {
+            None
         }
     }
 

@@ -5,8 +5,9 @@ ghost use Rattle.ptpm_causes.specs.Roots.{IsRoot};
 ghost use Rattle.ptpm_site.specs.declared.judging.finding.Finding.{Finding};
 ghost use Rattle.ptpm_site.specs.declared.picture.Picture.{Picture};
 ghost use Rattle.ptpm_site.specs.declared.reading.site.Site.{Site};
-ghost use Rattle.ptpm_site_report.specs.Reporting.{AreConcluded, IsShown, outcome, status};
+ghost use Rattle.ptpm_site_report.specs.Reporting.{AreConcluded, IsShown, outcome, status, status_of_numbers};
 
+use crate::finding::found_line::FoundLine;
 use crate::ignored::Ignored;
 use crate::json::print_object;
 use crate::look::{Beside, Look};
@@ -18,11 +19,13 @@ use crate::page::print_page;
 use crate::reading::before::Before;
 use crate::reading::site_lines::{LinesSaid, SiteLines, read_shown};
 use crate::text::print_text;
+use ptpm_causes::Kind;
 use ptpm_commands::Fault;
 use ptpm_expected::expectations::Judge;
 use ptpm_site::judging::finding::Finding;
 use ptpm_site::judging::limits::Limits;
 use ptpm_site::picture::Picture;
+use ptpm_site::reading::left_out::LeftOut;
 use std::alloc::{AllocError, Global};
 use std::io::{Read, Write};
 
@@ -63,7 +66,9 @@ pub enum Conclusion {
 
 impl Conclusion {
     /// The exit status of a form whose numbers have the findings: these change no status.
-    pub fn status_of_numbers(self) -> u8 {
+    pub fn status_of_numbers(self) -> u8
+        ensures { result ≡ status_of_numbers self }
+    {
         match self {
             Conclusion::Sound | Conclusion::Findings => 0,
             Conclusion::NoClock => self.status(),
@@ -92,6 +97,8 @@ pub struct Viewing<'a, 'b> {
     pub is_all: bool,
     /// The look before. What may be there only for a moment counts if that has it too.
     pub before: Option<&'b Before>,
+    /// Whether it is printed how many findings the look before lacks.
+    pub tells_momentary: bool,
 }
 
 impl Viewing<'_, '_> {
@@ -116,10 +123,23 @@ impl Viewing<'_, '_> {
 }
 
 /// What came of a site, and how a plugin says it.
-#[derive(Clone, Copy)]
+#[derive(Drop)]
 pub struct Came {
     pub conclusion: Conclusion,
     pub standing: Standing,
+    pub told: Told,
+}
+
+/// What is known of a site for whoever looks at it again.
+#[derive(Drop)]
+pub struct Told {
+    /// The findings as a text or as JSON has them. Another form has none.
+    pub lines: Vec<FoundLine>,
+    /// The names of what is open.
+    pub open: Vec<Kind>,
+    /// How many findings the look before lacks, and so are left out.
+    pub momentary: usize,
+    pub left_out: LeftOut,
 }
 
 /// Prints the site of a reader's lines, as its judge has it and as an operator wants to see it.
@@ -162,6 +182,7 @@ fn print_judged<O: Write, J: Judge>(
         said,
         is_all: viewing.is_all,
         momentary: viewing.leave_out(alloc, options.limits, judge, &mut picture)?,
+        tells_momentary: viewing.tells_momentary,
     };
     let came = print_picture(alloc, options, &picture, beside, out)?;
     Ok(came)
@@ -178,13 +199,26 @@ fn print_picture<O: Write>(
     ensures { IfOk result (AreConcluded picture.now.forest.sources.items picture.now.findings.items) }
 {
     let look = Look::of(alloc, picture, beside)?;
-    print_look(alloc, options, &look, out)?;
-    Ok(came_of(&look))
+    let lines = print_look(alloc, options, &look, out)?;
+    let told = told_of(alloc, &look, lines)?;
+    Ok(came_of(&look, told))
+}
+
+fn told_of(alloc: Global, look: &Look<'_, '_>, lines: Vec<FoundLine>) -> Result<Told, AllocError> {
+    let mut open = Vec::new(alloc);
+    for remark in look.open.as_slice() {
+        open.push(remark.named.kind)?;
+    }
+    Ok(Told {
+        lines,
+        open,
+        momentary: look.beside.momentary.unwrap_or(0),
+        left_out: look.picture.left_out,
+    })
 }
 
 /// What came of a site that is shown.
-#[tactic(auto, using(crate::proofs::Shown::agree))]
-fn came_of(look: &Look<'_, '_>) -> Came
+fn came_of(look: &Look<'_, '_>, told: Told) -> Came
     requires findings { map (λ r. r.finding.now) look.now.found.items ≡ look.now.picture.now.findings.items }
     requires printed { 0 < length look.now.found.items → (place : ℕ) × IsRoot (map (λ r. r.cause) look.now.found.items) place }
     ensures { AreConcluded look.now.picture.now.forest.sources.items look.now.picture.now.findings.items result }
@@ -192,23 +226,26 @@ fn came_of(look: &Look<'_, '_>) -> Came
     Came {
         conclusion: outcome_of(look.picture),
         standing: Standing::of(look),
+        told,
     }
 }
 
+/// Prints a site. Answers the lines of the findings of a text, or their objects.
 fn print_look<O: Write>(
     alloc: Global,
     options: Options,
     look: &Look<'_, '_>,
     out: &mut O,
-) -> Result<(), Fault> {
+) -> Result<Vec<FoundLine>, Fault> {
     match options.form {
-        Form::Text => print_text(alloc, look, out),
-        Form::Json => print_object(alloc, look, out),
-        Form::Drawing => draw(alloc, look, out),
-        Form::Page => print_page(alloc, look, out),
-        Form::OpenMetrics => print_metrics(alloc, look, out),
-        Form::Plugin => print_plugin(alloc, look, options.limits.offset, out),
+        Form::Text => return print_text(alloc, look, out),
+        Form::Json => return print_object(alloc, look, out),
+        Form::Drawing => draw(alloc, look, out)?,
+        Form::Page => print_page(alloc, look, out)?,
+        Form::OpenMetrics => print_metrics(alloc, look, out)?,
+        Form::Plugin => print_plugin(alloc, look, options.limits.offset, out)?,
     }
+    Ok(Vec::new(alloc))
 }
 
 /// What came of a site that is judged.

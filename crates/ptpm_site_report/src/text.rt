@@ -5,6 +5,7 @@ pub(crate) mod grandmaster_line;
 pub(crate) mod inventory;
 pub(crate) mod ports;
 
+use crate::finding::found_line::FoundLine;
 use crate::finding::report::FindingReport;
 use crate::look::Look;
 use crate::not_judged::NotJudged;
@@ -17,12 +18,12 @@ use std::alloc::Global;
 use std::io;
 use std::io::Write;
 
-/// Prints what was asked, the tree of each domain, the findings, and what is not judged.
+/// Prints what was asked, the tree of each domain, the findings, and what is not judged. Answers the lines of the findings.
 pub(crate) fn print_text<O: Write>(
     alloc: Global,
     look: &Look<'_, '_>,
     out: &mut O,
-) -> Result<(), Fault> {
+) -> Result<Vec<FoundLine>, Fault> {
     writeln!(out, "{}", look.asked_text())?;
     let trees = trees_of(alloc, look)?;
     for tree in trees.as_slice() {
@@ -31,10 +32,10 @@ pub(crate) fn print_text<O: Write>(
     let report = FindingReport::of(alloc, look)?;
     if !look.picture.site.is_empty() || !look.found.is_empty() {
         writeln!(out, "{}", report.sum)?;
-        report.print(look, out)?;
     }
+    let lines = report.print(alloc, look, out)?;
     print_momentary(look, out)?;
-    report.print_open(look, out)?;
+    report.print_open(alloc, look, out)?;
     let notes = notes_of(alloc, look.picture)?;
     for note in notes.as_slice() {
         writeln!(out, "{note}")?;
@@ -42,12 +43,12 @@ pub(crate) fn print_text<O: Write>(
     for lack in look.picture.lacks.as_slice() {
         writeln!(out, "{}", NotJudged(*lack))?;
     }
-    Ok(())
+    Ok(lines)
 }
 
 /// Prints how many findings are left out, since the look before lacks them.
 fn print_momentary<O: Write>(look: &Look<'_, '_>, out: &mut O) -> io::Result<()> {
-    match look.beside.momentary {
+    match look.momentary() {
         None | Some(0) => Ok(()),
         Some(count) => writeln!(out, "momentary: {count}"),
     }

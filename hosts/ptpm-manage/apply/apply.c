@@ -107,7 +107,7 @@ static int apply_plan(const struct task *task, const struct plan *plan) {
     struct journal journal = { 0 };
     bool is_with_skips = plan->unreached != NULL && *plan->unreached != '\0';
     if (!is_expected(task, plan)) {
-        complain("nothing was sent: the plan is another one by now");
+        complain("nothing was sent: the plan has changed by now");
         return NOT_AS_ASKED;
     }
     if (plan->count == 0) {
@@ -246,7 +246,7 @@ static int go_over_to(const struct task *task, struct journal *journal, struct j
     return carry_out(task, back);
 }
 
-/* Says that no step is to be taken back, and what is left out. It is no apply, and has no name. */
+/* Says that no step is to be taken back, and what is left out. It is not an apply, and has no name. */
 static int end_without_steps(const struct task *task, struct journal *journal, struct journal *back) {
     complain("%s: no step is to be rolled back", journal->name);
     int status = judge_left_out(task, journal);

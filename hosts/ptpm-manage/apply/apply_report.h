@@ -26,7 +26,7 @@ void print_apply(const struct journal *journal, const struct journal *back_of, b
 /* Prints the steps of a rollback that is not begun. */
 void print_dry_run(const struct journal *back, bool is_json);
 
-/* Says on standard error what became of a step, if that is no terminal. */
+/* Says on standard error what became of a step, if that is not a terminal. */
 void say_step(const struct journal *journal, long place);
 
 /* Prints each apply whose journal is there: when it began, its plan, how it ended, and its name. */

@@ -132,7 +132,7 @@ bool find_rolled_back(struct journal *journal, const struct journal *back) {
 
 void find_journal(struct journal *journal, const char *name) {
     char path[PATH_MAX];
-    if (strchr(name, '/') != NULL || strlen(name) >= JOURNAL_NAME) refuse_usage("%s: it is no name of an apply", name);
+    if (strchr(name, '/') != NULL || strlen(name) >= JOURNAL_NAME) refuse_usage("%s: not the name of an apply", name);
     snprintf(path, sizeof path, "%s/%s%s", folder, name, ending);
     read_it(journal, path);
 }

@@ -47,7 +47,7 @@ static int run_plan(const struct task *task, const char *form, const struct piec
     static const struct piece none;
     const char *path = piped.at != NULL ? FILE_BESIDE : task->plan.word;
     char *arguments[MOST_ARGUMENTS] = { NULL, (char *)"plan", (char *)form, (char *)path, NULL };
-    return run_ptpm_program(arguments, &(struct given){ lines != NULL ? lines : &none, piped.at != NULL ? &piped : NULL, 1 }, printed);
+    return run_ptpm_program(arguments, &(struct given){ lines != NULL ? lines : &none, piped.at != NULL ? &piped : NULL }, printed);
 }
 
 /* ---- what is asked */

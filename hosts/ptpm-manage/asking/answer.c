@@ -234,7 +234,7 @@ void say_of_ptp4l(uint16_t error) {
     static bool is_said;
     if (error != NOT_SUPPORTED || is_said) return;
     is_said = true;
-    complain("a ptp4l takes some changes at its Unix socket alone: with ptpm-clock --ptp4l beside it, it takes them over the network");
+    complain("a ptp4l takes some changes only at its Unix socket: with ptpm-clock --ptp4l beside it, it takes them over the network");
 }
 
 /* Without a file the port of the manager is another one in each run. */

@@ -26,7 +26,7 @@ static const char *advice(uint32_t refusal) {
     case PTPM_SAME_CLOCK: return ": the manager has the identity of the clock; --manager gives it another";
     case PTPM_MANAGER_IS_EVERY: return ": the manager's identity means every clock; --manager gives it another";
     case PTPM_TARGET_IS_EVERY: return ": --target means every clock; survey asks every clock";
-    case PTPM_TARGET_IS_ZERO: return ": --target is no clock's identity; survey shows which clocks there are";
+    case PTPM_TARGET_IS_ZERO: return ": --target is not the identity of a clock; survey shows which clocks there are";
     default: return "";
     }
 }

@@ -42,7 +42,7 @@ bool is_response_of_clock(const uint8_t *copy, size_t size);
 /* Whether a copy is an error of the clock that was asked. It is one of the port that was asked from now on. */
 bool is_error_of_clock(uint8_t *copy, size_t size);
 
-/* Says of a copy that answered nothing if it is no message by the rules: the library's asker does not say why. */
+/* Says of a copy that answered nothing if it is not a message by the rules: the library's asker does not say why. */
 void judge_unheard(const struct task *task, const uint8_t *copy, size_t size);
 
 /* From this portNumber on none is of a manager. What is asked in no session is asked from one of these, so that no session treats

@@ -54,11 +54,11 @@ static void say_reason(const struct task *task, enum unanswered what, uint16_t n
 /* A request goes over one of three, and clocks hear only theirs. */
 static void advise_on_way(const struct task *task) {
     if (task->address != NULL) return;
-    if (task->is_ethernet) complain("clocks over Ethernet alone were asked, and none over UDP");
+    if (task->is_ethernet) complain("only clocks over Ethernet were asked, and none over UDP");
     else if (task->is_six) {
-        complain("clocks over IPv6 alone were asked, and none over IPv4, or over Ethernet (--ethernet)");
-        complain("clocks of the group ff0e::181 alone were asked: --udp ff02::181 asks those whose scope is the link");
-    } else complain("clocks over IPv4 alone were asked, and none over IPv6 (--ipv6), or over Ethernet (--ethernet)");
+        complain("only clocks over IPv6 were asked, and none over IPv4, or over Ethernet (--ethernet)");
+        complain("only clocks of the group ff0e::181 were asked: --udp ff02::181 asks those whose scope is the link");
+    } else complain("only clocks over IPv4 were asked, and none over IPv6 (--ipv6), or over Ethernet (--ethernet)");
 }
 
 /* A request to every clock or every port waits for the time of a few answers. An answer that takes longer is not heard. */
@@ -94,11 +94,11 @@ static void say_rest(const struct task *task, enum unanswered what, uint16_t num
     unsigned domain = task->settings.domain;
     if (!task->is_kept) return;
     if (what == REQUEST) {
-        complain("the next run sends %s again, under number %u, before its own; --give-up lets it go", words, number);
+        complain("the next run sends %s again, under number %u, before its own; --give-up gives it up", words, number);
     } else if (what == EARLIER_REQUEST) {
-        complain("%s of an earlier run, number %u, comes before it; --give-up lets it go", words, number);
+        complain("%s of an earlier run, number %u, comes before it; --give-up gives it up", words, number);
     } else if (what == EARLIER_ELSEWHERE) {
-        complain("%s of an earlier run, number %u, was asked in domain %u, and comes before it; --give-up lets it go, and --domain "
+        complain("%s of an earlier run, number %u, was asked in domain %u, and comes before it; --give-up gives it up, and --domain "
                  "%u asks there", words, number, domain, domain);
     }
 }
@@ -143,7 +143,7 @@ int no_answer(const struct task *task, enum unanswered what, uint16_t number, lo
     return NOT_ANSWERED;
 }
 
-/* Whether the library gives this name to what is no message by its rules, whatever was asked. */
+/* Whether the library gives this name to what is not a message by its rules, whatever was asked. */
 static bool is_of_form(uint32_t refusal) {
     switch (refusal) {
     case PTPM_BAD_VERSION:

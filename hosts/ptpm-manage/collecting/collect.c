@@ -28,7 +28,8 @@ enum { SLOW = 2000 };
 
 /* Every clock is asked again whether it is there. That ends if QUIET_ROUNDS brought nothing new, and a clock is missed less than once in
    MOST_MISSED collections. Round N of one census does not end before N times 300 ms. So a clock is found that was silent for half a second.
-   For a plan it is 500 ms. If answers are lost a round has several censuses, and what is lacking is asked again between them. */
+   For a plan it is 500 ms, unless the round is the last one and every clock has answered its census. If answers are lost a round has several
+   censuses, and what is lacking is asked again between them. */
 enum { QUIET_ROUNDS = 2, MOST_MISSED = 1000, ROUND = 300, ROUND_OF_PLAN = 500, MOST_ROUNDS = 10, CENSUSES_OF_LOSSY = 3 };
 
 /* A socket without room is tried again this often, this many milliseconds apart. A silence that never comes is waited for this
@@ -52,7 +53,7 @@ static const uint16_t of_ports[] = {
     PTPM_ID_DELAY_MECHANISM, PTPM_ID_LOG_MIN_PDELAY_REQ_INTERVAL,
 };
 
-/* A request to every clock of a domain. A census only shows who is there: its answer is no line. It has a number of its own, so that a clock
+/* A request to every clock of a domain. A census only shows who is there: its answer is not a line. It has a number of its own, so that a clock
    passes it on which does not pass the same message on again. */
 struct request {
     struct ptpm_survey survey;
@@ -69,7 +70,7 @@ static struct request requests[DOMAINS_AT_ONCE * (MOST_COLLECTED + CENSUSES_OF_L
 static size_t request_count;
 static FILE *output;
 static long sent;                       /* messages that went out */
-static int64_t latest;                  /* when an answer came that is no copy */
+static int64_t latest;                  /* when an answer came that is not a copy */
 static size_t news;                     /* how many of these came */
 static size_t let_go;                   /* clocks that are asked no more */
 static struct sureness sureness;
@@ -166,7 +167,7 @@ static void take_answer(const struct request *request, const uint8_t *message) {
     }
     if (has_field && id == PTPM_ID_PORT_DATA_SET && size == FIELD_AT + PORT_SIZE) {
         bool is_own = memcmp(message + FIELD_AT, answer.clock, 8) == 0;
-        answer.port = is_own ? (uint16_t)two_octets(message + FIELD_PORT_AT) : 0;       /* 0 is no port, and none is answered */
+        answer.port = is_own ? (uint16_t)two_octets(message + FIELD_PORT_AT) : 0;       /* 0 is not a port, and none is answered */
     }
     note_way();
     note_distance(message[STARTING_HOPS_AT], answer.port_count);
@@ -416,6 +417,18 @@ static bool is_sure(const struct rounds *rounds) {
     return rounds->quiet >= QUIET_ROUNDS && missed < 1;
 }
 
+/* Whether this round of a plan is the last one, since it brought nothing new, and no answer to its census is lacking. What clocks send by
+   themselves is heard for a whole round. */
+static bool is_last(const struct rounds *rounds, bool has_news) {
+    return !is_site() && seen_count() > 0 && !has_news && rounds->quiet + 1 >= QUIET_ROUNDS && lost_share() <= 0 && are_all_present();
+}
+
+/* Hears what still comes in a round, until it may end. `before` is the news before it. */
+static void hear_rest(const struct rounds *rounds, size_t before) {
+    int64_t end = least_end(rounds);
+    while (!stopped && milliseconds() < end && !is_last(rounds, news > before)) hear_until(milliseconds() + STEP < end ? milliseconds() + STEP : end);
+}
+
 /* Starts the requests of this many censuses; whether the library would ask them. */
 static bool start_censuses(const struct task *task, const struct rounds *rounds, unsigned censuses) {
     for (unsigned census = 0; census < censuses; census++) {
@@ -458,7 +471,7 @@ static bool ask_again(const struct task *task, struct rounds *rounds) {
     if (lacks > 0 && !is_found) hear_until(milliseconds() + STEP);
     unsigned censuses = is_found ? 0 : take_census(task, rounds);
     hear_until_quiet(task);
-    if (censuses == 1) hear_until(least_end(rounds));
+    if (censuses == 1) hear_rest(rounds, before);
     end_round(censuses);
     stop_requests(base);
     let_go += let_go_of_silent(MOST_SILENT);
@@ -567,14 +580,14 @@ void tell_lacking(void) {
         if (!write_lacking(names, sizeof names, clock)) continue;
         write_identity(identity, clock->identity);
         write_domain(domain, clock->domain);
-        complain("no answer of %s in domain %s to a read of %s", identity, domain, names);
+        complain("no answer from %s in domain %s to a read of %s", identity, domain, names);
     }
 }
 
 static int end_of_collection(const struct task *task, const struct domains *domains) {
     clear_progress();
     tell_sureness();
-    if (let_go > 0) complain("%zu clocks gave no new answer when they were asked alone: they were let go", let_go);
+    if (let_go > 0) complain("%zu clocks gave no new answer when they were asked one by one: they are asked no more", let_go);
     if (has_no_transport) complain("nothing was sent: %s: %s", transport_name(), strerror(errno));
     else if (stopped && task->site.watch == 0) complain("ended by a signal: more may answer");
     else if (sent == 0 && !stopped) complain("nothing was sent: no message is taken at %s", transport_name());

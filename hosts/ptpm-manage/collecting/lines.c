@@ -5,13 +5,9 @@
 #include "words.h"
 #include <inttypes.h>
 #include <stdbool.h>
-#include <stdlib.h>
-#include <string.h>
 #include <sys/timex.h>
 
 enum { SECOND = 1000000000 };
-
-static const char at_word[] = "at=";
 
 /* The time of this host when `nanoseconds` began. */
 static int64_t beginning;
@@ -29,44 +25,20 @@ int64_t take_time(void) {
 
 static void write_time(FILE *to, int64_t time) {
     if (time < 0) time = 0;
-    fprintf(to, "%s%" PRId64 ".%09" PRId64 " ", at_word, time / SECOND, time % SECOND);
+    fprintf(to, "at=%" PRId64 ".%09" PRId64 " ", time / SECOND, time % SECOND);
 }
 
-/* The rest of a line that is after its time; the whole line if it has none. */
-static const char *read_time(const char *line, int64_t *time) {
-    char *end;
-    if (strncmp(line, at_word, sizeof at_word - 1) != 0) return line;
-    *time = strtoll(line + sizeof at_word - 1, &end, 10) * SECOND;
-    *time += strtoll(end + 1, &end, 10);
-    return end + 1;
-}
-
-void shift_lines(char **lines, size_t *size, int64_t by) {
-    char *shifted = NULL;
-    size_t shifted_size = 0;
-    FILE *to = open_memstream(&shifted, &shifted_size);
-    for (const char *at = *lines, *end = at + *size, *next; to != NULL && at < end; at = next) {
-        int64_t time = 0;
-        const char *rest = read_time(at, &time);
-        next = memchr(at, '\n', (size_t)(end - at));
-        next = next == NULL ? end : next + 1;
-        if (rest != at) write_time(to, time + by);
-        fwrite(rest, 1, (size_t)(next - rest), to);
-    }
-    bool is_whole = to != NULL && fclose(to) == 0;
-    free(*lines);
-    *lines = shifted;
-    *size = is_whole ? shifted_size : 0;
-}
-
-/* The name of an interface and the path of a socket may have any octets. A line takes only UTF-8, and a space ends each word. */
-static void write_word(FILE *to, const char *name, const char *value) {
-    fputs(name, to);
-    for (; *value != '\0'; value++) {
-        unsigned char octet = (unsigned char)*value;
+void write_name(FILE *to, const char *name) {
+    for (; *name != '\0'; name++) {
+        unsigned char octet = (unsigned char)*name;
         if (octet > ' ' && octet < 0x7f && octet != '\\') fputc(octet, to);
         else fprintf(to, "\\x%02x", octet);
     }
+}
+
+static void write_word(FILE *to, const char *word, const char *value) {
+    fputs(word, to);
+    write_name(to, value);
     fputc(' ', to);
 }
 

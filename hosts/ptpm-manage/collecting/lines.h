@@ -21,8 +21,8 @@ struct message_line {
    set since the call before, in nanoseconds. */
 int64_t take_time(void);
 
-/* Adds this to each at= of lines, which are of an earlier time. They are dropped if there is no memory. */
-void shift_lines(char **lines, size_t *size, int64_t by);
+/* The name of an interface and the path of a socket may have any octets. A line takes only UTF-8, and a space ends each word. */
+void write_name(FILE *to, const char *name);
 
 void write_line(FILE *to, const struct message_line *line);
 

@@ -205,6 +205,14 @@ static bool answers_all(const struct seen_clock *clock) {
     return !clock->is_let_go && (clock->in_censuses > 0 || clock->censuses < LEAST_CENSUSES);
 }
 
+bool are_all_present(void) {
+    for (size_t place = first_of_rounds; place < clock_count; place++) {
+        const struct seen_clock *clock = &clocks[place];
+        if (clock->is_expected && answers_all(clock) && clock->in_round == 0) return false;
+    }
+    return true;
+}
+
 double lost_share(void) {
     size_t asked = 0, lost = 0;
     for (size_t place = first_of_rounds; place < clock_count; place++) {

@@ -79,6 +79,9 @@ void end_round(unsigned censuses);
 /* Notes that a clock answered this census of the round; whether it was not seen before. */
 bool see_present(struct domain domain, const uint8_t clock[8], unsigned census);
 
+/* Whether each clock that was seen before this round has answered a census of it, unless it heeds none. */
+bool are_all_present(void);
+
 /* Of these rounds, how many answers came after the first, and which share of what every clock was asked had no answer in its round. */
 size_t late_answers(void);
 double lost_share(void);

@@ -67,7 +67,7 @@ void tell_late(const struct task *task) {
         if (all[i].why != LATE || is_seen_by_now(all[i].message)) continue;
         is_told = true;
         write_identity(text, all[i].message + SOURCE_AT);
-        complain("an answer of %s came too late, and is not taken: --timeout waits longer for each answer, %ld ms here", text, task->timeout);
+        complain("an answer from %s came too late, and is ignored: --timeout waits longer for each answer, %ld ms here", text, task->timeout);
     }
 }
 
@@ -81,7 +81,7 @@ void write_untaken(FILE *to) {
             .size = one->size,
         });
     }
-    if (without_room > 0) complain("%lu more answers that are not taken have no line", without_room);
+    if (without_room > 0) complain("%lu more ignored answers have no line", without_room);
     count = 0;
     without_room = 0;
 }

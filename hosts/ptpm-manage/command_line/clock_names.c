@@ -52,7 +52,7 @@ static void take_line(const char *path, size_t number, const char *line) {
     bool is_named = line[size] != '\0' && ptpm_identity_parse(line, size, identity);
     if (!is_named) refuse("--names %s: line %zu has no clockIdentity with a name after it", path, number);
     if (*name == '\0' || strlen(name) > MOST_NAME) refuse("--names %s: line %zu: a name has 1 to %d octets", path, number, MOST_NAME);
-    if (!is_utf8(name)) refuse("--names %s: line %zu: the name is no UTF-8", path, number);
+    if (!is_utf8(name)) refuse("--names %s: line %zu: the name is not UTF-8", path, number);
     size_t place = place_of(identity);
     if (place == MOST_NAMES) refuse("--names %s: it has more than %d clocks", path, MOST_NAMES);
     put_name(place, identity, name);
@@ -63,7 +63,7 @@ static FILE *open_names(const char *path) {
     struct stat found;
     FILE *file = fopen(path, "re");
     if (file == NULL || fstat(fileno(file), &found)) refuse("--names %s: %s", path, strerror(errno));
-    if (!S_ISREG(found.st_mode) && !S_ISFIFO(found.st_mode)) refuse("--names %s: it is no file", path);
+    if (!S_ISREG(found.st_mode) && !S_ISFIFO(found.st_mode)) refuse("--names %s: it is not a regular file", path);
     if (found.st_size > MOST_OCTETS) refuse("--names %s: it has over %d octets", path, MOST_OCTETS);
     return file;
 }

@@ -89,7 +89,7 @@ static _Noreturn void refuse_count(const struct typed *typed) {
     refuse("set %s: it takes%s", typed->named, names);
 }
 
-/* Says what is wrong with words that are no dataField. */
+/* Says what is wrong with words that are not a dataField. */
 static _Noreturn void refuse_words(const struct typed *typed, enum ptpm_parsed why, size_t place) {
     struct field_lines lines;
     struct member member = { "", "" };
@@ -98,7 +98,7 @@ static _Noreturn void refuse_words(const struct typed *typed, enum ptpm_parsed w
     case PTPM_NO_VALUE: refuse_value(typed, place);
     case PTPM_OTHER_NAME: refuse("set %s %s: the member that comes next is %s", typed->named, typed->words[2 * place], member.name);
     case PTPM_WORD_COUNT: refuse_count(typed);
-    default: refuse("%s: the value is no UTF-8", typed->named);
+    default: refuse("%s: the value is not UTF-8", typed->named);
     }
 }
 

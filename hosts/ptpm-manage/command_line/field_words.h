@@ -13,7 +13,7 @@ enum {
 /* Whether an id has a text, and nothing else. */
 bool has_text(uint16_t id);
 
-/* Whether an id has one member, which is no text, so that a SET takes its value as a word. */
+/* Whether an id has one member, which is not a text, so that a SET takes its value as a word. */
 bool takes_value(uint16_t id);
 
 /* Whether a SET of the id takes several members, each by its name. */

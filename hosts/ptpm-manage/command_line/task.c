@@ -27,7 +27,7 @@ enum { WORD = 1, UDP = 256, TEXT, VERSION, GIVE_UP, JSON, ANY_SOURCE, TTL_SECURI
 
 /* The same, only for `collect` and `status`. */
 enum site_option {
-    LISTEN = 512, SDO, DRAW, HTML, OPENMETRICS, NAGIOS, OUTPUT, MAX_OFFSET, MAX_DELAY, TAI_UTC, SETTLE, PROFILE, IGNORE, ALL, ONCE, WATCH, FOR, FORGET
+    LISTEN = 512, SDO, DRAW, HTML, OPENMETRICS, NAGIOS, OUTPUT, LINES, MAX_OFFSET, MAX_DELAY, TAI_UTC, SETTLE, PROFILE, IGNORE, ALL, ONCE, WATCH, FOR, FORGET
 };
 
 enum { MOST_WORDS = 2 + MOST_FIELD_WORDS, MOST_FIELD = 1418, NOT_NAMED = -1 };
@@ -54,10 +54,10 @@ static const struct option options[] = {
     { "keep", required_argument, NULL, KEEP }, { "keep-going", no_argument, NULL, KEEP_GOING }, { "dry-run", no_argument, NULL, DRY_RUN },
     { "draw", no_argument, NULL, DRAW }, { "html", no_argument, NULL, HTML },
     { "openmetrics", no_argument, NULL, OPENMETRICS }, { "nagios", no_argument, NULL, NAGIOS },
-    { "output", required_argument, NULL, OUTPUT }, { "max-offset", required_argument, NULL, MAX_OFFSET },
-    { "max-delay", required_argument, NULL, MAX_DELAY }, { "tai-utc", required_argument, NULL, TAI_UTC },
-    { "settle", required_argument, NULL, SETTLE }, { "profile", required_argument, NULL, PROFILE },
-    { "ignore", required_argument, NULL, IGNORE }, { "all", no_argument, NULL, ALL },
+    { "output", required_argument, NULL, OUTPUT }, { "lines", required_argument, NULL, LINES },
+    { "max-offset", required_argument, NULL, MAX_OFFSET }, { "max-delay", required_argument, NULL, MAX_DELAY },
+    { "tai-utc", required_argument, NULL, TAI_UTC }, { "settle", required_argument, NULL, SETTLE },
+    { "profile", required_argument, NULL, PROFILE }, { "ignore", required_argument, NULL, IGNORE }, { "all", no_argument, NULL, ALL },
     { "once", no_argument, NULL, ONCE }, { "watch", required_argument, NULL, WATCH },
     { "for", required_argument, NULL, FOR }, { "forget", required_argument, NULL, FORGET },
     { "hexadecimal", no_argument, NULL, 'x' }, { "text", no_argument, NULL, TEXT }, { "quiet", no_argument, NULL, 'q' },
@@ -129,8 +129,8 @@ static void add_ignored(struct site_options *site, const char *names) {
 /* Takes an option of `collect` and `status`; whether it is one of these. */
 static bool take_site_option(struct site_options *site, int option, const char *value) {
     static const char *const names[] = {
-        "--listen", "--sdo", "--draw", "--html", "--openmetrics", "--nagios", "--output", "--max-offset", "--max-delay", "--tai-utc",
-        "--settle", "--profile", "--ignore", "--all", "--once", "--watch", "--for", "--forget",
+        "--listen", "--sdo", "--draw", "--html", "--openmetrics", "--nagios", "--output", "--lines", "--max-offset", "--max-delay",
+        "--tai-utc", "--settle", "--profile", "--ignore", "--all", "--once", "--watch", "--for", "--forget",
     };
     static const char or_none[] = "none, or a number of nanoseconds";
     if (option < LISTEN || option > FORGET) return false;
@@ -153,6 +153,7 @@ static bool take_site_option(struct site_options *site, int option, const char *
     case OPENMETRICS: take_form(site, AS_NUMBERS); break;
     case NAGIOS: take_form(site, AS_PLUGIN); break;
     case OUTPUT: site->output = value; break;
+    case LINES: site->lines = value; break;
     case ONCE: site->is_once = true; break;
     }
     if (option > SDO) site->given = name;
@@ -175,11 +176,11 @@ static void read_domains(struct site_options *site, const char *text) {
 
 /* Refuses options that exclude each other, or that what is asked does not take. */
 static void judge_site_options(const struct site_options *site) {
-    if (site->given != NULL && !site->is_shown) refuse("%s: it is of status alone", site->given);
-    if (site->is_sdo_named && !site->is_collected) refuse("--sdo: it is of collect and status alone");
-    if (site->listen >= 0 && !site->is_collected) refuse("--listen: it is of collect and status alone");
+    if (site->given != NULL && !site->is_shown) refuse("%s: only status takes it", site->given);
+    if (site->is_sdo_named && !site->is_collected) refuse("--sdo: only collect and status take it");
+    if (site->listen >= 0 && !site->is_collected) refuse("--listen: only collect and status take it");
     if (site->duration > 0 && (site->is_once || site->watch > 0)) refuse("--for excludes --once and --watch");
-    if (site->forget > 0 && site->watch == 0) refuse("--forget: it goes with --watch alone");
+    if (site->forget > 0 && site->watch == 0) refuse("--forget: it takes --watch");
     if (site->form != AS_TEXT && site->watch > 0 && site->output == NULL) {
         refuse("--watch excludes --draw, --html, --openmetrics and --nagios, unless there is a file for them: --output FILE");
     }
@@ -192,14 +193,14 @@ static void read_target(struct task *task, struct words *words, const char *text
     size_t size = strlen(text), clock_size = strnlen(text, strcspn(text, ".") == 6 ? DOTTED : PLAIN);
     uint16_t port;
     words->target_port = NOT_NAMED;
-    /* An identity is no name, even if a clock has another one's as its name. */
+    /* An identity is not a name, even if a clock has another one's as its name. */
     if (ptpm_identity_parse(text, size, clock)) return;
     if (ptpm_port_identity_parse(text, size, clock, &port)) {
         words->target_port = port;
         return;
     }
     if (find_named_clock(text, clock)) return;
-    if (ptpm_identity_parse(text, clock_size, clock)) refuse("--target %s: %s is no port", text, text + clock_size);
+    if (ptpm_identity_parse(text, clock_size, clock)) refuse("--target %s: %s is not a port", text, text + clock_size);
     const char *also = clock_name_count() > 0 ? ", or a name of --names" : "";
     refuse("--target %s: it takes aabbccfffeddee01 or aabbcc.fffe.ddee01, and after it -1 for port 1%s", text, also);
 }
@@ -213,7 +214,7 @@ static void read_manager(struct task *task, const char *text) {
     uint16_t *port = &task->settings.port;
     bool is_named = ptpm_port_identity_parse(text, strlen(text), task->settings.clock, port);
     if (!is_named) refuse("--manager %s: it takes aabbccfffeddee01/1 or aabbcc.fffe.ddee01-1", text);
-    if (*port >= FIRST_OF_NOBODY) refuse("--manager %s: a port from %d on is of no manager", text, FIRST_OF_NOBODY);
+    if (*port >= FIRST_OF_NOBODY) refuse("--manager %s: the port has to be below %d", text, FIRST_OF_NOBODY);
     task->has_manager = true;
 }
 
@@ -247,7 +248,7 @@ static void judge_expected(struct task *task) {
         task->plan.expected = NULL;
         return;
     }
-    if (task->plan.verb != APPLY) refuse("--expect: it is of apply and status alone");
+    if (task->plan.verb != APPLY) refuse("--expect: only apply and status take it");
     bool is_id = strlen(text) == PLAN_DIGITS && strspn(text, "0123456789abcdef") == PLAN_DIGITS;
     if (!is_id) refuse("--expect %s: it takes the eight digits of a plan", text);
 }
@@ -320,7 +321,7 @@ static void take_word(struct words *words, const char *word) {
     words->at[words->count++] = word;
 }
 
-/* After `set ID`, and after the name of one of its members, comes a value. It may be below 0: it is no option there. */
+/* After `set ID`, and after the name of one of its members, comes a value. It may be below 0: it is not an option there. */
 static bool is_value(const struct words *words, const char *word) {
     if (word[0] != '-' || word[1] < '0' || word[1] > '9') return false;
     if (words->count < 2 || strcasecmp(words->at[0], "set") != 0) return false;
@@ -372,14 +373,14 @@ static void read_verb(struct task *task, const char *verb) {
         task->action = actions[i].action;
         return;
     }
-    if (!task->is_survey) refuse("%s: it is none of get, set, command, survey, collect, status, plan, apply, resume, rollback and applies", verb);
+    if (!task->is_survey) refuse("%s: it is not one of get, set, command, survey, collect, status, plan, apply, resume, rollback and applies", verb);
 }
 
 /* A get of every port is a survey of one clock. It asks as nobody, since a clock numbers the requests that its managers send only
    to it. */
 static void read_every_port(struct task *task, const struct words *words) {
     if (!words->is_every_port) return;
-    if (task->is_survey || task->action != PTPM_GET) refuse("--port all goes with get alone");
+    if (task->is_survey || task->action != PTPM_GET) refuse("--port all: only get takes it");
     if (task->has_manager || task->numbers != NULL) {
         refuse("--port all asks by no manager: it takes no --manager and no --numbers");
     }
@@ -393,7 +394,7 @@ static void read_id(struct task *task, const char *text) {
     task->id = (uint16_t)id;
 }
 
-/* What else is said about a value that is no dataField. */
+/* What else is said about a value that is not a dataField. */
 static const char *hint(const struct task *task) {
     if (has_text(task->id)) return "; a text takes --text";
     if (task->action == PTPM_SET && takes_names(task->id)) return "; each of its members takes its name and its value";
@@ -406,7 +407,7 @@ static void read_octets_of(struct task *task, const char *text) {
     task->size = read_octets(&rest, task->octets, sizeof task->octets);
     if (*rest == '\0' && task->size % 2 == 0) return;
     if (task->action == PTPM_GET && read_id_named(text) >= 0) refuse("get takes one managementId: %s is asked for by a run of its own", text);
-    refuse("%s: it is no even number of octets in hexadecimal%s", text, hint(task));
+    refuse("%s: not an even number of octets in hexadecimal%s", text, hint(task));
 }
 
 /* Whether the words of a value are what an answer prints, or the value of the one member, and no dataField in hexadecimal. */
@@ -425,7 +426,7 @@ static void read_value(struct task *task, const struct words *words) {
     size_t count = words->count > 2 ? (size_t)words->count - 2 : 0;
     bool is_set = !task->is_survey && task->action == PTPM_SET;
     bool is_read_only = is_set && can_only_be_read(task->id);
-    if (words->is_text && !is_set) refuse("--text: it is of set alone");
+    if (words->is_text && !is_set) refuse("--text: only set takes it");
     if (is_read_only && (count != 1 || is_member(task->id, value[0]))) refuse("set %s: the id can only be read", id);
     if (count == 0 && is_set && !has_no_member(task->id)) refuse("set %s: it takes a value after it", id);
     if (count == 0) return;
@@ -458,7 +459,7 @@ static void judge(const struct task *task, const struct words *words) {
     bool asks_one = (!task->is_survey || task->is_of_clock) && task->plan.verb == NO_PLAN;
     if (!asks_one && words->target != NULL) refuse("%s asks every clock: it takes no --target", words->at[0]);
     if (asks_one && words->target == NULL) refuse("--target is missing: the clock that is asked; survey asks every clock");
-    if (words->has_names && !asks_one && !task->site.is_shown) refuse("--names: it is of status and --target alone");
+    if (words->has_names && !asks_one && !task->site.is_shown) refuse("--names: only status and --target take it");
     if (task->is_survey && task->numbers != NULL) refuse("--numbers: no session is kept of what every port is asked");
     if (task->is_survey && task->times > 1) refuse("--times: what every port is asked is asked once");
     if (words->is_every_port && words->target_port >= 0) refuse("--port all names every port, and --target names one");
@@ -555,12 +556,12 @@ static void prepare_refusals(int argc, char **argv) {
 static void judge_plan_options(const struct plan_options *plan) {
     bool is_of_apply = plan->skips_unreached || plan->check != NULL || plan->limit_count > 0;
     bool may_keep = plan->verb == APPLY || plan->verb == RESUME || plan->verb == ROLLBACK;
-    if (plan->is_probed && plan->verb != PLAN && plan->verb != APPLY) refuse("--probe: it is of plan and apply alone");
-    if (plan->tells_changes && plan->verb != PLAN) refuse("--status-if-changes: it is of plan alone");
-    if (plan->kept >= 0 && !may_keep) refuse("--keep: it is of apply, resume and rollback alone");
-    if (is_of_apply && plan->verb != APPLY) refuse("--skip-unreached, --limit and --check: they are of apply alone");
-    if (plan->keeps_going && plan->verb != APPLY && plan->verb != RESUME) refuse("--keep-going: it is of apply and resume alone");
-    if (plan->is_dry && plan->verb != ROLLBACK) refuse("--dry-run: it is of rollback alone");
+    if (plan->is_probed && plan->verb != PLAN && plan->verb != APPLY) refuse("--probe: only plan and apply take it");
+    if (plan->tells_changes && plan->verb != PLAN) refuse("--status-if-changes: only plan takes it");
+    if (plan->kept >= 0 && !may_keep) refuse("--keep: only apply, resume and rollback take it");
+    if (is_of_apply && plan->verb != APPLY) refuse("--skip-unreached, --limit and --check: only apply takes them");
+    if (plan->keeps_going && plan->verb != APPLY && plan->verb != RESUME) refuse("--keep-going: only apply and resume take it");
+    if (plan->is_dry && plan->verb != ROLLBACK) refuse("--dry-run: only rollback takes it");
 }
 
 void read_task(struct task *task, int argc, char **argv) {
@@ -592,7 +593,7 @@ void read_task(struct task *task, int argc, char **argv) {
     if (is_beyond && task->numbers != NULL) refuse("--numbers: no session is kept of a port above %d, which no clock of ptpm has", SESSION_PORTS);
     task->is_kept = is_by_one_manager(task) && !is_beyond;
     bool is_asked = task->plan.verb == NO_PLAN;
-    if (task->is_letting_go && !is_asked && task->plan.verb != RESUME) refuse("--give-up: of a plan it is of resume alone");
+    if (task->is_letting_go && !is_asked && task->plan.verb != RESUME) refuse("--give-up: of these only resume takes it");
     if (task->is_letting_go && is_asked && !task->is_kept) refuse("--give-up: no session is kept of what is asked");
 }
 

@@ -24,12 +24,12 @@ struct site_options {
     int64_t forget;                             /* how long a clock is gone */
     enum shown_as form;                         /* how it is shown, except by `--json` */
     bool is_once, is_as_far_as_named;           /* it does not look a second time; nor any further than by the hops that were named */
-    const char *output;                         /* the file that gets what is printed, or NULL */
+    const char *output, *lines;                 /* the files that get what is printed, and the lines of the latest look, or NULL */
     const char *max_offset, *max_delay, *tai_utc, *settle, *profile, *inventory;               /* as they are written, or NULL */
     char *ignored;                              /* the names of all --ignore, or NULL */
     bool is_all;                                /* the text has what follows from a finding too */
-    bool is_without_changes;                    /* what differs from the look before is no finding */
-    bool is_of_one_address;                     /* who is not seen may be a clock that is not asked, and is no finding */
+    bool is_without_changes;                    /* what differs from the look before is not a finding */
+    bool is_of_one_address;                     /* who is not seen may be a clock that is not asked, and is not a finding */
     const char *given;                          /* an option only of `status` that was given, or NULL */
 };
 
@@ -55,7 +55,7 @@ struct task {
     bool is_of_clock;                           /* a survey of one clock */
     struct site_options site;                   /* of a survey that collects, and what is shown of it */
     struct plan_options plan;
-    uint8_t action;                             /* PTPM_GET, PTPM_SET or PTPM_COMMAND, if it is no survey */
+    uint8_t action;                             /* PTPM_GET, PTPM_SET or PTPM_COMMAND, if it is not a survey */
     uint16_t id;
     uint16_t port;                              /* the clock's; 0 if none is named */
     size_t size;

@@ -8,7 +8,6 @@
 #include "words.h"
 #include <stdio.h>
 #include <string.h>
-#include <unistd.h>
 
 /* A manager and a clock in a notice. */
 enum { OWNER = 2 * IDENTITY_TEXT + 32 };
@@ -116,16 +115,6 @@ static void open_octets(struct kept_session *session, const struct task *task, u
     read_earlier(asker, task, &image, &session->earlier);
 }
 
-/* Says how the session goes on that earlier versions kept under the identity of a clock of this host. */
-static void tell_former_session(const struct task *task) {
-    struct ptpm_session_settings former = task->settings;
-    char identity[IDENTITY_TEXT];
-    if (task->has_manager || task->numbers != NULL || !former_identity(former.clock)) return;
-    const char *path = usual_file(&former);
-    write_identity(identity, former.clock);
-    if (access(path, F_OK) == 0) complain("%s has the session of an earlier version: -m %s/%u goes on with it", path, identity, former.port);
-}
-
 void open_session(struct kept_session *session, const struct task *task) {
     static uint8_t octets[MOST_SESSION_OCTETS];
     size_t size;
@@ -135,14 +124,11 @@ void open_session(struct kept_session *session, const struct task *task) {
     if (is_named) refuse_usual_mark(&task->settings);
     switch (open_session_file(&session->file, is_named ? task->numbers : usual_file(&task->settings), is_named, octets, &size)) {
     case NO_SESSION_FILE:
-        tell_former_session(task);
         start(&session->asker, task);
         session->has_file = false;
         break;
     case BROKEN_SESSION_FILE: refuse_octets(PTPM_DAMAGED);
-    case SESSION_FILE:
-        take_former_image(octets, size);
-        open_octets(session, task, octets, size);
+    case SESSION_FILE: open_octets(session, task, octets, size);
     }
 }
 
@@ -191,19 +177,19 @@ int say_settled(const struct earlier *earlier, const struct task *task, const st
 }
 
 void say_before_steps(const struct earlier *earlier, const struct task *task) {
-    complain("%s, comes before it: once resume --give-up has ended the apply, any other run lets it go by --give-up",
+    complain("%s, comes before it: once resume --give-up has ended the apply, any other run gives it up by --give-up",
              earlier_words(earlier, task));
 }
 
 void say_let_go(const struct earlier *earlier, const struct task *task) {
     const char *where = earlier->task.settings.domain == task->settings.domain ? "" : " there";
     const char *words = earlier_words(earlier, task);
-    if (earlier->task.action == PTPM_GET) complain("%s, is let go", words);
-    else complain("%s, is let go: a get%s shows whether it was carried out", words, where);
+    if (earlier->task.action == PTPM_GET) complain("%s, is given up", words);
+    else complain("%s, is given up: a get%s shows whether it was carried out", words, where);
 }
 
 /* The clock might treat a number further ahead as an old one. */
 _Noreturn void refuse_to_let_go(uint32_t refusal, const struct earlier *earlier, const struct task *task) {
-    refuse("nothing was sent: %s: %s, is not let go: too many before it had no answer. Without --give-up it is sent again",
+    refuse("nothing was sent: %s: %s, is not given up: too many before it had no answer. Without --give-up it is sent again",
            answer_name(refusal), earlier_words(earlier, task));
 }

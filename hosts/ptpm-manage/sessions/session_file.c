@@ -141,7 +141,7 @@ enum found_session open_session_file(struct session_file **opened_file, const ch
         if (fsync(file->kept.folder)) refuse_place(file);       /* a run that was killed may not have come to it */
         return take_seal(octets, size, &file->saves) == PTPM_DAMAGED ? BROKEN_SESSION_FILE : SESSION_FILE;
     case KEPT_LINK: refuse_session_file(file, "it is a link");
-    case KEPT_OTHER: refuse_session_file(file, "it is no file");
+    case KEPT_OTHER: refuse_session_file(file, "it is not a regular file");
     case KEPT_UNREADABLE: refuse_place(file);
     case KEPT_NONE: break;
     }
@@ -163,7 +163,7 @@ bool write_session_file(struct session_file *file, uint8_t octets[MOST_SESSION_O
 /* The path of the file that is taken if the command line names none. */
 static char usual_path[PATH_MAX];
 
-/* A variable of the environment that names a folder; NULL if it is not set, or is no absolute path. */
+/* A variable of the environment that names a folder; NULL if it is not set, or is not an absolute path. */
 static const char *folder_in(const char *variable) {
     const char *folder = getenv(variable);
     return folder != NULL && folder[0] == '/' ? folder : NULL;

@@ -8,8 +8,6 @@ enum {
     ACTION = 53, ID = 54, PORT = 56, SIZE = 58, OCTETS = 60,
 };
 
-enum { FORMER_PORTS = 8 };      /* of the clock, in a session of an earlier version */
-
 static uint16_t number_at(const uint8_t *octets, size_t place) { return (uint16_t)(octets[place] << 8 | octets[place + 1]); }
 
 static void read_request(struct session_image *image, const uint8_t *octets, size_t size) {
@@ -33,8 +31,4 @@ struct session_image read_image(const uint8_t *octets, size_t size) {
     image.number = (uint16_t)(image.first + number_at(octets, LOW_ISSUED) - 1);
     if (octets[IS_UNDER_WAY] == 1) read_request(&image, octets, size);
     return image;
-}
-
-void take_former_image(uint8_t *octets, size_t size) {
-    if (size > PORTS && octets[PORTS] == FORMER_PORTS) octets[PORTS] = SESSION_PORTS;
 }

@@ -22,7 +22,4 @@ struct session_image {
 /* Reads octets at the places of an image. If there are too few for one, all members are 0. */
 struct session_image read_image(const uint8_t *octets, size_t size);
 
-/* Has the session of an earlier version, which takes its clock to have eight ports, go on as one of this version. */
-void take_former_image(uint8_t *octets, size_t size);
-
 #endif

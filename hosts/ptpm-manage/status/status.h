@@ -1,10 +1,10 @@
-/* A site at a glance: what `collect` hears, shown by `ptpm site`. */
+/* A site at a glance: what `collect` hears, as `ptpm monitor` says. */
 #ifndef STATUS_H
 #define STATUS_H
 
 #include "task.h"
 
-/* Carries out `status`; the program's status, which is that of `ptpm site`. */
+/* Carries out `status`; the program's status, which is that of `ptpm monitor`. */
 int show_status(const struct task *task);
 
 #endif

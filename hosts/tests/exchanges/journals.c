@@ -82,7 +82,7 @@ static void run_read(char *words) {
 }
 
 static void run_mark(char *words) {
-    static const char *const marks[] = { "untouched", "begun", "done", "refused", "answered", "let go", "none" };
+    static const char *const marks[] = { "untouched", "begun", "done", "refused", "answered", "given up", "none" };
     say("%s\n", marks[ptpm_journal_mark(&journal, (uint16_t)next_number(&words, 0))]);
 }
 

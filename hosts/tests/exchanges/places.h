@@ -8,7 +8,7 @@
 /* The number in two octets from a place on; octets past the last are 0. */
 unsigned number_at(const struct octets *octets, size_t place);
 
-/* Why it is no message; 0 if it is one. */
+/* Why it is not a message; 0 if it is one. */
 uint32_t refusal_of(const struct octets *datagram);
 
 /* The answer that is due, of a clock that started so in domain 0. It took this request of each manager before, or none if it has no

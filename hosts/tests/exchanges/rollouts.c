@@ -51,7 +51,7 @@ static void say_action(void) {
     switch (action.what) {
     case PTPM_DO_LOOK: say("look at lane %u", action.lane); break;
     case PTPM_DO_SETTLE: say("settle lane %u, ", action.lane); say_step(); say(", in domain %u", action.domain); break;
-    case PTPM_DO_LET_GO: say("let go at lane %u", action.lane); break;
+    case PTPM_DO_LET_GO: say("give up at lane %u", action.lane); break;
     case PTPM_DO_READ: say("read "); say_step(); say(" in domain %u", action.domain); break;
     case PTPM_DO_CHECK: say("check before "); say_step(); break;
     case PTPM_DO_ASK: say("ask "); say_step(); break;

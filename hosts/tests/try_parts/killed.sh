@@ -1,6 +1,6 @@
 # shellcheck shell=bash disable=SC2034,SC2086,SC2154
 # A run that is killed as it makes a call of the system for so many times: between the save and the request, between that and its
-# answer, and between the answer and the next save. The next run finishes what it asked, or lets it go.
+# answer, and between the answer and the next save. The next run finishes what it asked, or gives it up.
 
 connect
 killed() {
@@ -29,11 +29,11 @@ END
     { killed sendmsg 2 9; } 2> /dev/null
     kept=$XDG_STATE_HOME/ptpm/000000fffe000010-1.$identity
     first=$(od -An -tx1 -j31 -N2 "$kept")
-    check "what a killed run asked is let go" "$(asked 'priority1 9' -i near0 --give-up set PRIORITY1 9 &&
-        says "$earlier is let go: a get shows whether it was carried out$" &&
+    check "what a killed run asked is given up" "$(asked 'priority1 9' -i near0 --give-up set PRIORITY1 9 &&
+        says "$earlier is given up: a get shows whether it was carried out$" &&
         asked "priority2 $value" -i near0 -m 000000fffe000010/1 get PRIORITY2 && [ ! -s "$work/said" ] && echo yes)"
     check "its session goes on" "$([ "$(od -An -tx1 -j31 -N2 "$kept")" = "$first" ] && echo yes)"
-    check "there is nothing more to let go" "$(asked 'priority1 9' -i near0 --give-up set PRIORITY1 9 && [ ! -s "$work/said" ] && echo yes)"
+    check "there is nothing more to give up" "$(asked 'priority1 9' -i near0 --give-up set PRIORITY1 9 && [ ! -s "$work/said" ] && echo yes)"
     # the 32,767th request since the latest that was answered, under the number that it had
     { killed sendmsg 2 9; } 2> /dev/null
     python3 - "$kept" << 'END'
@@ -44,7 +44,7 @@ octets[31:33] = ((first + begun - 32767) % 65536).to_bytes(2, "big")
 octets[36:52] = (32767).to_bytes(8, "big") + bytes(8)
 open(sys.argv[1], "wb").write(octets + zlib.crc32(octets).to_bytes(4, "big"))
 END
-    check "the last in reach is not let go" "$(refuses 'nothing was sent: OUT_OF_REACH: set PRIORITY2 of an earlier run, number ' \
+    check "the last in reach is not given up" "$(refuses 'nothing was sent: OUT_OF_REACH: set PRIORITY2 of an earlier run, number ' \
         -i near0 --give-up set PRIORITY1 9 --target $to)"
     check "it is finished" "$(asked 'priority1 9' -i near0 set PRIORITY1 9 && says 'priority2 9$' && asks 'priority2 9' -i near0 get PRIORITY2)"
     stop
@@ -74,7 +74,7 @@ END
     { left sendmsg $by_me -d 1 set PRIORITY1 50 && stop_beside; } 2> /dev/null
     check "a SET of domain 1 is not sent in domain 0" "$(asked '' $by_me -a 2 get PRIORITY1 && ended 3 &&
         says 'no answer at near0 in domain 1 to 2 messages: an earlier request may have been carried out, and this one was not sent$' &&
-        says "set PRIORITY1 $earlier, was asked in domain 1, and comes before it; --give-up lets it go, and --domain 1 asks there$" &&
+        says "set PRIORITY1 $earlier, was asked in domain 1, and comes before it; --give-up gives it up, and --domain 1 asks there$" &&
         says 'it answers no read either$' && echo yes)"
     check "and not carried out there" "$(asks 'priority1 10' -u "$work/socket" get PRIORITY1)"
     start_beside
@@ -82,8 +82,8 @@ END
         says "set PRIORITY1 $earlier in domain 1, had no answer yet, and was sent again:$" && says 'priority1 50$' &&
         asks 'priority1 50' $by_me -d 1 get PRIORITY1)"
     { left sendmsg $by_me -d 1 set PRIORITY1 60; } 2> /dev/null
-    check "it is let go, and the run goes on in domain 0" "$(asked 'priority1 11' $by_me --give-up set PRIORITY1 11 &&
-        says "set PRIORITY1 $earlier in domain 1, is let go: a get there shows whether it was carried out$" &&
+    check "it is given up, and the run goes on in domain 0" "$(asked 'priority1 11' $by_me --give-up set PRIORITY1 11 &&
+        says "set PRIORITY1 $earlier in domain 1, is given up: a get there shows whether it was carried out$" &&
         asks 'priority1 50' -i near0 -d 1 get PRIORITY1)"
     { left ppoll $by_me -d 1 set DOMAIN 4; } 2> /dev/null
     check "a SET of DOMAIN is finished where it leads" "$(asked 'priority1 50' $by_me -d 4 get PRIORITY1 &&

@@ -97,7 +97,7 @@ portIdentity aabbccfffeddee01/9|line 2: portIdentity aabbccfffeddee01/9: it take
 parentPortIdentity aabbccfffeddee01|line 2: parentPortIdentity aabbccfffeddee01: it takes a clockIdentity and a port
 grandmaster 00112233445566|line 2: grandmaster 00112233445566: it takes a clockIdentity
 grandmaster 0011223344556677|a grandmaster is given whole: grandmaster_priority1 is missing$
-steps_removed\x001|line 2: it has an octet that is no ASCII text$
+steps_removed\x001|line 2: it has an octet that is not ASCII$
 port 2 state 9|nothing is observed: NO_PORT$
 clock_accuracy 0x16|nothing is observed: BAD_CLOCK_ACCURACY$
 END

@@ -13,7 +13,7 @@ $identity far0 a_name_of_far0__|a_name_of_far0__: it has over 15 octets: ip link
 -d 256 $identity far0|-d 256: it takes a number from 0 to 255
 -m 0011223344556677 $identity far0|-m 0011223344556677: it takes
 -m $other/65535 $identity far0|-m $other/65535: port 65535 means every port
--m ffffffffffffffff/1 $identity far0|-m ffffffffffffffff/1: it means every clock, and is no manager
+-m ffffffffffffffff/1 $identity far0|-m ffffffffffffffff/1: it means every clock
 -m $other/1 -m $identity/2 $identity far0|-m $identity/2: it has the identity of the clock, which hears no such manager
 -u $work/socket -o $work/nothing $identity|$work/nothing: No such file or directory
 -u $work/socket -o $work $identity|$work: it is neither a file nor a pipe

@@ -98,7 +98,7 @@ fn clock_of(
         return Ok(Kept::Saved(clock, store));
     };
     let (clock, gone) = Clock::restore(settings.identity, ports.len(), managers, &image)?;
-    println!("it goes on where it was saved; requests of {gone} managers are let go");
+    println!("it goes on where it was saved; requests of {gone} managers are forgotten");
     Ok(Kept::Saved(SavingClock::new(clock, MOST_WAITING)?, store))
 }
 

@@ -3,12 +3,16 @@
 ghost use Rattle.std.specs.Prelude.{◌≡◌, IfOk, length};
 
 use crate::finding::followers::{Followers, Head, SoToo};
+use crate::finding::found_line::FoundLine;
 use crate::finding::lines::{FindingLine, FindingLines, alike_together, each_line, open_lines};
+use crate::finding::phrases::clock_of;
 use crate::finding::remarks::Remark;
 use crate::finding::text::{FindingText, Words};
 use crate::look::Look;
 use crate::not_judged::limit_of;
 use crate::trees::Clocks;
+use ptpm_causes::Kind;
+use ptpm_commands::Fault;
 use ptpm_site::reading::source::Source;
 use std::alloc::{AllocError, Global};
 use std::io::Write;
@@ -70,76 +74,106 @@ impl FindingReport {
         })
     }
 
-    /// Prints the lines of the findings.
-    pub(crate) fn print<O: Write>(&self, look: &Look<'_, '_>, out: &mut O) -> io::Result<()> {
-        self.print_lines(look, look.found.as_slice(), &self.found, out)
+    /// Prints the lines of the findings, and answers them.
+    pub(crate) fn print<O: Write>(
+        &self,
+        alloc: Global,
+        look: &Look<'_, '_>,
+        out: &mut O,
+    ) -> Result<Vec<FoundLine>, Fault> {
+        let lines = self.lines_in(alloc, look, look.found.as_slice(), &self.found)?;
+        print_lines(lines.as_slice(), out)?;
+        Ok(lines)
     }
 
     /// Prints what is open, one a line, if there is any.
-    pub(crate) fn print_open<O: Write>(&self, look: &Look<'_, '_>, out: &mut O) -> io::Result<()> {
+    pub(crate) fn print_open<O: Write>(
+        &self,
+        alloc: Global,
+        look: &Look<'_, '_>,
+        out: &mut O,
+    ) -> Result<(), Fault> {
         if self.open.lines.is_empty() {
             return Ok(());
         }
         writeln!(out, "open: {}", self.open.lines.len())?;
-        self.print_lines(look, look.open.as_slice(), &self.open, out)
+        let lines = self.lines_in(alloc, look, look.open.as_slice(), &self.open)?;
+        print_lines(lines.as_slice(), out)?;
+        Ok(())
     }
 
-    fn print_lines<O: Write>(
+    /// The lines in words. Each is of a remark that is there.
+    fn lines_in(
         &self,
+        alloc: Global,
         look: &Look<'_, '_>,
         remarks: &[Remark<'_>],
         all: &FindingLines,
-        out: &mut O,
-    ) -> io::Result<()> {
+    ) -> Result<Vec<FoundLine>, AllocError> {
+        let mut lines = Vec::new(alloc);
         for (number, line) in all.lines.as_slice().iter().enumerate() {
             match *line {
                 FindingLine::One { place, is_first } => match remarks.get(place) {
-                    Some(remark) => self.print_one(look, remark, is_first, out)?,
+                    Some(remark) => lines.push(self.one_line(alloc, look, remark, is_first)?)?,
                     None => {}
                 },
                 FindingLine::Many { place, more } => match remarks.get(place) {
                     Some(remark) => {
                         let so_too = SoToo(all.of_many.at(Head::Many(number)));
-                        print_many(remark, more, so_too, out)?;
+                        lines.push(many_line(alloc, remark, more, so_too)?)?;
                     }
                     None => {}
                 },
                 FindingLine::Unseen(source, count) => {
-                    self.print_unseen(look, source, count, out)?;
+                    lines.push(self.unseen_line(alloc, look, source, count)?)?;
                 }
             }
         }
-        Ok(())
+        Ok(lines)
     }
 
-    fn print_one<O: Write>(
+    fn one_line(
         &self,
+        alloc: Global,
         look: &Look<'_, '_>,
         remark: &Remark<'_>,
         is_first: bool,
-        out: &mut O,
-    ) -> io::Result<()> {
+    ) -> Result<FoundLine, AllocError> {
         let so_too = self.so_too(look, is_first, Head::of(remark.named));
         let (words, name) = (Words(remark), look.name_at(remark.finding));
-        writeln!(out, "{words}{so_too}{name}")
+        Ok(FoundLine {
+            domain: remark.source().domain,
+            kind: remark.named.kind,
+            key: key_of(alloc, remark)?,
+            words: format!(in alloc; "{words}")?,
+            whole: format!(in alloc; "{words}{so_too}{name}")?,
+            follows: false,
+        })
     }
 
-    /// Prints that a grandmaster is not seen, and how many clocks name it.
-    fn print_unseen<O: Write>(
+    /// The line of a grandmaster that is not seen, with how many clocks name it.
+    fn unseen_line(
         &self,
+        alloc: Global,
         look: &Look<'_, '_>,
         source: Source,
         count: usize,
-        out: &mut O,
-    ) -> io::Result<()> {
+    ) -> Result<FoundLine, AllocError> {
         let Source { domain, clock } = source;
         let (clocks, verb) = (Clocks(count), if count == 1 { "names" } else { "name" });
         let so_too = self.so_too(look, true, Head::of_unseen(source));
         let name = look.beside.names.quoted(clock);
-        writeln!(
-            out,
-            "{domain} {clock} grandmaster_not_seen {clocks} {verb} it{so_too}{name}"
-        )
+        let key = format!(in alloc; "{domain} {clock} grandmaster_not_seen")?;
+        let words = format!(in alloc; "{key} {clocks} {verb} it")?;
+        let whole = format!(in alloc; "{words}{so_too}{name}")?;
+        Ok(FoundLine {
+            domain,
+            kind: Kind::GrandmasterNotSeen,
+            key,
+            words,
+            whole,
+            follows: false,
+        })
     }
 
     /// What follows from the finding of a line, if the line is the first of its name at its clock. Nothing if each has a line.
@@ -160,15 +194,45 @@ fn count_following(look: &Look<'_, '_>) -> usize {
         .count()
 }
 
-/// Prints a line for many clocks more that have the same finding.
-fn print_many<O: Write>(
+/// The domain, the clock and the name of a finding.
+pub(crate) fn key_of(alloc: Global, remark: &Remark<'_>) -> Result<String, AllocError> {
+    let (domain, name) = (remark.source().domain, remark.named.kind.name());
+    match clock_of(remark.finding) {
+        Some(clock) => format!(in alloc; "{domain} {clock} {name}"),
+        None => format!(in alloc; "{domain} - {name}"),
+    }
+}
+
+/// The line for many clocks more that have the same finding.
+fn many_line(
+    alloc: Global,
     remark: &Remark<'_>,
     more: usize,
     so_too: SoToo<'_>,
-    out: &mut O,
-) -> io::Result<()> {
-    let (domain, said, clocks) = (remark.source().domain, FindingText(remark), Clocks(more));
-    writeln!(out, "{domain} - {said} of {clocks} more{so_too}")
+) -> Result<FoundLine, AllocError> {
+    let (domain, kind, said) = (
+        remark.source().domain,
+        remark.named.kind,
+        FindingText(remark),
+    );
+    let (name, clocks) = (kind.name(), Clocks(more));
+    let words = format!(in alloc; "{domain} - {said} of {clocks} more")?;
+    let whole = format!(in alloc; "{words}{so_too}")?;
+    Ok(FoundLine {
+        domain,
+        kind,
+        key: format!(in alloc; "{domain} - {name}")?,
+        words,
+        whole,
+        follows: false,
+    })
+}
+
+fn print_lines<O: Write>(lines: &[FoundLine], out: &mut O) -> io::Result<()> {
+    for line in lines {
+        writeln!(out, "{}", line.whole)?;
+    }
+    Ok(())
 }
 
 /// Lines, with one for many that are alike unless all are wanted.

@@ -1,7 +1,9 @@
 //! A finding as a JSON object.
 
+use crate::finding::found_line::FoundLine;
 use crate::finding::phrases::{clock_of, clock_of_cause};
 use crate::finding::remarks::Remark;
+use crate::finding::report::key_of;
 use crate::finding::values::{FindingValue, FindingValues, TakeValues, hand_values};
 use crate::json::members::{Members, identity_value, text_value};
 use crate::look::Look;
@@ -13,15 +15,35 @@ use ptpm_site::reading::asked::Asked;
 use serde_json::{Value, json};
 use std::alloc::{AllocError, Global};
 
-/// A finding: its clock, its name, from which other it follows, and its values.
-pub(crate) fn finding_value(
+/// A finding as a text of JSON.
+pub(crate) fn found_object(
     alloc: Global,
     look: &Look<'_, '_>,
     remark: &Remark<'_>,
+) -> Result<FoundLine, AllocError> {
+    let described = look.picture.site.description(remark.source());
+    Ok(FoundLine {
+        domain: remark.source().domain,
+        kind: remark.named.kind,
+        key: key_of(alloc, remark)?,
+        words: finding_value(alloc, remark, None)?.to_string(alloc)?,
+        whole: finding_value(alloc, remark, described)?.to_string(alloc)?,
+        follows: remark.cause.is_some(),
+    })
+}
+
+/// A finding: its clock with its description, its name, from which other it follows, and its values.
+fn finding_value(
+    alloc: Global,
+    remark: &Remark<'_>,
+    described: Option<&str>,
 ) -> Result<Value, AllocError> {
     let mut members = Members::none(alloc);
     members.put_value("because", cause_value(alloc, remark.cause)?)?;
-    put_place(&mut members, look, remark)?;
+    put_place(&mut members, remark)?;
+    if let Some(text) = described {
+        members.put_text("userDescription", text)?;
+    }
     members.put_text("finding", remark.named.kind.name())?;
     members.put_text("severity", remark.severity.word())?;
     hand_values(&remark.finding.what, &mut members)?;
@@ -41,20 +63,12 @@ impl TakeValues for Members {
     }
 }
 
-/// Puts the domain, the clock, and its description if it answered one.
-fn put_place(
-    members: &mut Members,
-    look: &Look<'_, '_>,
-    remark: &Remark<'_>,
-) -> Result<(), AllocError> {
+/// Puts the domain and the clock.
+fn put_place(members: &mut Members, remark: &Remark<'_>) -> Result<(), AllocError> {
     let source = remark.source();
     members.put_number("domainNumber", source.domain.number() as i64)?;
     members.put_number("sdoId", source.domain.sdo() as i64)?;
-    put_clock(members, clock_of(remark.finding))?;
-    match look.picture.site.description(source) {
-        Some(text) => members.put_text("userDescription", text),
-        None => Ok(()),
-    }
+    put_clock(members, clock_of(remark.finding))
 }
 
 /// Puts the identity of a clock, or a dash for a whole domain.

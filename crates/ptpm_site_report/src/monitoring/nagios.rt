@@ -1,7 +1,7 @@
 //! A site as a plugin of Nagios, or of Icinga, shows it: a line, and the findings below it.
 
 ghost use Rattle.std.specs.Prelude.{◌≡◌};
-ghost use Rattle.ptpm_site_report.specs.Reporting.{standing};
+ghost use Rattle.ptpm_site_report.specs.Reporting.{plugin_status, standing};
 
 use crate::finding::report::FindingReport;
 use crate::look::Look;
@@ -31,7 +31,9 @@ pub enum Standing {
 
 impl Standing {
     /// The exit status of a plugin.
-    pub fn status(self) -> u8 {
+    pub fn status(self) -> u8
+        ensures { result ≡ plugin_status self }
+    {
         match self {
             Standing::Sound => 0,
             Standing::Warning => 1,
@@ -74,8 +76,8 @@ pub(crate) fn print_plugin<O: Write>(
     let report = FindingReport::of(alloc, look)?;
     print_head(look, limit, report.sum.lines, out)?;
     let mut lines: Vec<u8> = Vec::new(alloc);
-    match report.print(look, &mut lines) {
-        Ok(()) => print_without_bars(lines.as_slice(), out)?,
+    match report.print(alloc, look, &mut lines) {
+        Ok(_) => print_without_bars(lines.as_slice(), out)?,
         Err(_) => return Err(Fault::OutOfMemory),
     }
     Ok(())

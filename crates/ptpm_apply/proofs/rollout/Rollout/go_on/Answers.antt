@@ -12,4 +12,4 @@ returns-in-Some c =
 pub returns-in-GiveUp : goal.returns-in-GiveUp
 returns-in-GiveUp c =
     let gives : c.args.self.now.choice ≡ choices.GiveUp = sym (ap (λ (o : RolloutValue). o.choice) c.self.view_is) ∙ c.in-GiveUp.is in
-    Ends endings.GivenUp c.first_let_go.result c.end.ensures gives ((c.in_default.ensures {u = tt}).none (λ h. cc (gives, h)))
+    Ends endings.GivenUp c.first_let_go.result c.end.ensures (gives, c.first_let_go.ensures) ((c.in_default.ensures {u = tt}).none (λ h. cc (gives, h)))

@@ -6,7 +6,8 @@ use Rattle.ptpm_apply.proofs.rollout.Rollout.go_on_apart.Goals as goal
 
 pub returns-in-Some : goal.returns-in-Some
 returns-in-Some c =
-    Leaves c.in-Some.lane c.leave.ensures c.requires.seen c.requires.keeps_going (c.in-Some.ensures {u = tt})
+    let found = c.in-Some.ensures {u = tt} in
+    Leaves c.in-Some.lane c.leave.ensures c.requires.seen c.requires.keeps_going found.marked found.over
 
 pub returns-then-not-are_done : goal.returns-then-not-are_done
 returns-then-not-are_done c =
