@@ -11,6 +11,7 @@ use Rattle.ptpm_codec.specs.Identity.{port_identity_text}
 use Rattle.ptpm_codec.specs.Message.{action_name, action_of, error_name, error_number, error_of, id_of, octets_of, text_of}
 use Rattle.ptpm_codec.specs.Reading.{reading}
 use Rattle.ptpm_members.specs.FieldText.{field_text}
+use Rattle.ptpm_members.specs.IdNames.{id_name}
 use Rattle.ptpm_members.specs.OtherIds.{name_of_id}
 use Rattle.ptpm_message_json.specs.MessageJson.{message_text, named_errors}
 use Rattle.ptpm_text.specs.OctetText.{text_of_octets}
@@ -78,9 +79,14 @@ value_lines form id None octets text = data_lines form id octets
 value_lines form id (Some error) octets text =
     named_line (codes "error ") error (error_named error) ++ line (codes "text ") (text_of_octets text)
 
+-- the name of an id: beside its octets one of this profile's table, beside its members also one of others
+abbrev pub shown_name : Values → ℕ → Option (List ℕ)
+shown_name values.Octets id = id_name id
+shown_name _ id = name_of_id id
+
 unfoldable pub body_lines : Values → Message → List ℕ
 body_lines form m =
-    named_line (codes "id ") (id_of m.body) (name_or_dash (name_of_id (id_of m.body)))
+    named_line (codes "id ") (id_of m.body) (name_or_dash (shown_name form (id_of m.body)))
     ++ value_lines form (id_of m.body) (error_of m.body) (octets_of m.body) (text_of m.body)
 
 -- ---- the whole

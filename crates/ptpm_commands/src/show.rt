@@ -4,18 +4,17 @@ ghost use Rattle.std.specs.Prelude.{◌≡◌, ◌≢◌, ◌≤◌, ◌⊎◌, 
 ghost use Rattle.std.specs.Io.KnownBytes.{Appends};
 ghost use Rattle.ptpm_codec.specs.Message.{error_of, id_of, octets_of, text_of};
 ghost use Rattle.ptpm_codec.specs.Reading.{reading};
-ghost use Rattle.ptpm_members.specs.OtherIds.{name_of_id};
 ghost use Rattle.ptpm_commands.specs.Faults.{IsAtLine, IsAtSomeLine, is_of_line, is_outside};
 ghost use Rattle.ptpm_text.specs.Lines.{whole_lines};
 ghost use Rattle.ptpm_commands.specs.Lines.{left_in, row_value};
 ghost use Rattle.ptpm_commands.specs.Taken.{HasNumbers, HasTaken, IsNext, ShowsNext, ShowsRow, good, line_message, message_of_row, taken};
-ghost use Rattle.ptpm_commands.specs.Show.{AreShown, IsShown, action_lines, body_lines, column_lines, data_lines, error_named, field_lines, header_lines, identity_lines, message_lines, message_of, name_or_dash, named_line, object_line, read_as, row_lines, sdo_line, value_lines};
+ghost use Rattle.ptpm_commands.specs.Show.{AreShown, IsShown, action_lines, body_lines, column_lines, data_lines, error_named, field_lines, header_lines, identity_lines, message_lines, message_of, name_or_dash, named_line, object_line, read_as, row_lines, sdo_line, shown_name, value_lines};
 
 use crate::columns::Row;
 use crate::faults::{Done, Fault, tell};
 use crate::lines::Lines;
 use ptpm_codec::{ErrorId, View, view};
-use ptpm_members::{FieldText, id_name};
+use ptpm_members::{FieldText, id_name, profile_id_name};
 use ptpm_message_json::message_text;
 use ptpm_text::Hexadecimal;
 use std::alloc::Global;
@@ -313,13 +312,14 @@ fn show_sdo<O: Write>(sdo: u16, out: &mut O) -> io::Result<()>
     )
 }
 
-/// The managementId, whose name is `-` if the table of ids has none, and what follows it in the TLV.
+/// The managementId with its name, `-` if there is none, and what follows it in the TLV.
 #[tactic(auto, unfolding(crate::specs::Show::body_lines))]
 fn show_body<O: Write>(form: Values, message: &View<'_>, out: &mut O) -> io::Result<()>
     ensures { OnOk result (Appends (O.contents out.old) (O.contents out.new) (body_lines form message.now)) }
 {
     let id = message.id();
-    writeln!(out, "id {} {}", Hexadecimal(&id.to_be_bytes()), name_of(id))?;
+    let name = name_of(form, id);
+    writeln!(out, "id {} {name}", Hexadecimal(&id.to_be_bytes()))?;
     show_value(form, message, out)
 }
 
@@ -363,9 +363,14 @@ fn show_error<O: Write>(number: u16, out: &mut O) -> io::Result<()>
     }
 }
 
-/// The name of a managementId; `-` if it has none here.
-fn name_of(id: u16) -> &'static str
-    ensures { result.now ≡ name_or_dash (name_of_id id) }
+/// The name of a managementId: beside its octets one of this profile's table, beside its members also one of others. `-` if there
+/// is none.
+fn name_of(form: Values, id: u16) -> &'static str
+    ensures { result.now ≡ name_or_dash (shown_name form id) }
 {
-    id_name(id).unwrap_or("-")
+    let name = match form {
+        Values::Octets => profile_id_name(id),
+        Values::Members | Values::Json => id_name(id),
+    };
+    name.unwrap_or("-")
 }

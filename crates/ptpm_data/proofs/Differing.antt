@@ -144,7 +144,7 @@ none_past (p ∷ ports) (suc place) past = none_past ports place (omega (arith, 
 
 no_port : (ports : List PortDataSet) (port : ℕ) → length ports < port → port_among port ports ≡ None
 no_port ports zero past = refl
-no_port ports (suc place) past = none_past ports place (omega (arith, past))
+no_port ports (suc place) past = let none = none_past ports place (omega (arith, past)) in grind arith
 
 -- one more port is told in the place of one that is not yet
 set_behind : {X : Type 0} (xs : List X) (n : ℕ) (none x : X) → set (xs ++ replicate (suc n) none) (length xs) x ≡ (xs ++ x ∷ []) ++ replicate n none

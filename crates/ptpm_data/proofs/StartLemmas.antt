@@ -6,12 +6,11 @@ use Rattle.std.proofs.lemmas.List.{take_more, map-append}
 use Rattle.std.specs.Option.{option_or}
 use Rattle.ptpm_data.specs.declared.members.Member.{Member}
 use Rattle.ptpm_data.specs.declared.members.Member.TheVariants as members
-use Rattle.ptpm_data.specs.declared.ports.TheConstants.{PORTS}
 use Rattle.ptpm_data.specs.declared.start.StartError.{StartError}
 use Rattle.ptpm_data.specs.declared.start.StartError.TheVariants.{BadValue}
 use Rattle.ptpm_data.specs.declared.start.PortStart.{PortStart}
 use Rattle.ptpm_data.specs.declared.data_sets.PortDataSet.{PortDataSet}
-use Rattle.ptpm_data.specs.Start.{port_data_set, port_fault, ports_fault, port_start_of, start_of, started, unless, count_fault, clock_fault, first_out, grandmaster_fault, is_in_clock_range, judged_of_clock}
+use Rattle.ptpm_data.specs.Start.{port_data_set, port_fault, ports_fault, port_start_of, start_within, started, unless, count_fault, clock_fault, first_out, grandmaster_fault, is_in_clock_range, judged_of_clock}
 use Rattle.ptpm_data.specs.ManagementId.{set_of}
 use Rattle.ptpm_data.specs.Ranges.{all_ones, is_clock_accuracy, is_description}
 use Rattle.ptpm_data.specs.Members.{DataSetsValue, is_grandmaster, is_same_precedence}

@@ -1,15 +1,17 @@
 -- A start without a fault gives consistent data sets.
-use Rattle.std.proofs.Common.{arith, ◌≡◌, ap, refl, ℕ, ◌≤◌, List, [], ◌∷◌, length, Option, Some, None, Ok}
+use Rattle.std.proofs.Common.{arith, nat_lt, ◌≡◌, ap, refl, ℕ, ◌≤◌, List, [], ◌∷◌, length, Option, Some, None, Ok}
 use Rattle.std.specs.Option.{option_or}
 use Rattle.std.specs.Str.{is_utf8, chars}
+use Rattle.std.proofs.lemmas.Bool.Decides.{nat_tests}
 use Rattle.std.proofs.lemmas.List.{length-map}
 use Rattle.ptpm_data.specs.declared.start.ClockStart.{ClockStart}
 use Rattle.ptpm_data.specs.declared.ports.TheConstants.{INLINE_PORTS, PORTS}
 use Rattle.ptpm_data.specs.declared.start.PortStart.{PortStart}
+use Rattle.ptpm_data.specs.declared.start.StartError.{StartError}
 use Rattle.ptpm_data.specs.ManagementId.{set_of}
 use Rattle.ptpm_data.specs.Members.{IsConsistent}
 use Rattle.ptpm_data.specs.Ranges.{is_description}
-use Rattle.ptpm_data.specs.Start.{clock_fault, count_fault, default_clock, default_port, grandmaster_fault, no_identity, port_fault, ports_fault, start_fault, start_of, start_within, started}
+use Rattle.ptpm_data.specs.Start.{clock_fault, count_fault, default_clock, default_data_set, default_port, grandmaster_fault, no_identity, parent_data_set, port_fault, ports_fault, start_fault, start_of, start_within, started, unless}
 use Rattle.ptpm_data.proofs.Ranging.{ports_start}
 use Rattle.ptpm_data.proofs.StartLemmas.{accuracy_sound, count_sound, description_small, description_sound, grandmaster_sound, identity_sound, leaps_sound}
 
@@ -39,6 +41,17 @@ few_consistent c ports none = starts_consistent INLINE_PORTS c ports none (omega
 
 pub many_consistent : (c : ClockStart) (ports : List PortStart) → start_fault PORTS c ports ≡ None → IsConsistent (started c ports)
 many_consistent c ports none = starts_consistent PORTS c ports none (omega arith)
+
+-- a clock of few ports starts alike, whether or not it may take memory
+count_same : (n : ℕ) → n ≤ INLINE_PORTS → count_fault PORTS n ≡ count_fault INLINE_PORTS n
+unfolding count_fault
+count_same n small = grind (arith, nat_lt, nat_tests)
+
+pub same_start : (c : ClockStart) (ports : List PortStart) → length ports ≤ INLINE_PORTS → start_within PORTS c ports ≡ start_of c ports
+unfolding start_within
+same_start c ports small =
+    ap (λ (fault : Option StartError). unless (option_or fault (option_or (clock_fault c) (option_or (ports_fault ports) (grandmaster_fault (default_data_set c) (parent_data_set c))))) (started c ports))
+    (count_same (length ports) small)
 
 pub text_fits : (most : ℕ) (c : ClockStart) (ports : List PortStart) (text : List ℕ)
     → start_fault most c ports ≡ None

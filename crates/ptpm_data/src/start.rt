@@ -535,6 +535,7 @@ impl DataSets {
     /// and never again.
     ///
     /// Refused with the first `StartError` that holds, or if memory is.
+    #[tactic(auto, using(crate::proofs::Starting::same_start))]
     pub fn new_in(
         alloc: Global,
         clock: &ClockStart,

@@ -31,7 +31,10 @@ impl<T: Drop> From<AllocFailed<T>> for Ended {
 }
 
 impl From<io::Error> for Ended {
-    fn from(_: io::Error) -> Ended {
-        Ended::Fault(Fault::WriteFault)
+    fn from(error: io::Error) -> Ended {
+        Ended::Fault(match error.kind() {
+            io::ErrorKind::OutOfMemory => Fault::OutOfMemory,
+            _ => Fault::WriteFault,
+        })
     }
 }
