@@ -12,11 +12,13 @@ ghost use Rattle.ptpm_data.specs.Changes.{IsTargetPort, changed_by};
 ghost use Rattle.ptpm_data.specs.Members.{HasPort};
 ghost use Rattle.ptpm_data.specs.Observation.{left_disabled, observation_refusal};
 ghost use Rattle.ptpm_data.specs.Refusals.{refusal_of};
+ghost use Rattle.ptpm_data.specs.Reply.{ReplyValue};
 ghost use Rattle.ptpm_data.specs.Rights.{all_rights};
 ghost use Rattle.ptpm_data.specs.Start.{unless};
 ghost use Rattle.ptpm_table.specs.Entries.{CanResend, FitsRequest, is_known};
 ghost use Rattle.ptpm_table.specs.Managers.{IsFresh, has_twice, identities, most_managers};
 ghost use Rattle.ptpm_table.specs.Rendering.{IsSendable, rendered};
+ghost use Rattle.ptpm_table.specs.Sending.{IsSentReply};
 ghost use Rattle.ptpm_agent.specs.Agent.{IsTurned, clock_of, state_of};
 ghost use Rattle.ptpm_agent.specs.Forwarding.{forwarded};
 ghost use Rattle.ptpm_agent.specs.Laws.{StandsAt, after_each, datagrams_of, due_messages, last_sent};
@@ -404,6 +406,32 @@ impl<T: SureTable + Drop> Agent<T> {
         ensures most { T.most self.new.table ≡ T.most self.old.table }
     {
         self.table.replace(who, number, request, reply);
+    }
+
+    /// Keeps a manager's request with the reply that was sent for the copy that was heard, as the clock's device makes it. The data
+    /// sets stay as they are. The messages and `of_port` are those of `SureTable::keep_sent`.
+    pub fn keep_sent<O: Outgoing>(
+        &mut self,
+        heard: &Heard,
+        request: &Request<'_>,
+        of_port: bool,
+        out: &O,
+    )
+        requires known { IsTrue (is_known heard.now.source (T.owner self.old.table).managers) }
+        requires action { IsRequestAction request.now.action }
+        requires octets { IsDataField request.now.octets }
+        requires sent { (r : ReplyValue) × IsSentReply (T.owner self.old.table).identity heard.now
+            request.now.action request.now.id of_port (O.sent out.now) r }
+        requires few { length (O.sent out.now) ≤ T.most self.old.table }
+        ensures sets { self.new.sets ≡ self.old.sets }
+        ensures entries { (r : ReplyValue) → IsSentReply (T.owner self.old.table).identity heard.now
+            request.now.action request.now.id of_port (O.sent out.now) r →
+            T.entries self.new.table ≡ fin.insert (T.entries self.old.table) heard.now.source
+            (record { number = heard.now.number; request = request.now; reply = r }) }
+        ensures owner { T.owner self.new.table ≡ T.owner self.old.table }
+        ensures most { T.most self.new.table ≡ T.most self.old.table }
+    {
+        self.table.keep_sent(heard, request, of_port, out);
     }
 
     /// What `try_handle` does, over a table that always has room: never refused, and it takes no memory.
