@@ -1,6 +1,6 @@
 //! A manager's place in a table of fixed size.
 
-ghost use Rattle.std.specs.Prelude.{◌≡◌, ◌<◌, ◌≤◌, ◌+◌, ◌++◌, ℕ, Some, length, slice_get, slice_index};
+ghost use Rattle.std.specs.Prelude.{◌≡◌, ◌<◌, ◌≤◌, ◌+◌, ◌++◌, ℕ, [], Some, length, slice_get, slice_index};
 ghost use Rattle.std.specs.Int.{from_be_bytes, w64};
 ghost use Rattle.std.specs.Ordering.{is_lt};
 ghost use Rattle.ptpm_codec.specs.Identity.{identity_cmp};
@@ -56,7 +56,8 @@ impl Slot {
         manager: &(PortIdentity, Rights),
         reply: KeptOctets,
     ) -> Slot
-        requires { INLINE_PORTS ≤ reply.most }
+        requires empty { (reply.sizes ≡ []) × (reply.octets ≡ []) }
+        requires least { INLINE_PORTS ≤ reply.most }
         ensures clock { result.kept.clock ≡ clock.now }
         ensures manager { result.kept.manager ≡ manager.now.0 }
         ensures rights { result.rights ≡ manager.now.1 }
@@ -151,7 +152,8 @@ impl Model for Kept {
 impl Kept {
     /// The content of a slot that was not used yet.
     pub(crate) fn nothing(clock: &ClockIdentity, manager: &PortIdentity, reply: KeptOctets) -> Kept
-        requires { INLINE_PORTS ≤ reply.most }
+        requires empty { (reply.sizes ≡ []) × (reply.octets ≡ []) }
+        requires least { INLINE_PORTS ≤ reply.most }
         ensures clock { result.clock ≡ clock.now }
         ensures manager { result.manager ≡ manager.now }
         ensures most { result.most ≡ reply.most }

@@ -1,6 +1,6 @@
 //! What is found and kept in slots, one for each manager, wherever they lie.
 
-ghost use Rattle.std.specs.Prelude.{◌≡◌, ◌↔◌, ◌≤◌, ℕ, ◌<◌, false, MatchOption, count_by, slice_get, IfSome, IsTrue, All, Some, is_some, length, position};
+ghost use Rattle.std.specs.Prelude.{◌≡◌, ◌↔◌, ◌≤◌, ℕ, ◌<◌, false, MatchOption, count_by, slice_get, IfSome, IsTrue, All, Some, is_some, length, position, true};
 ghost use Rattle.std.specs.FinMap as fin;
 ghost use Rattle.std.specs.Option.{option_copied};
 ghost use Rattle.ptpm_codec.specs.declared.identity.ClockIdentity.{ClockIdentity};
@@ -35,6 +35,9 @@ pub(crate) fn slot_at<'a>(slots: &'a [Slot], who: &PortIdentity) -> Option<&'a S
     ensures own { (clock : ClockIdentity)
         → All (λ c. c ≡ clock) (clocks slots.now)
         → IfSome result (λ s. s.now.kept.clock ≡ clock) }
+    ensures few { (most : ℕ)
+        → HaveFew most slots.now
+        → IfSome result (λ s. s.now.taken ≡ true → length s.now.kept.entry.reply.answers ≤ most) }
 {
     find_slot(slots, who)
 }

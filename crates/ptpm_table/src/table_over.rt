@@ -5,6 +5,7 @@ ghost use Rattle.std.specs.FinMap as fin;
 ghost use Rattle.ptpm_codec.specs.Message.{IsDataField, IsRequestAction};
 ghost use Rattle.ptpm_table.specs.Entries.{FitsRequest, is_known};
 ghost use Rattle.ptpm_table.specs.Managers.{has_twice, identities};
+ghost use Rattle.ptpm_table.specs.declared.managers.TheConstants.{MOST_MANAGERS};
 ghost use Rattle.ptpm_table.specs.Slots.{AreKeepable, AreKeepable-prop, HaveFew, HaveRoom, clocks, configured};
 
 use crate::heard::Heard;
@@ -29,7 +30,7 @@ pub struct TableOver<M: SlotMemory + Drop> {
     pub(crate) answers: u16,
     ghost distinct: { has_twice (identities (configured (M.slots slots))) ≡ false },
     ghost own: { All (λ c. c ≡ clock) (clocks (M.slots slots)) },
-    ghost few: { length (M.slots slots) ≤ 16 },
+    ghost few: { length (M.slots slots) ≤ MOST_MANAGERS },
     ghost keepable: { AreKeepable (M.slots slots) } by { AreKeepable-prop (M.slots slots) },
     ghost have_room: { HaveRoom answers (M.slots slots) },
     ghost have_few: { HaveFew answers (M.slots slots) },
