@@ -289,7 +289,8 @@ fn keep<T: SureTable + Drop>(agent: &mut Agent<T>, get: &Asked<'_>, octets: &[u8
 {
     data_sets_law(agent.sets());
     let reply = reply_given(&get.request, octets);
-    agent.keep_again(&get.manager, get.number, &get.request, &reply);
+    let answers = reply.answers.as_slice();
+    agent.keep_again(&get.manager, get.number, &get.request, answers);
 }
 
 /// The reply to a GET with these octets: one answer, of the clock. They are refused if they are too many to be kept.
