@@ -362,6 +362,7 @@ impl<const SLOTS: usize> Agent<SlotTable<SLOTS>> {
     pub fn without_managers(sets: DataSets) -> Agent<SlotTable<SLOTS>>
         requires { length sets.ports ≤ INLINE_PORTS }
         ensures sets { result.sets ≡ sets }
+        ensures most { ⟦<SlotTable<SLOTS> as ReplyTable>⟧.most result.table ≡ INLINE_PORTS }
         ensures table { IsFresh sets.default.identity []
             (⟦<SlotTable<SLOTS> as ReplyTable>⟧.owner result.table)
             (⟦<SlotTable<SLOTS> as ReplyTable>⟧.entries result.table) }
@@ -376,7 +377,9 @@ impl<const SLOTS: usize> Agent<SlotTable<SLOTS>> {
         requires none { (⟦<SlotTable<SLOTS> as ReplyTable>⟧.owner self.old.table).managers ≡ [] }
         requires few { length managers.now ≤ most_managers SLOTS }
         requires distinct { has_twice (identities managers.now) ≡ false }
+        requires most { ⟦<SlotTable<SLOTS> as ReplyTable>⟧.most self.old.table ≡ INLINE_PORTS }
         ensures sets { self.new.sets ≡ self.old.sets }
+        ensures most { ⟦<SlotTable<SLOTS> as ReplyTable>⟧.most self.new.table ≡ INLINE_PORTS }
         ensures table { IsFresh (⟦<SlotTable<SLOTS> as ReplyTable>⟧.owner self.old.table).identity
             managers.now (⟦<SlotTable<SLOTS> as ReplyTable>⟧.owner self.new.table)
             (⟦<SlotTable<SLOTS> as ReplyTable>⟧.entries self.new.table) }
