@@ -17,7 +17,7 @@ use crate::reply_table::{Look, ReplyTable, SureTable};
 use crate::slot_list::{count_used, look_at, next_slot, put, put_sent, rights_of, slot_at};
 use crate::slot_memory::SlotMemory;
 use ptpm_codec::{ClockIdentity, OutOfMemory, PortIdentity};
-use ptpm_data::{Reply, Request, Rights};
+use ptpm_data::{PortAnswer, Reply, Request, Rights};
 
 /// The latest accepted requests, in slots of some memory, one for each manager. A slot has 2,144 octets, and blocks of memory for the messages of more than `INLINE_PORTS` answers. Replies are kept as octets:
 /// `keep_sent` copies the messages as they were sent, and `keep` encodes them. `resend` copies them and writes over what depends
@@ -35,6 +35,16 @@ pub struct TableOver<M: SlotMemory + Drop> {
     ghost have_room: { HaveRoom answers (M.slots slots) },
     ghost have_few: { HaveFew answers (M.slots slots) },
     ghost no_spare: { M.spare slots ≡ 0 },
+}
+
+impl<M: SlotMemory + Drop> TableOver<M> {
+    /// How many answers of a reply it keeps.
+    #[inline(always)]
+    pub fn answers_kept(&self) -> usize
+        ensures { result ≡ ⟦<TableOver<M> as ReplyTable>⟧.most self.now }
+    {
+        self.answers as usize
+    }
 }
 
 impl<M: SlotMemory + Drop> ReplyTable for TableOver<M> {
@@ -100,7 +110,7 @@ impl<M: SlotMemory + Drop> ReplyTable for TableOver<M> {
         ensures most { ⟦<TableOver<M> as ReplyTable>⟧.most self.new
             ≡ ⟦<TableOver<M> as ReplyTable>⟧.most self.old }
     {
-        self.replace(who, number, request, reply);
+        self.replace_answers(who, number, request, reply.answers.as_slice());
         Ok(())
     }
 
@@ -110,9 +120,15 @@ impl<M: SlotMemory + Drop> ReplyTable for TableOver<M> {
 }
 
 impl<M: SlotMemory + Drop> SureTable for TableOver<M> {
-    fn replace(&mut self, who: &PortIdentity, number: u16, request: &Request<'_>, reply: &Reply) {
+    fn replace_answers(
+        &mut self,
+        who: &PortIdentity,
+        number: u16,
+        request: &Request<'_>,
+        answers: &[PortAnswer],
+    ) {
         let slots = self.slots.slots_mut();
-        put(slots, who, number, request, reply);
+        put(slots, who, number, request, answers);
     }
 
     #[inline(always)]

@@ -3,7 +3,7 @@ use Rattle.ptpm_codec.specs.declared.identity.ClockIdentity.{ClockIdentity}
 use Rattle.ptpm_table.specs.Slots.{AreKeepable, HaveFew, HaveRoom, clocks}
 use Rattle.ptpm_table.specs.declared.managers.TheConstants.{MOST_MANAGERS}
 use Rattle.ptpm_table.specs.declared.slot.Slot.{Slot}
-use Rattle.ptpm_table.proofs.table_over.TableOverSureTable.replace.Goals as goal
+use Rattle.ptpm_table.proofs.table_over.TableOverSureTable.replace_answers.Goals as goal
 
 pub invariant_of-self-clause-own : goal.invariant_of-self-clause-own
 invariant_of-self-clause-own g c =
