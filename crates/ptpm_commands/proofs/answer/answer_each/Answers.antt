@@ -33,6 +33,7 @@ loop-number-preserved g c =
           record {
             clock = ap clock_shown w.clock-is ∙ turned.clock ∙ was.clock;
             port = rw w.clock-is turned.port;
+            few = rw w.clock-is turned.most;
             told = answers-kept fresh first (state_shown c.match-branch-3.clock) (n + 1) known others (W c.args.out.now) (W c.match-branch-3.out) (W c.flush_before_wait.new.out)
                 (rw (w.clock-is, w.out-is)
                 (answers-turn fresh (clock_shown c.loop-number.clock) first (state_shown c.loop-number.clock) (state_shown w.answer_datagram.new.clock) n known left others
@@ -45,6 +46,7 @@ loop-number-preserved g c =
           record {
             clock = ap clock_shown w.clock-is ∙ was.clock;
             port = rw w.clock-is was.port;
+            few = rw w.clock-is was.few;
             told = answers-kept fresh first (state_shown c.match-branch-3.clock) (n + 1) known others (W c.args.out.now) (W c.match-branch-3.out) (W c.flush_before_wait.new.out)
                 (rw (w.clock-is, w.out-is)
                 (answers-pass fresh first (state_shown c.loop-number.clock) n known left others (W c.args.out.now) (W c.loop-number.out) was.told at)) kept;
