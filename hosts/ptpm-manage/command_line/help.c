@@ -97,10 +97,10 @@ static const char site_text[] =
     "      --openmetrics       status as numbers for Prometheus\n"
     "      --nagios            status as a line for Nagios or Icinga, with the status of a plugin\n"
     "      --output FILE       status writes to FILE, which is replaced whole\n"
-    "      --lines FILE        status writes the lines of its latest look to FILE, as collect prints them\n"
-    "      --once              status does not look a second time at findings that may pass\n"
-    "      --for SECONDS       status looks each 2 seconds for this long, and then prints once\n"
-    "      --watch SECONDS     status looks again and again, and prints the changes\n"
+    "      --lines FILE        status writes the lines of its latest poll to FILE, as collect prints them\n"
+    "      --once              status does not poll a second time for findings that may pass\n"
+    "      --for SECONDS       status polls each 2 seconds for this long, and then prints once\n"
+    "      --watch SECONDS     status polls again and again, and prints the changes\n"
     "      --forget SECONDS    in a watch, a clock that no longer answers is a finding for this long (86400)\n"
     "\n";
 
