@@ -140,7 +140,7 @@ class Task:
     def _judge(self) -> None:
         words = self.words
         if words.unix is None and words.interface is None and words.udp is None:
-            raise ValueError("the way to the clock is missing: --interface NAME, --udp ADDRESS or --unix PATH")
+            raise ValueError("the transport is missing: --interface NAME, --udp ADDRESS or --unix PATH")
         if words.unix is not None and (words.interface is not None or words.udp is not None or words.ipv6):
             raise ValueError("--unix is without --interface, --udp and --ipv6")
         if self.action is None and self.target is not None:

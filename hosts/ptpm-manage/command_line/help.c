@@ -37,7 +37,7 @@ static const char help_text[] =
     "sends the SETs, one after another. A kill or a missing answer leaves an apply open, and resume\n"
     "continues it. rollback restores the values from before an apply. applies lists them.\n"
     "\n"
-    "The way to the clock:\n"
+    "Transport:\n"
     "  -i, --interface NAME    over UDP at this interface, to every clock there, with IPv4; collect and\n"
     "                          status take several\n"
     "  -6, --ipv6              with IPv6\n"

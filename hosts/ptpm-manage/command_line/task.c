@@ -445,11 +445,11 @@ static void part_own_socket(struct task *task) {
     task->path = NULL;
 }
 
-/* Whether what is said about the clock and the way to it is complete, and said once. */
+/* Whether what is said about the clock and its transport is complete, and said once. */
 static void judge(const struct task *task, const struct words *words) {
     bool is_sent = task->plan.verb != APPLIES && !(task->plan.verb == RESUME && task->is_letting_go);
     if (is_sent && task->path == NULL && task->interface_count == 0 && task->address == NULL) {
-        refuse("the way to the clock is missing: --interface NAME, --udp ADDRESS or --unix PATH");
+        refuse("the transport is missing: --interface NAME, --udp ADDRESS or --unix PATH");
     }
     if (task->path != NULL && (task->interface_count > 0 || task->address != NULL || task->is_six || task->is_ethernet)) {
         refuse("--unix excludes --interface, --udp, --ipv6 and --ethernet");

@@ -43,7 +43,7 @@ $to_utc -32769 leap61 0 leap59 0 currentUtcOffsetValid 1|currentUtcOffset -32769
 -i near0 -n 2 survey PRIORITY1|--times: what every port is asked is asked once
 -i near0 -n 2 status|--times: what every port is asked is asked once
 -i near0 -d 0 -d 4 status|--domain 4: --domain 0 is there already
---target $to get PRIORITY1|the way to the clock is missing
+--target $to get PRIORITY1|the transport is missing
 -i near0 -u $work/socket --target $to get PRIORITY1|--unix excludes
 -i near0 -a 0 --target $to get PRIORITY1|--attempts 0: it takes a number from 1 to 255
 -i near0 -m 0011223344556677 --target $to get PRIORITY1|--manager 0011223344556677: it takes
