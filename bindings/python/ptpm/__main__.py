@@ -130,7 +130,7 @@ class Task:
             except ValueError as error:
                 raise ValueError(f"set {words.id} {' '.join(value)}: {error}") from None
         if len(value) > 1:
-            raise ValueError(f"{value[1]}: there is a word too many")
+            raise ValueError(f"{value[1]}: there are too many words")
         if words.text:
             return data_field(self.id, value[0])
         if not re.fullmatch("([0-9a-fA-F]{4})*", value[0]):
@@ -148,9 +148,9 @@ class Task:
         if self.action is not None and self.target is None:
             raise ValueError("--target is missing: the clock that is asked; survey asks every clock")
         if words.numbers is not None and is_beyond_session(self.port):
-            raise ValueError(f"--numbers: no session is kept of a port above {SESSION_PORTS}, which no clock of ptpm has")
+            raise ValueError(f"--numbers: a request to a port above {SESSION_PORTS} has no session")
         if words.give_up and not self.is_numbered:
-            raise ValueError("--give-up: no session is kept of what is asked")
+            raise ValueError("--give-up: this request has no session")
 
     def way(self) -> Transport:
         """The socket that it uses."""
