@@ -26,7 +26,7 @@ static const char help_text[] =
     "ptpm-manage [OPTION].. applies [APPLY]\n"
     "\n"
     "Reads a data set of a PTP clock, sets a value, or sends a command, and prints the answer. The\n"
-    "request is repeated until it is answered. survey asks every clock and port. NAME is a member's\n"
+    "request is sent again until it is answered. survey asks every clock and port. NAME is a member's\n"
     "name, as the answer prints it: set PRIORITY1 100, or set UTC_PROPERTIES currentUtcOffset 37\n"
     "leap61 false leap59 false currentUtcOffsetValid true.\n"
     "\n"
@@ -86,7 +86,7 @@ static const char site_text[] =
     "                          no limit\n"
     "      --max-delay NS      delays above this limit too\n"
     "      --tai-utc S         how many seconds TAI is ahead of UTC (37)\n"
-    "      --settle SECONDS    a port that is not locked or settled after this time is a finding (10)\n"
+    "      --settle SECONDS    a port that has not locked or settled after this time is a finding (10)\n"
     "      --profile NAME      members that this profile does not allow are findings too: default,\n"
     "                          st2059-2, aes67 or gptp\n"
     "      --expect FILE       differences from this inventory of the site are findings too\n"
@@ -99,8 +99,8 @@ static const char site_text[] =
     "      --output FILE       status writes to FILE, which is replaced whole\n"
     "      --lines FILE        status writes the lines of its latest poll to FILE, as collect prints them\n"
     "      --once              status does not poll a second time for findings that may pass\n"
-    "      --for SECONDS       status polls each 2 seconds for this long, and then prints once\n"
-    "      --watch SECONDS     status polls again and again, and prints the changes\n"
+    "      --for SECONDS       status polls every 2 seconds for this long, and then prints once\n"
+    "      --watch SECONDS     status polls at this interval, and prints the changes\n"
     "      --forget SECONDS    in a watch, a clock that no longer answers is a finding for this long (86400)\n"
     "\n";
 
