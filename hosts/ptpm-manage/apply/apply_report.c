@@ -288,6 +288,7 @@ static void print_listed_json(const struct journal *journal, const char *file, b
         fputs("\",\"plan\":\"", stdout);
         write_plan(stdout, journal);
         printf("\",\"done\":%zu,\"steps\":%zu", count_done(journal), journal->count);
+        if (journal->skipped != NULL) print_skipped(journal->skipped);
     }
     printf(",\"end\":\"%s\"}", end);
 }
