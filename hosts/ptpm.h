@@ -1239,8 +1239,8 @@ enum ptpm_restored ptpm_clock_restore(struct ptpm_clock *clock, const uint8_t id
                                       const struct ptpm_manager_settings *managers, size_t manager_count,
                                       const uint8_t *image, size_t size, size_t *gone);
 
-/* Returns the most messages that one datagram makes at this clock, PTPM_MOST_SENT_OF its ports: a copy for each other port, and an
-   answer of each port. A queue of the host has to be that long.
+/* Returns the most messages that one datagram makes at this clock: a copy for each other port, and an answer of each port. That is
+   PTPM_MOST_SENT_OF its ports. A queue of the host has to be that long.
    Returns: the number; 0 if the handle holds no clock. */
 size_t ptpm_clock_most_sent(const struct ptpm_clock *clock);
 
