@@ -26,7 +26,8 @@
      realloc, free, memcpy, memmove and memset. No call calls itself.
 
    A call that only reads takes a const handle, and leaves it as it is. If several errors apply, the first is returned. Only
-   ptpm_clock_start may return PTPM_NO_MEMORY in its place. Every other call asks for memory only if no other error applies. */
+   ptpm_clock_start, and ptpm_clock_restore of a clock of over eight ports, may return PTPM_NO_MEMORY in its place. Every other call asks
+   for memory only if no other error applies. */
 #ifndef PTPM_H
 #define PTPM_H
 
@@ -852,6 +853,7 @@ __extension__ enum PTPM_FOUR_OCTETS(ptpm_saved) {
     PTPM_ACT_NOW = 31,                  /* ptpm_clock_saved: saved, and now the device is asked for what is under way */
     PTPM_SAVE_NO_CLOCK = PTPM_NO_CLOCK,
     PTPM_SAVE_NO_ROOM = PTPM_NO_ROOM,   /* for fewer octets than the image has, or than both have with its seal */
+    PTPM_SAVE_NO_MEMORY = PTPM_NO_MEMORY, /* ptpm_clock_image_of, of a clock of over eight ports */
     PTPM_SAVE_NO_SESSION = PTPM_NO_SESSION,
     PTPM_OTHER_IMAGE = 119              /* not the latest image, or it counted already */
 };
@@ -1031,7 +1033,7 @@ static inline enum ptpm_started ptpm_clock_start_sized(struct ptpm_clock *handle
 }
 
 /* Judges a datagram that came in at a port, carries its request out, and makes what is to be sent.
-   Takes:   the port, counted from 1; size octets; and room places, PTPM_MOST_SENT_OF its ports or more: one for a clock of one port.
+   Takes:   the port, counted from 1; size octets; and room places, ptpm_clock_most_sent or more: one for a clock of one port.
    Returns: what became of the datagram; or why it was not judged, and then *count is 0. That is PTPM_NO_CLOCK also for a clock
             that saves (ptpm_clock_saving).
    Writes:  *count, and the first *count places of sent: of each its port, its size, and as many octets.
@@ -1185,13 +1187,14 @@ size_t ptpm_clock_transit(const struct ptpm_clock *clock, uint16_t port, const u
    Takes:   how many messages may wait, ptpm_clock_most_sent or more: one for a clock of one port.
    Returns: PTPM_SAVING; or PTPM_NO_CLOCK, PTPM_NO_ROOM for fewer places, or PTPM_NO_MEMORY, and then nothing changes. If the clock
             saves already, the answer is PTPM_SAVING, and nothing changes.
-   Memory:  some 900 octets and 1,476 for each place, until the clock is stopped.
+   Memory:  some 900 octets and 1,476 for each place, until the clock is stopped; over eight ports 32 more for each port.
    Caller:  saves the clock whenever it is unsaved (ptpm_clock_unsaved), and at once if it was not restored. */
 enum ptpm_handled ptpm_clock_saving(struct ptpm_clock *clock, size_t places);
 
 /* Like ptpm_clock_image, of a clock that saves. An earlier image can't be confirmed any more.
    Takes:   what ptpm_clock_image takes.
-   Returns: what ptpm_clock_image returns; PTPM_NO_CLOCK also for a clock that does not save.
+   Returns: what ptpm_clock_image returns; PTPM_NO_CLOCK also for a clock that does not save; PTPM_NO_MEMORY only over eight ports.
+   Memory:  over eight ports a copy of them, 16 octets for each, and as much again until the call returns.
    Writes:  what ptpm_clock_image writes, and *token: how many images were made since ptpm_clock_saving. It is 0 if the call is
             refused.
    Caller:  stores the image, and calls ptpm_clock_saved with the token once a restart would find it, whatever happens to the
@@ -1233,14 +1236,16 @@ uint32_t ptpm_clock_unsaved(const struct ptpm_clock *clock);
             out before.
    Writes:  *gone: the number of requests of the image whose managers are not among those that are given. They are forgotten. If
             the call is refused it is 0.
-   Memory:  the clock, until it is stopped, as much as for a start.
+   Memory:  the clock, until it is stopped, as much as for a start. Over eight ports also 144 octets for each port until the call
+            returns. PTPM_NO_MEMORY then comes before what is refused after PTPM_OTHER_KIND.
    Caller:  stops the clock. */
 enum ptpm_restored ptpm_clock_restore(struct ptpm_clock *clock, const uint8_t identity[8], size_t port_count,
                                       const struct ptpm_manager_settings *managers, size_t manager_count,
                                       const uint8_t *image, size_t size, size_t *gone);
 
-/* Returns the most messages that one datagram makes at this clock: a copy for each other port, and an answer of each port. That is
-   PTPM_MOST_SENT_OF its ports. A queue of the host has to be that long.
+/* Returns the most messages that one datagram makes at this clock. A queue of the host has to be that long. It is PTPM_MOST_SENT_OF its
+   ports: a copy for each other port, and an answer of each port. If a kept reply has more answers, it is their number, eight at most.
+   Only an image that another program has made can bring such a reply.
    Returns: the number; 0 if the handle holds no clock. */
 size_t ptpm_clock_most_sent(const struct ptpm_clock *clock);
 

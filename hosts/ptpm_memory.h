@@ -26,12 +26,14 @@ extern "C" {
     ((size_t)656 + ((managers) > 0 ? PTPM_PIECE((size_t)(managers) * 2144) : 0) \
      + ((ports) > 8 ? PTPM_OF_MANY_PORTS((size_t)(ports), (size_t)(managers)) : 0))
 #define PTPM_OF_MANY_PORTS(ports, managers) \
-    (PTPM_PIECE(16 * (ports)) + PTPM_PIECE(24 * (ports)) + (managers) * (PTPM_PIECE(ports) + PTPM_PIECE(80 * (ports))))
+    (PTPM_PIECE(16 * (ports)) + PTPM_PIECE(144 * (ports)) + (managers) * (PTPM_PIECE(ports) + PTPM_PIECE(80 * (ports))))
 #define PTPM_PIECE(octets) (((octets) + 31) / 16 * 16)
 #define PTPM_CLOCK_MEMORY 34976
 
-/* What a clock takes besides once it is saved while it takes datagrams (ptpm_clock_saving), with places for this many messages. */
-#define PTPM_SAVING_MEMORY(places) ((size_t)1024 + ((size_t)(places) * 1476 + 31) / 16 * 16)
+/* What a clock of this many ports takes besides once it is saved while it takes datagrams (ptpm_clock_saving), with places for this
+   many messages. */
+#define PTPM_SAVING_MEMORY_OF(ports, places) \
+    ((size_t)1024 + PTPM_PIECE((size_t)(places) * 1476) + ((ports) > 8 ? 5 * PTPM_PIECE(16 * (size_t)(ports)) : 0))
 
 /* The most that a session takes, whatever its requests and their answers are. A restore in a live handle has both sessions for a
    moment. */

@@ -85,7 +85,7 @@ class Clock(Handle):
         done(self._call(library.ptpm_clock_start, ctypes.byref(struct), places, len(ports), trusted, len(managers)))
 
     def _begin(self, ports: int, managers: int) -> None:
-        """A handle that holds nothing, and room for an image of so many and for what a turn sends."""
+        """A handle that holds nothing. It will have these ports and managers."""
         super().__init__(header.ptpm_clock, library.ptpm_clock_stop)
         self._image_room = _image_bound(ports, managers)
         self._rooms: List[Any] = []  # for what a turn sends; a signal handler in a turn takes another one

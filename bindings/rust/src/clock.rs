@@ -22,7 +22,7 @@ pub const MOST_PORTS: usize = sys::PTPM_MOST_PORTS;
 /// The most octets of the image of a clock of up to eight ports and sixteen managers.
 pub const CLOCK_IMAGE_OCTETS: usize = sys::PTPM_CLOCK_IMAGE_OCTETS;
 
-/// The most octets of the image of a clock of so many ports and managers.
+/// The most octets of the image of a clock with this number of ports, and this of managers.
 pub const fn clock_image_octets(ports: usize, managers: usize) -> usize {
     417 + 15 * ports + managers * (1438 + 30 * if ports > 8 { ports } else { 8 })
 }
@@ -114,7 +114,7 @@ impl Clock {
     ///
     /// The first of [`Error::TooManyManagers`], [`Error::ManagerTwice`], [`Error::IdentityIsZero`], [`Error::NotAnImage`],
     /// [`Error::OtherVersion`], [`Error::OtherKind`], [`Error::Damaged`], [`Error::OtherClock`], [`Error::OtherPorts`] and
-    /// [`Error::NoMemory`] that holds. That is no reason to start a fresh clock: it would carry out requests again that were
+    /// [`Error::NoMemory`] that holds; the last comes earlier for a clock of over eight ports. That is no reason to start a fresh clock: it would carry out requests again that were
     /// carried out before.
     pub fn restore(identity: Identity, ports: usize, managers: &[Manager], image: &[u8]) -> Result<(Self, usize), Error> {
         done(sys::ptpm_header_agrees())?;

@@ -174,7 +174,7 @@ impl SavingClock {
     ///
     /// # Errors
     ///
-    /// Those of [`Clock::image`].
+    /// Those of [`Clock::image`], and [`Error::NoMemory`] of a clock of over eight ports.
     pub fn image<'a>(&mut self, room: &'a mut [u8]) -> Result<(&'a [u8], ImageToken), Error> {
         let (mut size, mut token) = (0, 0);
         let (octets, most) = (room.as_mut_ptr(), room.len());

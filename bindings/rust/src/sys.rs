@@ -189,8 +189,8 @@ pub type ptpm_reported = u32; pub const PTPM_VALUE: u32 = 0; pub const PTPM_DONE
 pub const PTPM_REPORT_NO_ROOM: u32 = 34; pub const PTPM_REPORT_NO_SESSION: u32 = 37; pub const PTPM_NO_REPORT: u32 = 45;
 pub const PTPM_REPORT_NO_SURVEY: u32 = 46; pub const PTPM_REPORT_NO_ASKER: u32 = 120;
 pub type ptpm_saved = u32; pub const PTPM_SAVED: u32 = 0; pub const PTPM_ACT_NOW: u32 = 31;
-pub const PTPM_SAVE_NO_CLOCK: u32 = 32; pub const PTPM_SAVE_NO_ROOM: u32 = 34; pub const PTPM_SAVE_NO_SESSION: u32 = 37;
-pub const PTPM_OTHER_IMAGE: u32 = 119;
+pub const PTPM_SAVE_NO_CLOCK: u32 = 32; pub const PTPM_SAVE_NO_ROOM: u32 = 34; pub const PTPM_SAVE_NO_MEMORY: u32 = 35;
+pub const PTPM_SAVE_NO_SESSION: u32 = 37; pub const PTPM_OTHER_IMAGE: u32 = 119;
 pub type ptpm_restored = u32; pub const PTPM_RESTORED: u32 = 0; pub const PTPM_RESTORE_NO_MEMORY: u32 = 35;
 pub const PTPM_RESTORE_TOO_MANY_MANAGERS: u32 = 51; pub const PTPM_RESTORE_MANAGER_TWICE: u32 = 52;
 pub const PTPM_RESTORE_IDENTITY_IS_ZERO: u32 = 56; pub const PTPM_NOT_AN_IMAGE: u32 = 104;
