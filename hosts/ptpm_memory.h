@@ -5,10 +5,9 @@
 
    Only one thread at a time may be in a call that allocates or frees memory, even if the handles differ. The library has no lock.
    These calls are the starts, the restores, the stops, and the three below. Of a clock it is ptpm_clock_saving, and over eight ports
-   ptpm_clock_image_of. Of a session they are
-   ptpm_session_begin, ptpm_session_begin_at, ptpm_session_give_up and ptpm_session_receive. Of a survey it is ptpm_survey_receive, and
-   of an asker each call that hands something out. All others allocate none, and may run in parallel with handles of their own,
-   including ptpm_clock_handle. */
+   ptpm_clock_image_of. Of a session they are ptpm_session_begin, ptpm_session_begin_at, ptpm_session_give_up and ptpm_session_receive.
+   Of a survey it is ptpm_survey_receive, and of an asker each call that hands something out. All others allocate none, and may run in
+   parallel with handles of their own, including ptpm_clock_handle. */
 #ifndef PTPM_MEMORY_H
 #define PTPM_MEMORY_H
 

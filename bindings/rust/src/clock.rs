@@ -114,8 +114,8 @@ impl Clock {
     ///
     /// The first of [`Error::TooManyManagers`], [`Error::ManagerTwice`], [`Error::IdentityIsZero`], [`Error::NotAnImage`],
     /// [`Error::OtherVersion`], [`Error::OtherKind`], [`Error::Damaged`], [`Error::OtherClock`], [`Error::OtherPorts`] and
-    /// [`Error::NoMemory`] that holds; the last comes earlier for a clock of over eight ports. That is no reason to start a fresh clock: it would carry out requests again that were
-    /// carried out before.
+    /// [`Error::NoMemory`] that holds. The last comes earlier for a clock of over eight ports. That is no reason to start a fresh
+    /// clock: it would carry out requests again that were carried out before.
     pub fn restore(identity: Identity, ports: usize, managers: &[Manager], image: &[u8]) -> Result<(Self, usize), Error> {
         done(sys::ptpm_header_agrees())?;
         let mut clock = Self::none();

@@ -2,10 +2,11 @@
 //! are those of IEEE 1588-2019, clauses 13.3, 15.4 and 15.5.
 
 use ptpm::{
-    Action, Clock, ClockMembers, ClockSettings, DelayMechanism, Error, Handled, Identity, Limit, ManagementErrorId, ManagementId,
-    Manager, Objection, ObservedClock, ObservedGrandmaster, ObservedPort, Outbox, PortDataSet, PortIdentity, PortMembers,
-    PortSettings, PortState, Received, Report, Rights, Saved, SavingClock, Say, Session, SessionSettings, Survey, SurveySettings,
-    Surveyed, Taken, TimeInterval, CLOCK_IMAGE_OCTETS, MOST_DATA, MOST_OCTETS, MOST_READ,
+    clock_image_octets, Action, Clock, ClockMembers, ClockSettings, DelayMechanism, Error, Handled, Identity, Limit,
+    ManagementErrorId, ManagementId, Manager, Objection, ObservedClock, ObservedGrandmaster, ObservedPort, Outbox, PortDataSet,
+    PortIdentity, PortMembers, PortSettings, PortState, Received, Report, Rights, Saved, SavingClock, Say, Session,
+    SessionSettings, Survey, SurveySettings, Surveyed, Taken, TimeInterval, CLOCK_IMAGE_OCTETS, MOST_DATA, MOST_OCTETS,
+    MOST_READ,
 };
 
 const CLOCK: &str = "aabbccfffeddee01";
@@ -118,6 +119,28 @@ fn an_outbox_has_the_places_that_a_clock_can_use() {
     assert_eq!(clock.most_sent(), 3);
     assert_eq!(clock.handle(1, &get, &mut Outbox::<2>::with_places()).map(|_| ()), Err(Error::NoRoom));
     assert_eq!(clock.handle(1, &get, &mut Outbox::<3>::with_places()).map(|turn| turn.messages.len()), Ok(1));
+}
+
+#[test]
+fn a_switch_has_64_ports() {
+    let settings = ClockSettings::new(identity(CLOCK));
+    let mut switch = Clock::start(&settings, &[PortSettings::new(); 64], &[manager()]).expect("it starts");
+    let mut outbox = Box::new(Outbox::<127>::with_places());
+    let set = request(7, "aabbccfffeddee01ffff", 1, 1, "200bff00");
+    let Taken { turn, changed, .. } = switch.take(1, &set, Say::Agrees, &mut outbox).expect("it is judged");
+    assert_eq!(turn.messages.map(|(_, octets)| octets[29]).collect::<Vec<_>>(), (1..=64).collect::<Vec<_>>());
+    assert_eq!(changed.ports_with(PortMembers::LOG_SYNC).collect::<Vec<_>>(), (1..=64).collect::<Vec<_>>());
+    let disable = request(8, "aabbccfffeddee010040", 0, 3, "200e");
+    let _ = switch.take(1, &disable, Say::Agrees, &mut outbox).expect("it is judged");
+    let observed = [ObservedPort { state: Some(PortState::Slave), peer_delay: None }; 64];
+    let left = switch.observe(&ObservedClock::default(), &observed).expect("it is observed");
+    assert_eq!(left.iter().collect::<Vec<_>>(), [64]);
+    let mut room = vec![0; clock_image_octets(64, 1)];
+    let image = switch.image(&mut room).expect("there is room");
+    assert_eq!(
+        Clock::restore(identity(CLOCK), 64, &[manager()], image).map(|(back, gone)| (back.most_sent(), gone)),
+        Ok((127, 0))
+    );
 }
 
 #[test]
@@ -305,8 +328,8 @@ fn starts_are_refused_by_name() {
     };
     let settings = ClockSettings::new(identity(CLOCK));
     assert_eq!(start(&settings, 0, &[]), Err(Error::NoPorts));
-    assert_eq!(start(&settings, 9, &[]), Err(Error::TooManyPorts));
-    assert_eq!(start(&settings, 1, &[manager(); 17]), Err(Error::TooManyManagers));
+    assert_eq!(start(&settings, 65, &[]), Err(Error::TooManyPorts));
+    assert_eq!(start(&settings, 1, &[manager(); 65]), Err(Error::TooManyManagers));
     assert_eq!(start(&settings, 1, &[manager(); 2]), Err(Error::ManagerTwice));
     for size in [129, 130, 255, 256, 300] {
         let long = ClockSettings { user_description: "a".repeat(size), ..settings.clone() };
