@@ -298,7 +298,8 @@ static void ask_about_next(void) {
     else decide_change(objection);
 }
 
-long take_waiting(void) {
+/* In how many milliseconds a save may begin; -1 if none is to. */
+static long take_changes(void) {
     do ask_about_next();
     while (take_decided());
     if (is_saving || !ptpm_clock_unsaved(&clock_held)) return -1;
@@ -306,6 +307,13 @@ long take_waiting(void) {
     if (left > 0) return left;
     if (peers_asking() > 0 || is_next_of_peer() || may_save()) begin_save(&clock_held);
     return is_saving ? -1 : NEXT_SAVE;
+}
+
+long take_waiting(void) {
+    unsigned long dropped = 0;
+    long left = take_changes(), again = answer_again(&dropped);
+    count_dropped(dropped);
+    return again < 0 || (left >= 0 && left < again) ? left : again;
 }
 
 /* Sends what the clock gives out. Nothing is passed on of what the owner asks. */

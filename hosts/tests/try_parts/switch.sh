@@ -32,6 +32,12 @@ for way in -4 -6 -2; do
     stop
     check "$way it passes what it is asked on at each other port" "$(grep -q "^port $ports, .* 9 ANSWERED_UNNUMBERED, $((2 * ports - 1)) of $((2 * ports - 1)) sent$" "$work/ran" && echo yes)"
 done
+# a program of this host, for which Linux keeps few answers at once
+way=-u
+ip netns exec $far sh -c 'echo 2 > /proc/sys/net/unix/max_dgram_qlen'
+start -u "$work/socket" $identity $interfaces
+check "a program of its own host has an answer of each port" "$(ask "GET PORT_DATA_SET" | grep -c "RESPONSE MANAGEMENT PORT_DATA_SET" | grep -qx $ports && echo yes)"
+stop
 way=-4
 start $identity $interfaces
 check "a survey has an answer of each port" "$(ip netns exec $near ./manage -i pe1 survey LOG_SYNC_INTERVAL | grep -c '^aabbccfffeddee01/[0-9]* logSyncInterval 0$' |
