@@ -53,10 +53,10 @@ static const char help[] =
     "Answers PTP management messages as a clock does, over UDP or Ethernet at its interfaces and on a Unix socket.\n"
     "\n"
     "  IDENTITY            clockIdentity of the clock: aabbccfffeddee01, or aabbcc.fffe.ddee01\n"
-    "  INTERFACE           one for each of its ports, eight at most. With -u there may be none\n"
+    "  INTERFACE           one for each of its ports, 64 at most. With -u there may be none\n"
     "  -6, --ipv6          IPv6 instead of IPv4\n"
     "  -2, --ethernet      IEEE 802.3 instead of IPv4\n"
-    "  -m MANAGER          IDENTITY/PORT of a manager with every right, sixteen at most\n"
+    "  -m MANAGER          IDENTITY/PORT of a manager with every right, 64 at most\n"
     "  -d DOMAIN           domainNumber (0)\n"
     "\n"
     "  -u PATH             a Unix socket for programs of this host, which counts as port 1\n"
@@ -196,7 +196,7 @@ static struct value value_named(void) {
     if (id < 0) refuse_command_line("--give %s: it takes a managementId, such as CLOCK_DESCRIPTION", optarg);
     if (id_name((uint16_t)id) != NULL) refuse_command_line("--give %s: the clock has a value of its own", optarg);
     if (id >= IDS_OF_MAKERS && read_id_name((uint16_t)id) != NULL) refuse_command_line("--give %s: it is an id of ptp4l: take another one", optarg);
-    if (slash != NULL && port < 1) refuse_command_line("--give %s: a port has a number from 1 to 8", optarg);
+    if (slash != NULL && port < 1) refuse_command_line("--give %s: a port has a number from 1 to %d", optarg, PORTS);
     return (struct value){ .id = (uint16_t)id, .port = (uint16_t)port };
 }
 
@@ -326,7 +326,7 @@ static void judge_ptp4l(const struct options *options) {
 
 static void judge(const struct options *options) {
     judge_ptp4l(options);
-    if (options->interface_count > PORTS) refuse_command_line("it takes eight interfaces at most");
+    if (options->interface_count > PORTS) refuse_command_line("it takes %d interfaces at most", PORTS);
     if (options->interface_count == 0 && options->meeting.path == NULL) {
         refuse_command_line("an interface is missing, or a Unix socket: -u PATH");
     }
