@@ -1,5 +1,5 @@
 -- The slots of a table: the entry of a manager is that of its slot, and stays its own when another slot is written.
-use Rattle.std.proofs.Common.{suc, zero, arith, ◌≡◌, ℕ, ◌+◌, ◌<◌, Bool, true, false, cond, refl, sym, ◌∙◌, ap, subst, ⊎_elim, ◌||◌, List, [], ◌∷◌, ◌++◌, length, take, get_or, set, Option, Some, None, All, Bor}
+use Rattle.std.proofs.Common.{suc, zero, arith, ◌≡◌, ℕ, ◌+◌, ◌<◌, ◌≤◌, Bool, true, false, cond, refl, sym, ◌∙◌, ap, subst, ⊎_elim, ◌||◌, List, [], ◌∷◌, ◌++◌, length, take, get_or, set, Option, Some, None, All, Bor}
 use Rattle.std.proofs.lemmas.Bool.{cases_Bool, or_parts, or_left, cond-true, cond-false, false≢true, ltb-false}
 use Rattle.std.specs.Map.{lookup}
 use Rattle.std.specs.Option.{option_copied}
@@ -15,7 +15,7 @@ use Rattle.ptpm_codec.specs.declared.identity.PortIdentity.{PortIdentity}
 use Rattle.ptpm_data.specs.declared.rights.Rights.{Rights}
 use Rattle.ptpm_table.specs.Entries.{is_known}
 use Rattle.ptpm_table.specs.Managers.{has_twice, identities, rights_in}
-use Rattle.ptpm_table.specs.Slots.{clocks, configured, entry_in, rights_at, slot_of, used}
+use Rattle.ptpm_table.specs.Slots.{HaveFew, clocks, configured, entry_in, rights_at, slot_of, used}
 use Rattle.ptpm_table.specs.declared.slot.Slot.{Slot}
 use Rattle.ptpm_codec.proofs.IdentityLaws.{same_identity-true}
 use Rattle.ptpm_table.proofs.Identities.{same_identity-refl, same_identity-comm}
@@ -205,6 +205,18 @@ found_clock q clock (s ∷ ss) own = ⊎_elim
     (λ (n : same_identity q s.kept.manager ≡ false).
     subst (λ (o : Option Slot). MatchOption o ⊤ (λ s. s.kept.clock ≡ clock)) (sym (cond-false _ (Some s) (slot_of q ss) n))
     (found_clock q clock ss (λ k d inside. own (suc k) d (omega arith))))
+    (cases_Bool (same_identity q s.kept.manager))
+
+pub found_few : (q : PortIdentity) (most : ℕ) (ss : List Slot)
+    → HaveFew most ss
+    → MatchOption (slot_of q ss) ⊤ (λ s. s.taken ≡ true → length s.kept.entry.reply.answers ≤ most)
+found_few q most [] all = tt
+found_few q most (s ∷ ss) all = ⊎_elim
+    (λ (y : same_identity q s.kept.manager ≡ true).
+    subst (λ (o : Option Slot). MatchOption o ⊤ (λ s. s.taken ≡ true → length s.kept.entry.reply.answers ≤ most)) (sym (cond-true _ (Some s) (slot_of q ss) y)) (all 0 s (omega arith)))
+    (λ (n : same_identity q s.kept.manager ≡ false).
+    subst (λ (o : Option Slot). MatchOption o ⊤ (λ s. s.taken ≡ true → length s.kept.entry.reply.answers ≤ most)) (sym (cond-false _ (Some s) (slot_of q ss) n))
+    (found_few q most ss (λ k t inside. all (suc k) t (omega (arith, inside)))))
     (cases_Bool (same_identity q s.kept.manager))
 
 pub copied_Some : (r : Option (Bor Slot)) (P : Slot → Type 0)

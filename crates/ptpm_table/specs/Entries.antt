@@ -47,6 +47,10 @@ pub record CanResend (most : ℕ) (entries : Entries) (who : PortIdentity) (n : 
   pub kept : HasEntry entries who n
   pub room : HasRoom entries who 0 most
 
+-- to a request, with these answers
+abbrev pub reply_with : RequestValue → List Answer → ReplyValue
+reply_with q answers = record { action = reply_action q.action; id = q.id; answers = answers }
+
 -- ---- which replies may be kept for a request
 
 abbrev pub IsCommand : Action → Type 0

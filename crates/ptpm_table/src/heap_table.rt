@@ -1,10 +1,10 @@
 //! A reply table in slots on the heap.
 
 ghost use Rattle.std.specs.Prelude.{◌≡◌, ◌≢◌, ◌≤◌, false, IfErr, IfOk, Some, length, max};
-ghost use Rattle.ptpm_table.specs.Managers.{IsFresh, has_twice, identities, table_refusal};
+ghost use Rattle.ptpm_table.specs.Managers.{IsFresh, block_refusal, has_twice, identities};
 
 use crate::error::TableError;
-use crate::managers::managers_refusal;
+use crate::managers::{MOST_MANAGERS, managers_refusal};
 use crate::reply_table::ReplyTable;
 use crate::slot::Slot;
 use crate::slot_memory::{SlotMemory, assign, assign_blocks};
@@ -23,8 +23,8 @@ const _: () = prove!(size_of::<HeapTable>() == 40);
 const _: () = prove!(size_of::<Slot>() == 2_144);
 
 impl HeapTable {
-    /// A table without entries, of this clock and these managers. At most sixteen managers, and each identity once. Memory is
-    /// asked for last.
+    /// A table without entries, of this clock and these managers. At most `MOST_MANAGERS` managers, and each identity
+    /// once. Memory is asked for last.
     pub fn new(
         alloc: Global,
         clock: ClockIdentity,
@@ -33,10 +33,10 @@ impl HeapTable {
         ensures fresh { IfOk result (λ t. IsFresh clock managers.now
             (⟦<HeapTable as ReplyTable>⟧.owner t) (⟦<HeapTable as ReplyTable>⟧.entries t)) }
         ensures refused { (e : TableError)
-            → table_refusal (identities managers.now) ≡ Some e
+            → block_refusal (identities managers.now) ≡ Some e
             → result ≡ Err e }
         ensures no_other { IfErr result
-            (λ e. e ≢ TableError.OutOfMemory → table_refusal (identities managers.now) ≡ Some e) }
+            (λ e. e ≢ TableError.OutOfMemory → block_refusal (identities managers.now) ≡ Some e) }
     {
         if let Some(error) = managers_refusal(managers) {
             return Err(error);
@@ -55,7 +55,7 @@ impl HeapTable {
         ports: u16,
         managers: &[(PortIdentity, Rights)],
     ) -> Result<HeapTable, OutOfMemory>
-        requires few { length managers.now ≤ 16 }
+        requires few { length managers.now ≤ MOST_MANAGERS }
         requires distinct { has_twice (identities managers.now) ≡ false }
         ensures fresh { IfOk result (λ t. IsFresh clock managers.now
             (⟦<HeapTable as ReplyTable>⟧.owner t) (⟦<HeapTable as ReplyTable>⟧.entries t)) }
@@ -73,7 +73,7 @@ impl HeapTable {
         clock: ClockIdentity,
         managers: &[(PortIdentity, Rights)],
     ) -> Result<HeapTable, OutOfMemory>
-        requires few { length managers.now ≤ 16 }
+        requires few { length managers.now ≤ MOST_MANAGERS }
         requires distinct { has_twice (identities managers.now) ≡ false }
         ensures fresh { IfOk result (λ t. IsFresh clock managers.now
             (⟦<HeapTable as ReplyTable>⟧.owner t) (⟦<HeapTable as ReplyTable>⟧.entries t)) }
@@ -96,7 +96,7 @@ impl HeapTable {
         ports: u16,
         managers: &[(PortIdentity, Rights)],
     ) -> Result<HeapTable, OutOfMemory>
-        requires few { length managers.now ≤ 16 }
+        requires few { length managers.now ≤ MOST_MANAGERS }
         requires distinct { has_twice (identities managers.now) ≡ false }
         requires many { INLINE_PORTS ≤ ports }
         ensures fresh { IfOk result (λ t. IsFresh clock managers.now

@@ -11,14 +11,14 @@ ghost use Rattle.ptpm_table.specs.InOrder.{AreLendable, entries_at, rank};
 ghost use Rattle.ptpm_table.specs.declared.slot.Slot.{Slot};
 
 use crate::lending::LentEntry;
-use crate::managers::MANAGERS;
+use crate::managers::MOST_MANAGERS;
 use crate::slot::{Slot, is_before};
 use arrayvec::ArrayVec;
 use ptpm_codec::PortIdentity;
 use std::marker::Model;
 
 /// The places of slots, one for each manager at most.
-type Places = ArrayVec<u8, MANAGERS>;
+type Places = ArrayVec<u8, MOST_MANAGERS>;
 
 /// The entries of a table, lent in the order of their managers. Contracts see each with its manager.
 #[derive(Drop)]
@@ -46,7 +46,7 @@ impl<'a> LentEntries<'a> {
     #[tactic(auto, using(crate::proofs::InOrderLaws::count_at))]
     pub fn count(&self) -> usize
         ensures count { result ≡ length self.now }
-        ensures few { result ≤ 16 }
+        ensures few { result ≤ MOST_MANAGERS }
     {
         self.places.len()
     }
@@ -67,7 +67,7 @@ impl<'a> LentEntries<'a> {
 /// goes to the front after one comparison.
 pub(crate) fn in_order(slots: &[Slot]) -> LentEntries<'_>
     requires distinct { has_twice (identities (configured slots.now)) ≡ false }
-    requires few { length slots.now ≤ 16 }
+    requires few { length slots.now ≤ MOST_MANAGERS }
     requires keepable { AreKeepable slots.now }
     ensures { result ≡ fin.entries (fin.from_entries {R = identity_cmp} (used slots.now)) }
 {
@@ -84,8 +84,8 @@ pub(crate) fn in_order(slots: &[Slot]) -> LentEntries<'_>
 fn insert_place(places: &mut Places, slots: &[Slot], place: usize)
     requires lendable { AreLendable slots.now places.old.items }
     requires place { place < length slots.now }
-    requires few { length slots.now ≤ 16 }
-    requires room { array_vec_len places.old < 16 }
+    requires few { length slots.now ≤ MOST_MANAGERS }
+    requires room { array_vec_len places.old < MOST_MANAGERS }
     ensures places { (s : Slot) → slice_get slots.now place ≡ Some s → places.new.items
         ≡ insert places.old.items (rank s.kept.manager (entries_at slots.now places.old.items)) place }
     ensures count { array_vec_len places.new ≡ array_vec_len places.old + 1 }

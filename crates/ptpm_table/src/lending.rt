@@ -7,6 +7,7 @@ ghost use Rattle.ptpm_table.specs.KeptMessages.{AreSizes, answer_in, error_of_nu
 ghost use Rattle.ptpm_table.specs.Lending.{lent_answer, lent_outcome};
 
 use crate::in_order::LentEntries;
+use crate::managers::MOST_MANAGERS;
 use crate::reply_table::ReplyTable;
 use crate::slot::Kept;
 use ptpm_codec::{Action, ErrorId, HEAD_OCTETS, PortIdentity, View, u16_at, view};
@@ -41,7 +42,7 @@ pub trait LendingTable: ReplyTable {
     /// How many managers have an entry.
     fn entry_count(&self) -> usize
         ensures count { result ≡ fin.len (Self.entries self.now) }
-        ensures few { result ≤ 16 };
+        ensures few { result ≤ MOST_MANAGERS };
 
     /// The entry of the first manager after this one that has an entry, by the order of identities. After `None` it is the
     /// first entry of all. `None` if no further manager has one. So a loop from `None` on, and from each manager to the

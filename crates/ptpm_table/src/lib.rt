@@ -29,7 +29,7 @@ pub use heap_table::HeapTable;
 pub use heard::Heard;
 pub use in_order::LentEntries;
 pub use lending::{LendingTable, LentAnswer, LentAnswers, LentEntry, LentWhat};
-pub use managers::managers_refusal;
+pub use managers::{MOST_MANAGERS, managers_refusal};
 pub use outbox::{OUTBOX_MESSAGES, Outbox};
 pub use outgoing::Outgoing;
 pub use plain_table::PlainTable;

@@ -2,20 +2,24 @@
 
 ghost use Rattle.std.specs.Prelude.{◌≡◌, ◌≤◌, None, length};
 ghost use Rattle.ptpm_table.specs.Entries.{is_known};
-ghost use Rattle.ptpm_table.specs.Managers.{has_twice, identities, most_managers, rights_in, slots_refusal, table_refusal};
+ghost use Rattle.ptpm_table.specs.Managers.{block_refusal, has_twice, identities, most_managers, refusal_above, rights_in, slots_refusal};
 
 use crate::error::TableError;
 use ptpm_codec::PortIdentity;
 use ptpm_data::Rights;
 
-/// How many managers a clock has at most, and so a reply table, however many slots it has.
+/// How many managers a table takes at most, if its slots lie in the value.
 pub(crate) const MANAGERS: usize = 16;
 
-/// Why these can't be the managers of a clock, if they can't: at most sixteen, each identity once.
+/// How many managers a clock has at most. Then the slots of its table lie in a block of memory.
+pub const MOST_MANAGERS: usize = 64;
+
+/// Why these can't be the managers of a clock, if they can't: at most `MOST_MANAGERS`, each identity once.
 pub fn managers_refusal(managers: &[(PortIdentity, Rights)]) -> Option<TableError>
-    ensures { result ≡ table_refusal (identities managers.now) }
+    ensures refusal { result ≡ block_refusal (identities managers.now) }
+    ensures few { result ≡ None → length managers.now ≤ MOST_MANAGERS }
 {
-    refusal(managers, MANAGERS)
+    refusal_above(managers, MOST_MANAGERS)
 }
 
 /// Why no table of this many slots is made for these managers.
@@ -23,7 +27,15 @@ pub(crate) fn refusal(managers: &[(PortIdentity, Rights)], slots: usize) -> Opti
     ensures refusal { result ≡ slots_refusal slots (identities managers.now) }
     ensures few { result ≡ None → length managers.now ≤ most_managers slots }
 {
-    if managers.len() > slots.min(MANAGERS) {
+    refusal_above(managers, slots.min(MANAGERS))
+}
+
+/// Why these are not the managers of a table that takes this many.
+fn refusal_above(managers: &[(PortIdentity, Rights)], most: usize) -> Option<TableError>
+    ensures refusal { result ≡ refusal_above most (identities managers.now) }
+    ensures few { result ≡ None → length managers.now ≤ most }
+{
+    if managers.len() > most {
         Some(TableError::TooMany)
     } else if stands_twice(managers) {
         Some(TableError::Twice)

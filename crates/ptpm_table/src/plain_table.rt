@@ -1,6 +1,6 @@
 //! A reply table over a map on the heap.
 
-ghost use Rattle.std.specs.Prelude.{◌≡◌, ◌≢◌, IfOk, IfErr, Some};
+ghost use Rattle.std.specs.Prelude.{◌≡◌, ◌≢◌, ◌≤◌, IfOk, IfErr, Some, length};
 ghost use Rattle.std.specs.FinMap as fin;
 ghost use Rattle.std.specs.Option.{option_copied};
 ghost use Rattle.ptpm_codec.specs.Identity.{identity_cmp};
@@ -45,10 +45,12 @@ impl Model for Kept {
 }
 
 impl Kept {
-    /// The request, with its dataField lent.
+    /// The request, with its dataField lent. The reply to it has no more answers than have room.
     fn request(&self) -> Request<'_>
-        ensures { result ≡ self.now.request }
+        ensures request { result ≡ self.now.request }
+        ensures few { length self.now.reply.answers ≤ INLINE_PORTS }
     {
+        let _answers = self.reply.answers.as_slice();
         Request {
             action: self.action,
             id: self.id,

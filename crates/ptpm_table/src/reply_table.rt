@@ -1,11 +1,11 @@
 //! The reply cache of a clock: the latest accepted request of each configured manager, with its reply.
 
-ghost use Rattle.std.specs.Prelude.{◌≡◌, ◌≤◌, ◌+◌, ◌++◌, IsTrue, OnOk, OnErr, Some, length};
+ghost use Rattle.std.specs.Prelude.{◌≡◌, ◌≤◌, ◌+◌, ◌++◌, IsTrue, OnOk, OnErr, Some, length, map};
 ghost use Rattle.std.specs.FinMap as fin;
 ghost use Rattle.ptpm_codec.specs.Message.{IsRequestAction, IsDataField};
-ghost use Rattle.ptpm_table.specs.Entries.{CanResend, Entry, FitsRequest, HasEntry, HasRoom, HaveAnswers, is_known};
+ghost use Rattle.ptpm_table.specs.Entries.{CanResend, Entry, FitsRequest, HasEntry, HasRoom, HaveAnswers, is_known, reply_with};
 ghost use Rattle.ptpm_table.specs.Numbering.{look_of};
-ghost use Rattle.ptpm_data.specs.Reply.{ReplyValue};
+ghost use Rattle.ptpm_data.specs.Reply.{ReplyValue, answer_of};
 ghost use Rattle.ptpm_table.specs.Rendering.{rendered};
 ghost use Rattle.ptpm_table.specs.Sending.{IsSentReply};
 
@@ -13,7 +13,7 @@ use crate::heard::Heard;
 use crate::outbox::{OUTBOX_MESSAGES, Outbox};
 use crate::outgoing::Outgoing;
 use ptpm_codec::{ClockIdentity, OutOfMemory, PortIdentity};
-use ptpm_data::{Reply, Request, Rights};
+use ptpm_data::{PortAnswer, Reply, Request, Rights};
 
 /// What a request is to the table.
 #[derive(Clone, Copy, Debug, PartialEq, Eq)]
@@ -125,6 +125,27 @@ pub trait SureTable: ReplyTable {
         requires few { length reply.now.answers ≤ Self.most self.old }
         ensures kept { Self.entries self.new ≡ fin.insert (Self.entries self.old) who.now
             (record { number = number; request = request.now; reply = reply.now }) }
+        ensures owner { Self.owner self.new ≡ Self.owner self.old }
+        ensures most { Self.most self.new ≡ Self.most self.old }
+    {
+        self.replace_answers(who, number, request, reply.answers.as_slice());
+    }
+
+    /// Does what `replace` does, for the reply to the request that has these answers.
+    fn replace_answers(
+        &mut self,
+        who: &PortIdentity,
+        number: u16,
+        request: &Request<'_>,
+        answers: &[PortAnswer],
+    )
+        requires known { IsTrue (is_known who.now (Self.owner self.old).managers) }
+        requires action { IsRequestAction request.now.action }
+        requires octets { IsDataField request.now.octets }
+        requires fits { FitsRequest request.now (reply_with request.now (map answer_of answers.now)) }
+        requires few { length answers.now ≤ Self.most self.old }
+        ensures kept { Self.entries self.new ≡ fin.insert (Self.entries self.old) who.now
+            (record { number = number; request = request.now; reply = reply_with request.now (map answer_of answers.now) }) }
         ensures owner { Self.owner self.new ≡ Self.owner self.old }
         ensures most { Self.most self.new ≡ Self.most self.old };
 

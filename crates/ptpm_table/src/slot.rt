@@ -1,12 +1,12 @@
 //! A manager's place in a table of fixed size.
 
-ghost use Rattle.std.specs.Prelude.{◌≡◌, ◌<◌, ◌≤◌, ◌+◌, ◌++◌, ℕ, Some, length, slice_get, slice_index};
+ghost use Rattle.std.specs.Prelude.{◌≡◌, ◌<◌, ◌≤◌, ◌+◌, ◌++◌, ℕ, [], Some, length, map, slice_get, slice_index};
 ghost use Rattle.std.specs.Int.{from_be_bytes, w64};
 ghost use Rattle.std.specs.Ordering.{is_lt};
 ghost use Rattle.ptpm_codec.specs.Identity.{identity_cmp};
 ghost use Rattle.ptpm_codec.specs.Message.{IsDataField, IsRequestAction};
-ghost use Rattle.ptpm_data.specs.Reply.{ReplyValue};
-ghost use Rattle.ptpm_table.specs.Entries.{FitsRequest};
+ghost use Rattle.ptpm_data.specs.Reply.{ReplyValue, answer_of};
+ghost use Rattle.ptpm_table.specs.Entries.{FitsRequest, reply_with};
 ghost use Rattle.ptpm_table.specs.Lending.{EntryFits, IsKeepable, lent_answer};
 ghost use Rattle.ptpm_table.specs.Sending.{IsSentReply};
 ghost use Rattle.ptpm_table.specs.Rendering.{rendered};
@@ -20,7 +20,7 @@ use crate::rendering::hops_passed;
 use crate::renewal::Renewal;
 use arrayvec::ArrayVec;
 use ptpm_codec::{Action, ClockIdentity, DATA_FIELD_OCTETS, PortIdentity, overwrite};
-use ptpm_data::{INLINE_PORTS, Reply, Request, Rights};
+use ptpm_data::{INLINE_PORTS, PortAnswer, Request, Rights};
 use std::marker::Model;
 
 /// A manager's rights, and its latest accepted request, if one is kept. In it and in `Kept` the large members come first, so
@@ -56,7 +56,8 @@ impl Slot {
         manager: &(PortIdentity, Rights),
         reply: KeptOctets,
     ) -> Slot
-        requires { INLINE_PORTS ≤ reply.most }
+        requires empty { (reply.sizes ≡ []) × (reply.octets ≡ []) }
+        requires least { INLINE_PORTS ≤ reply.most }
         ensures clock { result.kept.clock ≡ clock.now }
         ensures manager { result.kept.manager ≡ manager.now.0 }
         ensures rights { result.rights ≡ manager.now.1 }
@@ -151,7 +152,8 @@ impl Model for Kept {
 impl Kept {
     /// The content of a slot that was not used yet.
     pub(crate) fn nothing(clock: &ClockIdentity, manager: &PortIdentity, reply: KeptOctets) -> Kept
-        requires { INLINE_PORTS ≤ reply.most }
+        requires empty { (reply.sizes ≡ []) × (reply.octets ≡ []) }
+        requires least { INLINE_PORTS ≤ reply.most }
         ensures clock { result.clock ≡ clock.now }
         ensures manager { result.manager ≡ manager.now }
         ensures most { result.most ≡ reply.most }
@@ -236,20 +238,20 @@ impl Kept {
         }
     }
 
-    /// Keeps another request, with its number and reply, in place of this one. The reply's messages are encoded in place.
-    pub(crate) fn replace(&mut self, number: u16, request: &Request<'_>, reply: &Reply)
+    /// Keeps another request, with its number and reply, in place of this one. The messages of the reply's answers are encoded
+    /// in place.
+    pub(crate) fn replace(&mut self, number: u16, request: &Request<'_>, answers: &[PortAnswer])
         requires action { IsRequestAction request.now.action }
         requires octets { IsDataField request.now.octets }
-        requires fits { FitsRequest request.now reply.now }
-        requires few { length reply.now.answers ≤ self.old.most }
-        ensures { self.new ≡ record { clock = self.old.clock; manager = self.old.manager; entry = record { number = number; request = request.now; reply = reply.now }; most = self.old.most } }
+        requires fits { FitsRequest request.now (reply_with request.now (map answer_of answers.now)) }
+        requires few { length answers.now ≤ self.old.most }
+        ensures { self.new ≡ record { clock = self.old.clock; manager = self.old.manager; entry = record { number = number; request = request.now; reply = reply_with request.now (map answer_of answers.now) }; most = self.old.most } }
     {
         self.number = number;
         self.action = request.action;
         self.id = request.id;
         self.port = request.port;
         keep_octets(&mut self.octets, request.octets);
-        let answers = reply.answers.as_slice();
         self.of_port = has_port(answers);
         let exchange = Exchange {
             clock: self.clock,

@@ -1,16 +1,16 @@
 //! What is found and kept in slots, one for each manager, wherever they lie.
 
-ghost use Rattle.std.specs.Prelude.{◌≡◌, ◌↔◌, ◌≤◌, ℕ, ◌<◌, false, MatchOption, count_by, slice_get, IfSome, IsTrue, All, Some, is_some, length, position};
+ghost use Rattle.std.specs.Prelude.{◌≡◌, ◌↔◌, ◌≤◌, ℕ, ◌<◌, false, MatchOption, count_by, slice_get, IfSome, IsTrue, All, Some, is_some, length, map, position, true};
 ghost use Rattle.std.specs.FinMap as fin;
 ghost use Rattle.std.specs.Option.{option_copied};
 ghost use Rattle.ptpm_codec.specs.declared.identity.ClockIdentity.{ClockIdentity};
 ghost use Rattle.ptpm_codec.specs.Identity.{identity_cmp, same_identity};
 ghost use Rattle.ptpm_codec.specs.Message.{IsDataField, IsRequestAction};
-ghost use Rattle.ptpm_table.specs.Entries.{CanResend, FitsRequest, is_known};
+ghost use Rattle.ptpm_table.specs.Entries.{CanResend, FitsRequest, is_known, reply_with};
 ghost use Rattle.ptpm_table.specs.Lending.{HasNoneAfter, IsKeepable, IsNext};
 ghost use Rattle.ptpm_table.specs.Numbering.{look_of};
 ghost use Rattle.ptpm_table.specs.declared.slot.Slot.{Slot};
-ghost use Rattle.ptpm_data.specs.Reply.{ReplyValue};
+ghost use Rattle.ptpm_data.specs.Reply.{ReplyValue, answer_of};
 ghost use Rattle.ptpm_table.specs.Sending.{IsSentReply};
 ghost use Rattle.ptpm_table.specs.Managers.{has_twice, identities, rights_in};
 ghost use Rattle.ptpm_table.specs.Slots.{AreKeepable, HaveFew, HaveRoom, IsSooner, clocks, configured, entry_in, rights_at, slot_of, used};
@@ -21,7 +21,7 @@ use crate::outgoing::Outgoing;
 use crate::reply_table::Look;
 use crate::slot::{Slot, is_before};
 use ptpm_codec::PortIdentity;
-use ptpm_data::{Reply, Request, Rights};
+use ptpm_data::{PortAnswer, Request, Rights};
 
 /// A manager's slot.
 pub(crate) fn slot_at<'a>(slots: &'a [Slot], who: &PortIdentity) -> Option<&'a Slot>
@@ -35,6 +35,9 @@ pub(crate) fn slot_at<'a>(slots: &'a [Slot], who: &PortIdentity) -> Option<&'a S
     ensures own { (clock : ClockIdentity)
         → All (λ c. c ≡ clock) (clocks slots.now)
         → IfSome result (λ s. s.now.kept.clock ≡ clock) }
+    ensures few { (most : ℕ)
+        → HaveFew most slots.now
+        → IfSome result (λ s. s.now.taken ≡ true → length s.now.kept.entry.reply.answers ≤ most) }
 {
     find_slot(slots, who)
 }
@@ -97,27 +100,27 @@ pub(crate) fn put(
     who: &PortIdentity,
     number: u16,
     request: &Request<'_>,
-    reply: &Reply,
+    answers: &[PortAnswer],
 )
     requires action { IsRequestAction request.now.action }
     requires known { IsTrue (is_known who.now (identities (configured slots.old))) }
     requires distinct { has_twice (identities (configured slots.old)) ≡ false }
     requires octets { IsDataField request.now.octets }
-    requires fits { FitsRequest request.now reply.now }
-    requires few { (most : ℕ) × HaveRoom most slots.old × (length reply.now.answers ≤ most) }
+    requires fits { FitsRequest request.now (reply_with request.now (map answer_of answers.now)) }
+    requires few { (most : ℕ) × HaveRoom most slots.old × (length answers.now ≤ most) }
     ensures entries { fin.from_entries {R = identity_cmp} (used slots.new)
         ≡ fin.insert (fin.from_entries (used slots.old)) who.now
-        (record { number = number; request = request.now; reply = reply.now }) }
+        (record { number = number; request = request.now; reply = reply_with request.now (map answer_of answers.now) }) }
     ensures configured { configured slots.new ≡ configured slots.old }
     ensures clocks { clocks slots.new ≡ clocks slots.old }
     ensures keepable { AreKeepable slots.old → AreKeepable slots.new }
-    ensures few { (most : ℕ) → length reply.now.answers ≤ most → HaveFew most slots.old → HaveFew most slots.new }
+    ensures few { (most : ℕ) → length answers.now ≤ most → HaveFew most slots.old → HaveFew most slots.new }
     ensures rooms { (most : ℕ) → HaveRoom most slots.old → HaveRoom most slots.new }
 {
     if let Some(place) = place_of(slots, who) {
         let slot = &mut slots[place];
         slot.taken = true;
-        slot.kept.replace(number, request, reply);
+        slot.kept.replace(number, request, answers);
     }
 }
 

@@ -5,6 +5,7 @@ ghost use Rattle.std.specs.FinMap as fin;
 ghost use Rattle.ptpm_codec.specs.Message.{IsDataField, IsRequestAction};
 ghost use Rattle.ptpm_table.specs.Entries.{FitsRequest, is_known};
 ghost use Rattle.ptpm_table.specs.Managers.{has_twice, identities};
+ghost use Rattle.ptpm_table.specs.declared.managers.TheConstants.{MOST_MANAGERS};
 ghost use Rattle.ptpm_table.specs.Slots.{AreKeepable, AreKeepable-prop, HaveFew, HaveRoom, clocks, configured};
 
 use crate::heard::Heard;
@@ -16,7 +17,7 @@ use crate::reply_table::{Look, ReplyTable, SureTable};
 use crate::slot_list::{count_used, look_at, next_slot, put, put_sent, rights_of, slot_at};
 use crate::slot_memory::SlotMemory;
 use ptpm_codec::{ClockIdentity, OutOfMemory, PortIdentity};
-use ptpm_data::{Reply, Request, Rights};
+use ptpm_data::{PortAnswer, Reply, Request, Rights};
 
 /// The latest accepted requests, in slots of some memory, one for each manager. A slot has 2,144 octets, and blocks of memory for the messages of more than `INLINE_PORTS` answers. Replies are kept as octets:
 /// `keep_sent` copies the messages as they were sent, and `keep` encodes them. `resend` copies them and writes over what depends
@@ -29,11 +30,21 @@ pub struct TableOver<M: SlotMemory + Drop> {
     pub(crate) answers: u16,
     ghost distinct: { has_twice (identities (configured (M.slots slots))) ≡ false },
     ghost own: { All (λ c. c ≡ clock) (clocks (M.slots slots)) },
-    ghost few: { length (M.slots slots) ≤ 16 },
+    ghost few: { length (M.slots slots) ≤ MOST_MANAGERS },
     ghost keepable: { AreKeepable (M.slots slots) } by { AreKeepable-prop (M.slots slots) },
     ghost have_room: { HaveRoom answers (M.slots slots) },
     ghost have_few: { HaveFew answers (M.slots slots) },
     ghost no_spare: { M.spare slots ≡ 0 },
+}
+
+impl<M: SlotMemory + Drop> TableOver<M> {
+    /// How many answers of a reply it keeps.
+    #[inline(always)]
+    pub fn answers_kept(&self) -> usize
+        ensures { result ≡ ⟦<TableOver<M> as ReplyTable>⟧.most self.now }
+    {
+        self.answers as usize
+    }
 }
 
 impl<M: SlotMemory + Drop> ReplyTable for TableOver<M> {
@@ -99,7 +110,7 @@ impl<M: SlotMemory + Drop> ReplyTable for TableOver<M> {
         ensures most { ⟦<TableOver<M> as ReplyTable>⟧.most self.new
             ≡ ⟦<TableOver<M> as ReplyTable>⟧.most self.old }
     {
-        self.replace(who, number, request, reply);
+        self.replace_answers(who, number, request, reply.answers.as_slice());
         Ok(())
     }
 
@@ -109,9 +120,15 @@ impl<M: SlotMemory + Drop> ReplyTable for TableOver<M> {
 }
 
 impl<M: SlotMemory + Drop> SureTable for TableOver<M> {
-    fn replace(&mut self, who: &PortIdentity, number: u16, request: &Request<'_>, reply: &Reply) {
+    fn replace_answers(
+        &mut self,
+        who: &PortIdentity,
+        number: u16,
+        request: &Request<'_>,
+        answers: &[PortAnswer],
+    ) {
         let slots = self.slots.slots_mut();
-        put(slots, who, number, request, reply);
+        put(slots, who, number, request, answers);
     }
 
     #[inline(always)]

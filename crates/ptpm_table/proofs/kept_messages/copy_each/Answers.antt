@@ -1,4 +1,4 @@
-use Rattle.std.proofs.Common.{arith, get_or, length, take, ap}
+use Rattle.std.proofs.Common.{◌+◌, [], arith, get_or, length, take, ap}
 use Rattle.std.proofs.lemmas.List.{length-append, length-map, length-take-le}
 use Rattle.ptpm_table.specs.Sending.{all_octets, messages_of}
 use Rattle.ptpm_table.proofs.SentLaws.{count_of, octets_more, octets_within, sizes_more, small_at}

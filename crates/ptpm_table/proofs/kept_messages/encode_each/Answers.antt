@@ -23,6 +23,8 @@ encode-requires-clause-room c =
           (made_small c.args.of_port (envelope_of c.args.exchange.now) c.args.exchange.now.action (reply_action c.args.exchange.now.action) c.args.answers.now
           c.loop-answer.answer-index c.answer-item.result c.draft-draft.result c.answer-item.is c.loop-answer-test.true c.requires.suits
           c.draft-draft.ensures.message),
+      c.loop-answer.invariant.most,
+      ap (λ (k : OctetsValue). k.most) c.clear.ensures,
     )
 
 pub loop-answer-preserved : goal.loop-answer-preserved

@@ -1,11 +1,13 @@
-use Rattle.std.proofs.Common.{arith, sym, ◌∙◌, ◌≤◌, ap, length, refl, subst, true, get_or}
+use Rattle.std.proofs.Common.{arith, sym, ◌∙◌, ◌≤◌, ap, length, map, refl, subst, true, get_or}
 use Rattle.std.specs.FinMap.{from_entries, insert}
+use Rattle.std.proofs.lemmas.List.{length-map}
 use Rattle.std.proofs.lemmas.List.Quantifiers.{position-Some}
 use Rattle.ptpm_codec.specs.Identity.{identity_cmp, same_identity}
 use Rattle.ptpm_table.specs.KeptMessages.{KeptValue}
 use Rattle.ptpm_table.specs.Slots.{used}
 use Rattle.ptpm_table.specs.declared.slot.Slot.{Slot}
-use Rattle.ptpm_table.specs.Entries.{Entry}
+use Rattle.ptpm_data.specs.Reply.{answer_of}
+use Rattle.ptpm_table.specs.Entries.{Entry, reply_with}
 use Rattle.ptpm_table.proofs.LendingLaws.{few_set, keepable_set, room_at, room_set}
 use Rattle.ptpm_table.proofs.Slots.{clocks_set, configured_set, entries_set, has_place}
 use Rattle.ptpm_table.proofs.slot_list.put.Goals as goal
@@ -27,7 +29,7 @@ returns-in-Some-clause-clocks c = grind (arith, get_or, position-Some, clocks_se
 
 pub returns-in-Some-clause-keepable : goal.returns-in-Some-clause-keepable
 returns-in-Some-clause-keepable c =
-    let e : Entry = record { number = c.args.number; request = c.args.request.now; reply = c.args.reply.now } in
+    let e : Entry = record { number = c.args.number; request = c.args.request.now; reply = reply_with c.args.request.now (map answer_of c.args.answers.now) } in
     keepable_set c.args.slots.now c.in-Some.place
     (record { rights = (get_or c.args.slots.now c.in-Some.place c.index-slots-place.result).rights; taken = true; kept = c.replace.new.self }) e
     (ap (λ (k : KeptValue). k.entry) c.replace.ensures)
@@ -42,7 +44,7 @@ pub returns-in-Some-clause-few : goal.returns-in-Some-clause-few
 returns-in-Some-clause-few c = λ most few.
     few_set most c.args.slots.now c.in-Some.place
     (record { rights = (get_or c.args.slots.now c.in-Some.place c.index-slots-place.result).rights; taken = true; kept = c.replace.new.self })
-    (subst (λ (k : KeptValue). length k.entry.reply.answers ≤ most) (sym c.replace.ensures) few)
+    (subst (λ (k : KeptValue). length k.entry.reply.answers ≤ most) (sym c.replace.ensures) (omega (arith, few, length-map c.args.answers.now answer_of)))
 
 pub returns-in-Some-clause-rooms : goal.returns-in-Some-clause-rooms
 returns-in-Some-clause-rooms c = λ most rooms.

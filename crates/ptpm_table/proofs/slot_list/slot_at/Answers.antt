@@ -1,8 +1,8 @@
-use Rattle.std.proofs.Common.{◌≡◌, Option, subst, sym, ◌∙◌, ap}
+use Rattle.std.proofs.Common.{◌≡◌, ◌≤◌, Option, length, true, subst, sym, ◌∙◌, ap}
 use Rattle.std.specs.Prelude.{MatchOption, ⊤, is_some}
 use Rattle.ptpm_table.specs.Slots.{entry_in, rights_at}
 use Rattle.ptpm_table.specs.declared.slot.Slot.{Slot}
-use Rattle.ptpm_table.proofs.Slots.{copied_Some, found_clock, found_manager, get_used, known_slot, rights_slot}
+use Rattle.ptpm_table.proofs.Slots.{copied_Some, found_clock, found_few, found_manager, get_used, known_slot, rights_slot}
 use Rattle.ptpm_table.proofs.slot_list.slot_at.Goals as goal
 
 pub returns-clause-known : goal.returns-clause-known
@@ -25,3 +25,9 @@ returns-clause-own c = λ clock own.
     copied_Some c.find_slot.result (λ s. s.kept.clock ≡ clock)
     (subst (λ (o : Option Slot). MatchOption o ⊤ (λ s. s.kept.clock ≡ clock)) (sym c.find_slot.ensures)
     (found_clock c.args.who.now clock c.args.slots.now own))
+
+pub returns-clause-few : goal.returns-clause-few
+returns-clause-few c = λ most few.
+    copied_Some c.find_slot.result (λ s. s.taken ≡ true → length s.kept.entry.reply.answers ≤ most)
+    (subst (λ (o : Option Slot). MatchOption o ⊤ (λ s. s.taken ≡ true → length s.kept.entry.reply.answers ≤ most)) (sym c.find_slot.ensures)
+    (found_few c.args.who.now most c.args.slots.now few))

@@ -14,5 +14,5 @@ returns c =
     let ms = pieces k.reply.sizes k.reply.octets in
     ap (λ (v : KeptValue). slice_get v.entry.reply.answers c.args.place) (sym c.self.view_is)
     ∙ slice_get-map (answer_in k.of_port) ms c.args.place
-    ∙ ap (option_map (answer_in k.of_port)) ((λ i. slice_get (pieces (sym c.sizes-sizes.ensures.value i) (sym c.octets-messages.ensures i)) c.args.place) ∙ c.message_at.ensures)
+    ∙ ap (option_map (answer_in k.of_port)) ((λ i. slice_get (pieces (sym c.sizes-sizes.ensures.value i) (sym c.octets-messages.ensures.value i)) c.args.place) ∙ c.message_at.ensures)
     ∙ ap Some (sym c.answer_in.ensures)

@@ -18,7 +18,7 @@ returns-clause-messages g c =
     } in
     c.resend_each.ensures.messages
     ∙ ((λ i. g.O.Outgoing.sent c.args.out.now ++ map (λ m. (c.args.ingress, renewed c.args.heard.now.domain (c.port_for.ensures i) (c.hops_passed.ensures i) m))
-    (pieces (c.sizes-sizes.ensures.value i) (c.octets-messages.ensures i)))
+    (pieces (c.sizes-sizes.ensures.value i) (c.octets-messages.ensures.value i)))
     ∙ ((λ i. g.O.Outgoing.sent c.args.out.now ++ renewed_reply c.self.inside.of_port e c.args.heard.now c.args.ingress
     (pieces c.self.inside.reply.sizes c.self.inside.reply.octets) copy low c.self.invariant.0.each i)
     ∙ (λ i. g.O.Outgoing.sent c.args.out.now ++ rendered (c.self.view_is i).clock c.args.heard.now (c.self.view_is i).entry.reply c.args.ingress)))

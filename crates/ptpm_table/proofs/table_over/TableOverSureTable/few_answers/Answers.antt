@@ -1,5 +1,5 @@
 -- No kept reply has more answers than the table keeps.
-use Rattle.std.proofs.Common.{arith, suc, ◌≡◌, ◌≤◌, ℕ, Bool, true, false, List, [], ◌∷◌, length, refl, subst, sym, ap, ◌∙◌}
+use Rattle.std.proofs.Common.{arith, suc, ◌≡◌, ◌≤◌, ℕ, true, false, List, [], ◌∷◌, length, refl, subst, sym, ap, ◌∙◌}
 use Rattle.std.proofs.lemmas.Bool.{cond-true, cond-false}
 use Rattle.std.proofs.lemmas.List.Elements.{All-cons}
 use Rattle.std.specs.FinMap.{empty, entries, entries-insert, from_entries, len-empty, len-entries}

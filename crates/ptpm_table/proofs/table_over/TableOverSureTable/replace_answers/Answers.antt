@@ -1,8 +1,9 @@
 use Rattle.std.proofs.Common.{◌≡◌, ◌≤◌, ◌∙◌, All, List, ap, arith, length, subst, sym}
 use Rattle.ptpm_codec.specs.declared.identity.ClockIdentity.{ClockIdentity}
 use Rattle.ptpm_table.specs.Slots.{AreKeepable, HaveFew, HaveRoom, clocks}
+use Rattle.ptpm_table.specs.declared.managers.TheConstants.{MOST_MANAGERS}
 use Rattle.ptpm_table.specs.declared.slot.Slot.{Slot}
-use Rattle.ptpm_table.proofs.table_over.TableOverSureTable.replace.Goals as goal
+use Rattle.ptpm_table.proofs.table_over.TableOverSureTable.replace_answers.Goals as goal
 
 pub invariant_of-self-clause-own : goal.invariant_of-self-clause-own
 invariant_of-self-clause-own g c =
@@ -18,7 +19,7 @@ invariant_of-self-clause-few g c =
     let lent = c.slots_mut-slots.ensures.value in
     let size = ap length lent in
     let same = g.met.M.SlotMemory.written_slots c.args.self.now.slots c.put.new.slots (omega (arith, size, c.put.auto.slots)) in
-    subst (λ (ss : List Slot). length ss ≤ 16) (sym same) (omega (arith, size, c.put.auto.slots, c.args.self.now.few))
+    subst (λ (ss : List Slot). length ss ≤ MOST_MANAGERS) (sym same) (omega (arith, size, c.put.auto.slots, c.args.self.now.few))
 
 pub invariant_of-self-clause-keepable : goal.invariant_of-self-clause-keepable
 invariant_of-self-clause-keepable g c =
