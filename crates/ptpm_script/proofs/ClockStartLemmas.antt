@@ -1,5 +1,5 @@
 -- What is found of the start of a clock tells why the clock can't start; a clock of which nothing is found can.
-use Rattle.std.proofs.Common.{arith, ◌≡◌, ◌≢◌, ℕ, ◌==◌, ◌≤◌, nat_le, nat_lt, Bool, true, false, not, ◌&&◌, if◌then◌else◌, List, [], ◌∷◌, ◌++◌, Option, Some, None, IsOk, refl, ap, sym, subst, ◌∙◌, append_assoc, is_some, le-leb, le_refl, pos, codes, eq-eqb, flat_map, length, map, option_and_then, option_map, take, true≢false, unwrap_or}
+use Rattle.std.proofs.Common.{arith, ◌≡◌, ◌≢◌, ℕ, ◌==◌, ◌≤◌, nat_le, nat_lt, Bool, true, false, not, ◌&&◌, if◌then◌else◌, List, [], ◌∷◌, ◌++◌, Option, Some, None, IsOk, refl, ap, sym, subst, ◌∙◌, append_assoc, is_some, le-leb, le_refl, pos, codes, eq-eqb, flat_map, length, map, option_and_then, option_map, take, true≢false, unwrap_or, ◌+◌}
 use Rattle.std.specs.List.{AllByRecursion, range_with_len}
 use Rattle.std.specs.Option.{option_or}
 use Rattle.std.specs.Str.{chars, is_utf8}
