@@ -20,7 +20,6 @@ use crate::network::Network;
 /// A network that a text is keeps its limits. Each clock can start, with 1 to `CLOCK_PORTS` ports and an identity that is not all ones.
 /// No two clocks and no two sessions have one name or one identity. No session has a clock's name or clockIdentity, and each
 /// has a target that is there. The ends of links are there, and no end is given twice.
-#[tactic(auto, using(crate::proofs::NetworkLaw::accepted))]
 pub fn accepted_networks()
     ensures { (text : List ℕ) (n : NetworkValue) → network_of text ≡ Ok n → IsAccepted n }
 {}
