@@ -1,6 +1,6 @@
 //! What becomes of the datagrams that come in at a clock's ports.
 
-ghost use Rattle.std.specs.Prelude.{◌≡◌, ◌≢◌, ◌≤◌, ◌+◌, ◌++◌, ◌∷◌, [], false, true, ℕ, List, All, IsTrue, Ok, Some, IfOk, OnOk, OnErr, length};
+ghost use Rattle.std.specs.Prelude.{◌≡◌, ◌≢◌, ◌≤◌, ◌+◌, ◌++◌, ◌∷◌, [], false, true, ℕ, List, All, IsTrue, Ok, Some, IfOk, OnOk, OnErr, length, map};
 ghost use Rattle.std.specs.FinMap as fin;
 ghost use Rattle.ptpm_codec.specs.declared.identity.PortIdentity.{PortIdentity};
 ghost use Rattle.ptpm_codec.specs.Layout.{message_octets};
@@ -12,9 +12,10 @@ ghost use Rattle.ptpm_data.specs.Changes.{IsTargetPort, changed_by};
 ghost use Rattle.ptpm_data.specs.Members.{HasPort};
 ghost use Rattle.ptpm_data.specs.Observation.{left_disabled, observation_refusal};
 ghost use Rattle.ptpm_data.specs.Refusals.{refusal_of};
+ghost use Rattle.ptpm_data.specs.Reply.{answer_of};
 ghost use Rattle.ptpm_data.specs.Rights.{all_rights};
 ghost use Rattle.ptpm_data.specs.Start.{unless};
-ghost use Rattle.ptpm_table.specs.Entries.{CanResend, FitsRequest, is_known};
+ghost use Rattle.ptpm_table.specs.Entries.{CanResend, FitsRequest, is_known, reply_with};
 ghost use Rattle.ptpm_table.specs.Managers.{IsFresh, has_twice, identities, most_managers};
 ghost use Rattle.ptpm_table.specs.Rendering.{IsSendable, rendered};
 ghost use Rattle.ptpm_agent.specs.Agent.{IsTurned, clock_of, state_of};
@@ -32,7 +33,7 @@ use crate::verdict::Verdict;
 use ptpm_codec::{Action, ClockIdentity, ErrorId, Octets, OutOfMemory, PortIdentity, View, view};
 use ptpm_data::{
     ChangedMembers, ClockObservation, DataSets, INLINE_PORTS, ObservationError, PortObservation,
-    PortsLeftDisabled, Reply, Request, Rights, data_sets_law,
+    PortAnswer, PortsLeftDisabled, Reply, Request, Rights, data_sets_law,
 };
 use ptpm_table::{Heard, Look, Outbox, Outgoing, ReplyTable, Sender, SlotTable, SureTable, render};
 use std::mem;
@@ -384,26 +385,27 @@ impl<const SLOTS: usize> Agent<SlotTable<SLOTS>> {
 }
 
 impl<T: SureTable + Drop> Agent<T> {
-    /// Keeps a manager's request with its reply, as an image of the clock has them. The data sets stay as they are.
+    /// Keeps a manager's request with the answers of the reply to it, as an image of the clock has them. The data sets stay as they
+    /// are.
     pub fn keep_again(
         &mut self,
         who: &PortIdentity,
         number: u16,
         request: &Request<'_>,
-        reply: &Reply,
+        answers: &[PortAnswer],
     )
         requires known { IsTrue (is_known who.now (T.owner self.old.table).managers) }
         requires action { IsRequestAction request.now.action }
         requires octets { IsDataField request.now.octets }
-        requires fits { FitsRequest request.now reply.now }
-        requires few { length reply.now.answers ≤ T.most self.old.table }
+        requires fits { FitsRequest request.now (reply_with request.now (map answer_of answers.now)) }
+        requires few { length answers.now ≤ T.most self.old.table }
         ensures sets { self.new.sets ≡ self.old.sets }
         ensures entries { T.entries self.new.table ≡ fin.insert (T.entries self.old.table) who.now
-            (record { number = number; request = request.now; reply = reply.now }) }
+            (record { number = number; request = request.now; reply = reply_with request.now (map answer_of answers.now) }) }
         ensures owner { T.owner self.new.table ≡ T.owner self.old.table }
         ensures most { T.most self.new.table ≡ T.most self.old.table }
     {
-        self.table.replace(who, number, request, reply);
+        self.table.replace_answers(who, number, request, answers);
     }
 
     /// What `try_handle` does, over a table that always has room: never refused, and it takes no memory.
