@@ -9,6 +9,7 @@ pub mod KeptReplies
 pub mod Fitting
 pub mod Refused
 pub mod Lists
+pub mod Alike
 pub mod Ports
 pub mod TurnKeeps
 pub mod SentReplies

@@ -12,12 +12,13 @@ ghost use Rattle.ptpm_data.specs.Changes.{IsTargetPort, changed_by};
 ghost use Rattle.ptpm_data.specs.Members.{HasPort};
 ghost use Rattle.ptpm_data.specs.Observation.{left_disabled, observation_refusal};
 ghost use Rattle.ptpm_data.specs.Refusals.{refusal_of};
-ghost use Rattle.ptpm_data.specs.Reply.{answer_of};
+ghost use Rattle.ptpm_data.specs.Reply.{ReplyValue, answer_of};
 ghost use Rattle.ptpm_data.specs.Rights.{all_rights};
 ghost use Rattle.ptpm_data.specs.Start.{unless};
 ghost use Rattle.ptpm_table.specs.Entries.{CanResend, FitsRequest, is_known, reply_with};
 ghost use Rattle.ptpm_table.specs.Managers.{IsFresh, has_twice, identities, most_managers};
 ghost use Rattle.ptpm_table.specs.Rendering.{IsSendable, rendered};
+ghost use Rattle.ptpm_table.specs.Sending.{IsSentReply};
 ghost use Rattle.ptpm_agent.specs.Agent.{IsTurned, clock_of, state_of};
 ghost use Rattle.ptpm_agent.specs.Forwarding.{forwarded};
 ghost use Rattle.ptpm_agent.specs.Laws.{StandsAt, after_each, datagrams_of, due_messages, last_sent};
@@ -32,8 +33,8 @@ use crate::forwarding::forward;
 use crate::verdict::Verdict;
 use ptpm_codec::{Action, ClockIdentity, ErrorId, Octets, OutOfMemory, PortIdentity, View, view};
 use ptpm_data::{
-    ChangedMembers, ClockObservation, DataSets, INLINE_PORTS, ObservationError, PortObservation,
-    PortAnswer, PortsLeftDisabled, Reply, Request, Rights, data_sets_law,
+    ChangedMembers, ClockObservation, DataSets, INLINE_PORTS, ObservationError, PortAnswer,
+    PortObservation, PortsLeftDisabled, Reply, Request, Rights, data_sets_law,
 };
 use ptpm_table::{Heard, Look, Outbox, Outgoing, ReplyTable, Sender, SlotTable, SureTable, render};
 use std::mem;
@@ -352,7 +353,7 @@ impl<T: ReplyTable + Drop> Agent<T> {
     }
 }
 
-const _: () = prove!(size_of::<Agent<SlotTable<1>>>() == 2_536);
+const _: () = prove!(size_of::<Agent<SlotTable<1>>>() == 2_552);
 
 impl<const SLOTS: usize> Agent<SlotTable<SLOTS>> {
     /// A clock that has heard nothing yet and has no managers. It is never inlined: it is made in the place where it is
@@ -361,6 +362,7 @@ impl<const SLOTS: usize> Agent<SlotTable<SLOTS>> {
     pub fn without_managers(sets: DataSets) -> Agent<SlotTable<SLOTS>>
         requires { length sets.ports ≤ INLINE_PORTS }
         ensures sets { result.sets ≡ sets }
+        ensures most { ⟦<SlotTable<SLOTS> as ReplyTable>⟧.most result.table ≡ INLINE_PORTS }
         ensures table { IsFresh sets.default.identity []
             (⟦<SlotTable<SLOTS> as ReplyTable>⟧.owner result.table)
             (⟦<SlotTable<SLOTS> as ReplyTable>⟧.entries result.table) }
@@ -375,7 +377,9 @@ impl<const SLOTS: usize> Agent<SlotTable<SLOTS>> {
         requires none { (⟦<SlotTable<SLOTS> as ReplyTable>⟧.owner self.old.table).managers ≡ [] }
         requires few { length managers.now ≤ most_managers SLOTS }
         requires distinct { has_twice (identities managers.now) ≡ false }
+        requires most { ⟦<SlotTable<SLOTS> as ReplyTable>⟧.most self.old.table ≡ INLINE_PORTS }
         ensures sets { self.new.sets ≡ self.old.sets }
+        ensures most { ⟦<SlotTable<SLOTS> as ReplyTable>⟧.most self.new.table ≡ INLINE_PORTS }
         ensures table { IsFresh (⟦<SlotTable<SLOTS> as ReplyTable>⟧.owner self.old.table).identity
             managers.now (⟦<SlotTable<SLOTS> as ReplyTable>⟧.owner self.new.table)
             (⟦<SlotTable<SLOTS> as ReplyTable>⟧.entries self.new.table) }
@@ -406,6 +410,32 @@ impl<T: SureTable + Drop> Agent<T> {
         ensures most { T.most self.new.table ≡ T.most self.old.table }
     {
         self.table.replace_answers(who, number, request, answers);
+    }
+
+    /// Keeps a manager's request with the reply that was sent for the copy that was heard, as the clock's device makes it. The data
+    /// sets stay as they are. The messages and `of_port` are those of `SureTable::keep_sent`.
+    pub fn keep_sent<O: Outgoing>(
+        &mut self,
+        heard: &Heard,
+        request: &Request<'_>,
+        of_port: bool,
+        out: &O,
+    )
+        requires known { IsTrue (is_known heard.now.source (T.owner self.old.table).managers) }
+        requires action { IsRequestAction request.now.action }
+        requires octets { IsDataField request.now.octets }
+        requires sent { (r : ReplyValue) × IsSentReply (T.owner self.old.table).identity heard.now
+            request.now.action request.now.id of_port (O.sent out.now) r }
+        requires few { length (O.sent out.now) ≤ T.most self.old.table }
+        ensures sets { self.new.sets ≡ self.old.sets }
+        ensures entries { (r : ReplyValue) → IsSentReply (T.owner self.old.table).identity heard.now
+            request.now.action request.now.id of_port (O.sent out.now) r →
+            T.entries self.new.table ≡ fin.insert (T.entries self.old.table) heard.now.source
+            (record { number = heard.now.number; request = request.now; reply = r }) }
+        ensures owner { T.owner self.new.table ≡ T.owner self.old.table }
+        ensures most { T.most self.new.table ≡ T.most self.old.table }
+    {
+        self.table.keep_sent(heard, request, of_port, out);
     }
 
     /// What `try_handle` does, over a table that always has room: never refused, and it takes no memory.

@@ -1,5 +1,6 @@
 -- The reply to a refused request, answer by answer.
 use Rattle.std.proofs.Common.{arith, ◌≡◌, ℕ, ◌≤◌, map, List, [], ◌∷◌, Option, Some, None, Bool, true, false, length, refl, sym, ◌∙◌, ap, subst}
+use Rattle.std.proofs.lemmas.List.{length-map}
 use Rattle.std.proofs.lemmas.List.Elements.{All-cons, All-get_or, All-map, All-nil}
 use Rattle.std.specs.List.{All}
 use Rattle.ptpm_codec.specs.declared.error.ErrorId.{ErrorId}
@@ -20,7 +21,9 @@ use Rattle.ptpm_data.specs.RequestLaws.{IsSized}
 use Rattle.ptpm_data.proofs.Keeping.{changed_by-ports, changed_by-sized}
 use Rattle.ptpm_data.proofs.ReplyLemmas.{answers_of, reply_of-all, reply_of-count}
 use Rattle.ptpm_table.specs.Entries.{FitsAnswer, FitsCount, FitsRequest}
-use Rattle.ptpm_device.specs.Refusing.{refused_answer}
+use Rattle.ptpm_table.specs.declared.rendering.Sender.{Sender}
+use Rattle.ptpm_table.specs.Sending.{HasSent}
+use Rattle.ptpm_device.specs.Refusing.{TakesAsRefused, refused_answer}
 
 -- ---- its answers, made of those of another reply
 
@@ -36,15 +39,23 @@ pub refused_answers : (q : RequestValue) (error : ErrorId) (d : DataSetsValue)
 unfolding read_reply_to reply_of
 refused_answers q error d = refused_each q (read_refusal q) error d (answerers q d)
 
--- as code makes it
-pub refused_reply : (q : RequestValue) (error : ErrorId) (d : DataSetsValue) (empty after : ReplyValue)
-    → empty ≡ record { action = reply_action q.action; id = q.id; answers = [] }
-    → after ≡ answered_more empty (map (refused_answer error) (read_reply_to q d).answers)
-    → after ≡ reply_of q (Some error) d
+pub refused_count : (q : RequestValue) (error : ErrorId) (d : DataSetsValue)
+    → length (read_reply_to q d).answers ≡ length (reply_of q (Some error) d).answers
+refused_count q error d =
+    sym (length-map (read_reply_to q d).answers (refused_answer error)) ∙ ap (λ (xs : List Answer). length xs) (refused_answers q error d)
+
+-- as code sends them
+pub refused_sent : {O : Type 0} (sent : O → List (ℕ × List ℕ)) (grown : O → O → Type 0) (q : RequestValue) (error : ErrorId) (d : DataSetsValue)
+    (s t : Sender O) (after : ErrorId)
+    → TakesAsRefused sent grown error s (read_reply_to q d).answers after t
+    → HasSent sent grown s (reply_of q (Some error) d).answers t
+refused_sent sent grown q error d s t after taken =
+    subst (λ (xs : List Answer). HasSent sent grown s xs t) (refused_answers q error d) taken.sent_is
+
+pub refusal_parts : (q : RequestValue) (error : ErrorId) (d : DataSetsValue)
+    → record { action = reply_action q.action; id = q.id; answers = (reply_of q (Some error) d).answers } ≡ reply_of q (Some error) d
 unfolding reply_of
-refused_reply q error d empty after e taken =
-    taken ∙ (ap (λ (r : ReplyValue). answered_more r (map (refused_answer error) (read_reply_to q d).answers)) e
-    ∙ ap (λ (xs : List Answer). record { action = reply_action q.action; id = q.id; answers = xs }) (refused_answers q error d))
+refusal_parts q error d = refl
 
 -- ---- it may be kept
 

@@ -44,25 +44,6 @@ use Rattle.ptpm_device.proofs.Steps.{turn_said-each, turn_said-new}
 
 -- ---- what the device is asked about may be kept
 
-pub record ChangeParts (c : Clock) (s : State) (r : NumberedRequest) : Type 0 where
-  pub known : is_known r.manager c.managers ≡ true
-  pub action : IsRequestAction r.request.action
-  pub port : IsTargetPort r.request.port s.sets
-
-pub change_parts : (c : Clock) (s : State) (datagram : List ℕ) (r : NumberedRequest)
-    → asked c s datagram ≡ Some r
-    → ChangeParts c s r
-change_parts c s datagram r e =
-    let p = asked_parts c s datagram r e in
-    let v = p.message in
-    let parts = new_parts c s v (judged-asked c s v p.asked) in
-    let same : r.request ≡ request_of v = ap (λ (q : NumberedRequest). q.request) p.same in
-    record {
-      known = ap (λ (q : NumberedRequest). is_known q.manager c.managers) p.same ∙ parts.known;
-      action = may_judge_action r.request v same parts.request;
-      port = may_judge_port r.request s.sets v same parts.port;
-    }
-
 pub value_known : (c : Clock) (s : State) (datagram : List ℕ) (r : NumberedRequest)
     → wanted_new c s datagram ≡ Some r
     → is_known r.manager c.managers ≡ true
@@ -208,60 +189,33 @@ moved_turn : (c after : Clock) (kept from : State) (ingress : ℕ) (datagram : L
 moved_turn c after kept from ingress datagram w out next clock is turned =
     subst (λ (u : Turned). IsTurned u w out next) (λ i. turn (clock i) (is i) ingress datagram) turned
 
--- ---- an objection, and then the clock's own turn
+-- ---- an objection
 
-abbrev TurnedObjected : Clock → State → Option NumberedRequest → ErrorId → ℕ → List ℕ → Verdict → List (ℕ × List ℕ) → State → Type 0
-TurnedObjected c s o error ingress datagram w out next =
-    IsTurned (turn c (objected_by s o error) ingress datagram) w out next
-
-objected_at : (c : Clock) (s : State) (o : Option NumberedRequest) (error : ErrorId) (ingress : ℕ) (datagram : List ℕ)
-    (w : Verdict) (out : List (ℕ × List ℕ)) (next : State)
-    → asked c s datagram ≡ o
-    → is_some o ≡ true
-    → IfSome o (λ r. r.number < 65536)
-    → TurnedObjected c s o error ingress datagram w out next
+pub turned_objected : (c : Clock) (s : State) (error : ErrorId) (ingress : ℕ) (datagram : List ℕ) (v : Message)
+    (out : List (ℕ × List ℕ)) (next : State)
+    → message_of datagram ≡ Some v
+    → is_asked c s v ≡ true
+    → out ≡ rendered c.identity (heard_of v) (reply_of (request_of v) (Some error) s.sets) ingress
+    → next ≡ after_reply s (numbered_from v) (reply_of (request_of v) (Some error) s.sets)
     → IsTurned (turn_said c s (Objects error) ingress datagram) verdicts.AnsweredNew out next
-objected_at c s None error ingress datagram w out next e some small turned = absurd (false≢true some)
-objected_at c s (Some r) error ingress datagram w out next e some small turned =
-    let p : AskedParts c s datagram r = asked_parts c s datagram r e in
-    let v : Message = p.message in
-    let q = asked-parts c s v p.asked in
-    let permitted : is_permitted c v.source (request_of v) ≡ true = and_from _ _ q.1.0 (ap is_none q.1.1) in
-    turned_replied c s (Objects error) ingress datagram v (reply_of (request_of v) (Some error) s.sets) w out next p.read q.0
-    (subst (λ (x : NumberedRequest). x.number < 65536) p.same small)
-    (cond-true _ _ _ permitted)
-    (subst (λ (x : NumberedRequest). IsTurned (turn c (after_reply s x (reply_of x.request (Some error) s.sets)) ingress datagram) w out next)
-    p.same turned)
+turned_objected c s error ingress datagram v out next read is sent kept =
+    let p = asked-parts c s v is in
+    let reply = reply_of (request_of v) (Some error) s.sets in
+    let permitted : is_permitted c v.source (request_of v) ≡ true = and_from _ _ p.1.0 (ap is_none p.1.1) in
+    subst (λ (u : Turned). IsTurned u verdicts.AnsweredNew out next)
+    (sym (turn_said-new c s (Objects error) ingress datagram v (Some reply) read p.0 (cond-true _ _ _ permitted)))
+    (record {
+      verdict_is = refl;
+      outbox_is = sent;
+      sets_are = ap (λ (n : State). n.sets) kept;
+      entries_are = ap (λ (n : State). n.entries) kept;
+    })
 
-pub turned_objected : (c : Clock) (s : State) (error : ErrorId) (ingress : ℕ) (datagram : List ℕ)
-    (after : Clock) (kept : State) (w : Verdict) (out : List (ℕ × List ℕ)) (next : State)
-    → is_some (asked c s datagram) ≡ true
-    → IfSome (asked c s datagram) (λ r. r.number < 65536)
-    → after ≡ c
-    → kept ≡ objected_by s (asked c s datagram) error
-    → IsTurned (turn after kept ingress datagram) w out next
-    → IsTurned (turn_said c s (Objects error) ingress datagram) verdicts.AnsweredNew out next
-turned_objected c s error ingress datagram after kept w out next some small clock is turned =
-    objected_at c s (asked c s datagram) error ingress datagram w out next refl some small
-    (moved_turn c after kept (objected_by s (asked c s datagram) error) ingress datagram w out next clock is turned)
+-- ---- a value that is kept, and then the clock's own turn
 
 none_of : {A : Type 0} (o : Option A) → is_some o ≡ false → o ≡ None
 none_of None e = refl
 none_of (Some a) e = absurd (true≢false e)
-
-pub turned_unasked : (c : Clock) (s : State) (error : ErrorId) (ingress : ℕ) (datagram : List ℕ)
-    (after : Clock) (kept : State) (w : Verdict) (out : List (ℕ × List ℕ)) (next : State)
-    → is_some (asked c s datagram) ≡ false
-    → after ≡ c
-    → kept ≡ objected_by s (asked c s datagram) error
-    → IsTurned (turn after kept ingress datagram) w out next
-    → IsTurned (turn_said c s (Objects error) ingress datagram) w out next
-turned_unasked c s error ingress datagram after kept w out next other clock is turned =
-    let none : asked c s datagram ≡ None = none_of (asked c s datagram) other in
-    subst (λ (u : Turned). IsTurned u w out next) (sym (objection_not_asked c s error ingress datagram none))
-    (moved_turn c after kept s ingress datagram w out next clock (is ∙ ap (λ (o : Option NumberedRequest). objected_by s o error) none) turned)
-
--- ---- a value that is kept, and then the clock's own turn
 
 kept_at : (c : Clock) (s : State) (o : Option NumberedRequest) (octets : List ℕ) (ingress : ℕ) (datagram : List ℕ)
     (w : Verdict) (out : List (ℕ × List ℕ)) (next : State)

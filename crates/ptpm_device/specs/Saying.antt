@@ -69,12 +69,7 @@ after_reply s r reply = record {
   entries = insert s.entries r.manager (record { number = r.number; request = r.request; reply = reply });
 }
 
--- the same of a request to which the device objects, if there is one
-abbrev pub objected_by : State → Option NumberedRequest → ErrorId → State
-objected_by s None error = s
-objected_by s (Some r) error = after_reply s r (reply_of r.request (Some error) s.sets)
-
--- and of a GET to which it gives these octets
+-- the same of a GET to which the device gives these octets, if there is one
 abbrev pub given_by : State → Option NumberedRequest → List ℕ → State
 given_by s None octets = s
 given_by s (Some r) octets = after_reply s r (reply_given 130 r.request octets)

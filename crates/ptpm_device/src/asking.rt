@@ -83,7 +83,7 @@ pub(crate) fn asked_by<'a>(message: &View<'a>) -> Asked<'a>
 }
 
 /// Whether the device is asked to carry out a message.
-fn is_asked<T: ReplyTable + Drop>(agent: &Agent<T>, message: &View<'_>) -> bool
+pub(crate) fn is_asked<T: ReplyTable + Drop>(agent: &Agent<T>, message: &View<'_>) -> bool
     requires valid { IsValid message.now }
     ensures { result ≡ is_asked
         (clock_of T.owner agent.now) (state_of T.entries agent.now) message.now }

@@ -1,52 +1,71 @@
-//! What a clock's device says of a datagram. What it says of a new request is kept before the clock's own turn, and is then what
-//! that turn answers. A value that is not kept is sent in place of the clock's own turn.
+//! What a clock's device says of a datagram. A refusal, and a value that is not kept, are sent in place of the clock's own turn. A
+//! value for a new GET is kept before that turn, and is then what it answers.
 
 ghost use Rattle.std.specs.Prelude.{◌≡◌, ◌≤◌, ◌<◌, ◌^◌, ◌++◌, [], IfSome, IsTrue, Some, false, is_some, length};
 ghost use Rattle.std.specs.FinMap as fin;
-ghost use Rattle.ptpm_codec.specs.Message.{IsDataField, IsRequestAction};
-ghost use Rattle.ptpm_data.specs.Changes.{IsTargetPort};
+ghost use Rattle.ptpm_codec.specs.Message.{IsDataField, IsValid};
 ghost use Rattle.ptpm_data.specs.Members.{HasPort};
 ghost use Rattle.ptpm_data.specs.Replies.{reply_of};
 ghost use Rattle.ptpm_table.specs.Entries.{is_known};
 ghost use Rattle.ptpm_table.specs.Rendering.{rendered};
 ghost use Rattle.ptpm_agent.specs.Addressing.{heard_of, request_of};
 ghost use Rattle.ptpm_agent.specs.Agent.{IsTurned, clock_of, state_of};
-ghost use Rattle.ptpm_agent.specs.Turn.{outbox_of};
+ghost use Rattle.ptpm_agent.specs.Turn.{judged, numbered_from, outbox_of, turn};
 ghost use Rattle.ptpm_device.specs.Asking.{asked, is_lacked, is_wanted_new, is_wanted_once, wanted_new, wanted_once};
-ghost use Rattle.ptpm_device.specs.Saying.{Gives, after_reply, given_by, objected_by, reply_given, turn_said};
+ghost use Rattle.ptpm_device.specs.Saying.{Gives, Objects, after_reply, given_by, reply_given, turn_said};
 
-use crate::asking::{Asked, ask, asked_by, is_lacked, is_reached, look, request_of};
+use crate::asking::{Asked, asked_by, is_asked, is_lacked, is_reached, look, request_of};
 use crate::passing::pass_on;
 use crate::refusing::Refusing;
 use ptpm_agent::{Agent, Verdict};
 use ptpm_codec::{Action, Draft, DraftBody, Envelope, ErrorId, PortIdentity, View, view};
-use ptpm_data::{Answers, DataSets, Reply, Request, data_sets_law};
-use ptpm_table::{Look, Outgoing, ReplyTable, SureTable};
+use ptpm_data::{Answers, Reply, Request, data_sets_law};
+use ptpm_table::{Heard, Look, Outgoing, ReplyTable, Sender, SureTable};
 
 /// The most octets of a value that the clock keeps as its answer to a manager.
 const MOST_KEPT: usize = 130;
 
-/// Keeps the request of a datagram with the error with which the device objects to it, if the device is asked (`ask`). Answers
-/// whether that was so. What the clock then sends for the datagram is that refusal, and the turn was that of a new request.
-/// Otherwise nothing changes. Takes no memory.
-pub fn object<T: SureTable + Drop>(agent: &mut Agent<T>, datagram: &[u8], error: ErrorId) -> bool
+/// The turn of a clock whose device objects to a datagram with this error, if the device is asked (`ask`). The request is kept with
+/// that refusal, and the refusal is sent: one answer, of the clock or of each named port. Answers whether that was so. Otherwise
+/// nothing changes and nothing is sent, and the turn is the clock's own. Takes no memory.
+pub fn object<T: SureTable + Drop, O: Outgoing>(
+    agent: &mut Agent<T>,
+    ingress: u16,
+    datagram: &[u8],
+    error: ErrorId,
+    out: &mut O,
+) -> bool
+    requires empty { O.sent out.old ≡ [] }
+    requires room { length (outbox_of (turn_said
+        (clock_of T.owner agent.old) (state_of T.entries agent.old) (Objects error)
+        ingress datagram.now))
+        ≤ O.most out.old }
     ensures asked { result ≡ is_some
         (asked (clock_of T.owner agent.old) (state_of T.entries agent.old) datagram.now) }
-    ensures kept { state_of T.entries agent.new ≡ objected_by (state_of T.entries agent.old)
-        (asked (clock_of T.owner agent.old) (state_of T.entries agent.old) datagram.now) error }
-    ensures number { IfSome
-        (asked (clock_of T.owner agent.old) (state_of T.entries agent.old) datagram.now)
-        (λ r. r.number < 2 ^ 16) }
+    ensures turned { IsTrue result → IsTurned (turn_said
+        (clock_of T.owner agent.old) (state_of T.entries agent.old) (Objects error)
+        ingress datagram.now)
+        Verdict.AnsweredNew (O.sent out.new) (state_of T.entries agent.new) }
+    ensures own { result ≡ false → turn_said
+        (clock_of T.owner agent.old) (state_of T.entries agent.old) (Objects error)
+        ingress datagram.now
+        ≡ turn (clock_of T.owner agent.old) (state_of T.entries agent.old) ingress datagram.now }
+    ensures unchanged { result ≡ false → agent.new ≡ agent.old }
+    ensures unsent { result ≡ false → out.new ≡ out.old }
     ensures sets { agent.new.sets ≡ agent.old.sets }
     ensures clock { clock_of T.owner agent.new ≡ clock_of T.owner agent.old }
+    ensures most { T.most agent.new.table ≡ T.most agent.old.table }
+    ensures grown { O.grown out.old out.new }
 {
-    match ask(agent, datagram) {
-        Some(change) => {
-            refuse(agent, &change, error);
-            true
-        }
-        None => false,
+    let message = match view(datagram) {
+        Ok(message) => message,
+        Err(_) => return false,
+    };
+    if !is_asked(agent, &message) {
+        return false;
     }
+    refuse(agent, ingress, &message, error, out);
+    true
 }
 
 /// Keeps a manager's new GET with the value that the device gives, if the clock lacks the id. Answers whether that was so. A value
@@ -205,25 +224,58 @@ fn is_wanted_new<T: ReplyTable + Drop>(agent: &Agent<T>, message: &View<'_>) -> 
     }
 }
 
-/// Keeps a request with the device's error as its reply. From then on a copy of it is a repeat, and is sent that reply. Never
-/// inlined: so the stack has no room for that reply while the clock takes its turn.
-#[inline(never)]
-fn refuse<T: SureTable + Drop>(agent: &mut Agent<T>, change: &Asked<'_>, error: ErrorId)
-    requires known { IsTrue (is_known change.now.manager (T.owner agent.old.table).managers) }
-    requires action { IsRequestAction change.now.request.action }
-    requires port { IsTargetPort change.now.request.port agent.old.sets }
-    requires octets { IsDataField change.now.request.octets }
+/// Sends the device's error as the reply to a new request, and keeps the request with it. From then on a copy of it is a repeat.
+fn refuse<T: SureTable + Drop, O: Outgoing>(
+    agent: &mut Agent<T>,
+    ingress: u16,
+    message: &View<'_>,
+    error: ErrorId,
+    out: &mut O,
+)
+    requires new { judged
+        (clock_of T.owner agent.old) (state_of T.entries agent.old) message.now
+        ≡ Verdict.AnsweredNew }
+    requires valid { IsValid message.now }
+    requires empty { O.sent out.old ≡ [] }
+    requires room { length (reply_of (request_of message.now) (Some error) agent.old.sets).answers
+        ≤ O.most out.old }
     ensures kept { state_of T.entries agent.new ≡ after_reply (state_of T.entries agent.old)
-        change.now (reply_of change.now.request (Some error) agent.old.sets) }
+        (numbered_from message.now)
+        (reply_of (request_of message.now) (Some error) agent.old.sets) }
+    ensures sent { O.sent out.new
+        ≡ rendered (clock_of T.owner agent.old).identity (heard_of message.now)
+        (reply_of (request_of message.now) (Some error) agent.old.sets) ingress }
     ensures sets { agent.new.sets ≡ agent.old.sets }
     ensures clock { clock_of T.owner agent.new ≡ clock_of T.owner agent.old }
+    ensures most { T.most agent.new.table ≡ T.most agent.old.table }
+    ensures grown { O.grown out.old out.new }
 {
+    let heard = heard_of(message);
+    let request = request_of(message);
     data_sets_law(agent.sets());
-    let reply = refusal(agent.sets(), &change.request, error);
-    agent.keep_again(&change.manager, change.number, &change.request, &reply);
+    let mut sender = Sender::new(out);
+    sender.address(&agent.table().clock(), &heard, &request, ingress);
+    let mut refusing = Refusing { sender, error };
+    agent.sets().read_into(&request, &mut refusing);
+    let of_port = refusing.sender.of_port();
+    agent.keep_sent(&heard, &request, of_port, out);
 }
 
-/// Keeps a GET with the value that the device gives as its reply. Never inlined, like `refuse`.
+/// What a reply takes from the copy that it answers.
+fn heard_of(message: &View<'_>) -> Heard
+    ensures { result ≡ heard_of message.now }
+{
+    Heard {
+        domain: message.domain(),
+        source: message.source(),
+        number: message.number(),
+        starting_hops: message.starting_hops(),
+        hops: message.hops(),
+    }
+}
+
+/// Keeps a GET with the value that the device gives as its reply. Never inlined: so the stack has no room for that reply
+/// while the clock takes its turn.
 #[inline(never)]
 fn keep<T: SureTable + Drop>(agent: &mut Agent<T>, get: &Asked<'_>, octets: &[u8])
     requires known { IsTrue (is_known get.now.manager (T.owner agent.old.table).managers) }
@@ -237,23 +289,8 @@ fn keep<T: SureTable + Drop>(agent: &mut Agent<T>, get: &Asked<'_>, octets: &[u8
 {
     data_sets_law(agent.sets());
     let reply = reply_given(&get.request, octets);
-    agent.keep_again(&get.manager, get.number, &get.request, &reply);
-}
-
-/// The reply to a request that is refused with this error: one answer of the clock, or of each named port.
-fn refusal(sets: &DataSets, request: &Request<'_>, error: ErrorId) -> Reply
-    requires action { IsRequestAction request.now.action }
-    requires port { IsTargetPort request.now.port sets.now }
-    requires octets { IsDataField request.now.octets }
-    ensures { result ≡ reply_of request.now (Some error) sets.now }
-{
-    let mut refusing = Refusing {
-        reply: Reply::to(request),
-        error,
-    };
-    data_sets_law(sets);
-    sets.read_into(request, &mut refusing);
-    refusing.reply
+    let answers = reply.answers.as_slice();
+    agent.keep_again(&get.manager, get.number, &get.request, answers);
 }
 
 /// The reply to a GET with these octets: one answer, of the clock. They are refused if they are too many to be kept.

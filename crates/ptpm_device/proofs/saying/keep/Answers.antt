@@ -1,8 +1,9 @@
-use Rattle.std.proofs.Common.{arith, ◌≡◌, ap, length, true, sym, subst}
+use Rattle.std.proofs.Common.{arith, ◌≡◌, ◌∙◌, List, ap, length, map, refl, true, sym, subst}
 use Rattle.ptpm_data.specs.Members.{DataSetsValue}
-use Rattle.ptpm_data.specs.Reply.{ReplyValue}
+use Rattle.ptpm_data.specs.Reply.{Answer, ReplyValue, answer_of}
 use Rattle.ptpm_agent.specs.Turn.{NumberedRequest}
 use Rattle.ptpm_device.specs.Asking.{is_lacked}
+use Rattle.ptpm_device.specs.Saying.{reply_given}
 use Rattle.ptpm_device.proofs.Said.{lacked_request, reply_given-fits}
 use Rattle.ptpm_device.proofs.saying.keep.Goals as goal
 
@@ -13,16 +14,10 @@ keep_again-requires-clause-action g c =
 
 pub keep_again-requires-clause-fits : goal.keep_again-requires-clause-fits
 keep_again-requires-clause-fits g c =
-    reply_given-fits c.get.inside.request c.args.octets.now c.reply_given-reply.result
+    let q = c.get.inside.request in
+    let given = reply_given 130 q c.args.octets.now in
+    let is : map answer_of c.as_slice-answers.result.now ≡ given.answers =
+    ap (λ xs. map answer_of xs) c.as_slice-answers.ensures ∙ ap (λ (r : ReplyValue). r.answers) c.reply_given-reply.ensures in
+    reply_given-fits q c.args.octets.now _
     (subst (λ (r : NumberedRequest). is_lacked r.request ≡ true) (sym c.get.view_is) c.requires.lacked)
-    c.requires.octets c.reply_given-reply.ensures
-
-pub keep_again-requires-clause-few : goal.keep_again-requires-clause-few
-keep_again-requires-clause-few g c =
-    omega (
-      arith,
-      ap (λ (r : ReplyValue). length r.answers) c.reply_given-reply.ensures,
-      c.data_sets_law.ensures.sized.some_port,
-      ap (λ (d : DataSetsValue). length d.ports) c.sets.ensures,
-      c.args.agent.now.room,
-    )
+    c.requires.octets (ap (λ (xs : List Answer). record { action = given.action; id = given.id; answers = xs }) is)

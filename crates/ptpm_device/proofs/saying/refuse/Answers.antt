@@ -1,32 +1,146 @@
-use Rattle.std.proofs.Common.{arith, ◌≡◌, ℕ, Some, length, sym, ◌∙◌, ap, subst}
+use Rattle.std.proofs.Common.{arith, [], ◌≡◌, ◌≤◌, ◌∙◌, ℕ, List, Some, ap, length, refl, rules, subst, sym, true}
+use Rattle.std.specs.FinMap.{insert}
+use Rattle.ptpm_codec.specs.declared.identity.ClockIdentity.{ClockIdentity}
+use Rattle.ptpm_codec.specs.Message.{reply_action}
 use Rattle.ptpm_data.specs.Changes.{IsTargetPort}
 use Rattle.ptpm_data.specs.Members.{DataSetsValue}
-use Rattle.ptpm_data.specs.Reply.{ReplyValue}
+use Rattle.ptpm_data.specs.Replies.{reply_of}
+use Rattle.ptpm_data.specs.Request.{RequestValue}
 use Rattle.ptpm_data.specs.RequestLaws.{IsSized}
 use Rattle.ptpm_data.proofs.AnswerCounts.{reply_few}
-use Rattle.ptpm_agent.specs.Turn.{NumberedRequest}
-use Rattle.ptpm_device.proofs.Refused.{refusal_fits}
+use Rattle.ptpm_table.specs.Rendering.{rendered}
+use Rattle.ptpm_agent.specs.Addressing.{heard_of, names_port, request_of}
+use Rattle.ptpm_agent.proofs.Fitting.{may_judge_port}
+use Rattle.ptpm_agent.proofs.MostSent.{rendered_count}
+use Rattle.ptpm_agent.proofs.SentReplies.{IsSenderOf, sender_as_made, sent_rendered, sent_reply}
+use Rattle.ptpm_agent.proofs.Turns.{new_parts}
+use Rattle.ptpm_device.proofs.Refused.{refusal_fits, refusal_parts, refused_count, refused_sent}
 use Rattle.ptpm_device.proofs.saying.refuse.Goals as goal
 
-pub keep_again-requires-clause-fits : goal.keep_again-requires-clause-fits
-keep_again-requires-clause-fits g c =
-    let d = c.sets-2.result.now in
-    let sets : c.args.agent.now.sets ≡ d = sym c.sets-2.ensures in
-    let sized : IsSized d = subst IsSized (c.sets.ensures ∙ sets) c.data_sets_law.ensures.sized in
-    let port : IsTargetPort c.change.inside.request.port d =
-    subst (λ (p : ℕ). IsTargetPort p d) (sym (ap (λ (r : NumberedRequest). r.request.port) c.change.view_is))
-    (subst (λ (e : DataSetsValue). IsTargetPort c.args.change.now.request.port e) sets c.requires.port) in
-    refusal_fits c.change.inside.request c.args.error d c.refusal-reply.result port sized c.refusal-reply.ensures
+pub read_into-requires-clause-action : goal.read_into-requires-clause-action
+read_into-requires-clause-action g c = grind (arith, new_parts)
 
-pub keep_again-requires-clause-few : goal.keep_again-requires-clause-few
-keep_again-requires-clause-few g c =
+pub read_into-requires-clause-port : goal.read_into-requires-clause-port
+read_into-requires-clause-port g c = grind (arith, new_parts)
+
+pub read_into-requires-clause-room : goal.read_into-requires-clause-room
+read_into-requires-clause-room g c =
+    let q = c.request_of-request.result in
     let d = c.sets-2.result.now in
-    let sets : c.args.agent.now.sets ≡ d = sym c.sets-2.ensures in
-    let sized : IsSized d = subst IsSized (c.sets.ensures ∙ sets) c.data_sets_law.ensures.sized in
+    let error = Some c.args.error in
     omega (
       arith,
-      ap (λ (r : ReplyValue). length r.answers) c.refusal-reply.ensures,
-      reply_few c.change.inside.request (Some c.args.error) d sized,
+      refused_count q c.args.error d,
+      ap (λ (x : RequestValue). length (reply_of x error d).answers) c.request_of-request.ensures,
+      ap (λ (e : DataSetsValue). length (reply_of (request_of c.args.message.now) error e).answers) c.sets-2.ensures,
+      ap (λ (xs : List (ℕ × List ℕ)). length xs) c.requires.empty,
+      ap (λ r. length (g.O.Outgoing.sent r.now)) c.address.ensures.place,
+      ap (λ o. length (g.O.Outgoing.sent o)) c.new-sender.ensures.held,
+      ap (λ r. g.O.Outgoing.most r.now) c.address.ensures.place,
+      ap g.O.Outgoing.most c.new-sender.ensures.held,
+      c.requires.room,
+    )
+
+pub keep_sent-requires-clause-known : goal.keep_sent-requires-clause-known
+keep_sent-requires-clause-known g c = grind (arith, new_parts)
+
+pub keep_sent-requires-clause-action : goal.keep_sent-requires-clause-action
+keep_sent-requires-clause-action g c = grind (arith, new_parts)
+
+pub keep_sent-requires-clause-sent : goal.keep_sent-requires-clause-sent
+keep_sent-requires-clause-sent g c =
+    let clock = g.T.ReplyTable.owner c.args.agent.now.table in
+    let q = c.request_of-request.result in
+    let heard = c.heard_of-heard.result in
+    let d = c.sets-2.result.now in
+    let reply = reply_of q (Some c.args.error) d in
+    let own : c.clock.result ≡ clock.identity = c.clock.ensures ∙ ap (λ t. (g.T.ReplyTable.owner t).identity) c.table.ensures in
+    let made : IsSenderOf g.O.Outgoing.sent c.address.new.self clock.identity heard (reply_action q.action) q.id c.args.ingress [] =
+    sender_as_made g.O.Outgoing.sent c.address.new.self clock.identity c.clock.result heard _ _ _ [] _ (ap (λ r. g.O.Outgoing.sent r.now) c.address.ensures.place ∙ ap g.O.Outgoing.sent c.new-sender.ensures.held)
+    c.requires.empty c.address.ensures.ingress c.address.ensures.id c.address.ensures.envelope c.address.ensures.fits own in
+    let has = refused_sent g.O.Outgoing.sent g.O.Outgoing.grown q c.args.error d c.address.new.self c.read_into.new.answers.sender _ c.read_into.ensures in
+    let sets : c.args.agent.now.sets ≡ d = sym c.sets-2.ensures in
+    let sized : IsSized d = subst IsSized (c.sets.ensures ∙ sets) c.data_sets_law.ensures.sized in
+    let named : names_port (length d.ports) c.args.message.now.target.port ≡ true =
+    subst (λ (e : DataSetsValue). names_port (length e.ports) c.args.message.now.target.port ≡ true) sets (new_parts _ _ _ c.requires.new).port in
+    let fits = refusal_fits q c.args.error d reply (may_judge_port q d c.args.message.now c.request_of-request.ensures named) sized refl in
+    let sent = sent_reply g.O.Outgoing.sent g.O.Outgoing.grown q c.address.new.self c.read_into.new.answers.sender clock.identity heard reply c.args.ingress c.of_port-of_port.result _
+    made fits has c.of_port-of_port.ensures (search rules) in
+    (reply, sent)
+
+pub keep_sent-requires-clause-few : goal.keep_sent-requires-clause-few
+keep_sent-requires-clause-few g c =
+    let clock = g.T.ReplyTable.owner c.args.agent.now.table in
+    let q = c.request_of-request.result in
+    let heard = c.heard_of-heard.result in
+    let d = c.sets-2.result.now in
+    let reply = reply_of q (Some c.args.error) d in
+    let own : c.clock.result ≡ clock.identity = c.clock.ensures ∙ ap (λ t. (g.T.ReplyTable.owner t).identity) c.table.ensures in
+    let made : IsSenderOf g.O.Outgoing.sent c.address.new.self clock.identity heard (reply_action q.action) q.id c.args.ingress [] =
+    sender_as_made g.O.Outgoing.sent c.address.new.self clock.identity c.clock.result heard _ _ _ [] _ (ap (λ r. g.O.Outgoing.sent r.now) c.address.ensures.place ∙ ap g.O.Outgoing.sent c.new-sender.ensures.held)
+    c.requires.empty c.address.ensures.ingress c.address.ensures.id c.address.ensures.envelope c.address.ensures.fits own in
+    let has = refused_sent g.O.Outgoing.sent g.O.Outgoing.grown q c.args.error d c.address.new.self c.read_into.new.answers.sender _ c.read_into.ensures in
+    let sets : c.args.agent.now.sets ≡ d = sym c.sets-2.ensures in
+    let sized : IsSized d = subst IsSized (c.sets.ensures ∙ sets) c.data_sets_law.ensures.sized in
+    let sent : g.O.Outgoing.sent c.read_into.new.answers.sender.out.now ≡ rendered clock.identity heard reply c.args.ingress =
+    sent_rendered g.O.Outgoing.sent g.O.Outgoing.grown c.address.new.self c.read_into.new.answers.sender clock.identity heard reply (reply_action q.action) q.id c.args.ingress []
+    (refusal_parts q c.args.error d) made has in
+    let count : length (g.O.Outgoing.sent c.read_into.new.answers.sender.out.now) ≤ g.T.ReplyTable.most c.args.agent.now.table =
+    omega (
+      arith,
+      ap (λ (xs : List (ℕ × List ℕ)). length xs) sent,
+      rendered_count clock.identity heard reply c.args.ingress,
+      reply_few q (Some c.args.error) d sized,
       ap (λ (e : DataSetsValue). length e.ports) sets,
       c.args.agent.now.room,
-    )
+    ) in
+    search (rules, count)
+
+pub returns-clause-kept : goal.returns-clause-kept
+returns-clause-kept g c =
+    let clock = g.T.ReplyTable.owner c.args.agent.now.table in
+    let q = c.request_of-request.result in
+    let heard = c.heard_of-heard.result in
+    let d = c.sets-2.result.now in
+    let reply = reply_of q (Some c.args.error) d in
+    let own : c.clock.result ≡ clock.identity = c.clock.ensures ∙ ap (λ t. (g.T.ReplyTable.owner t).identity) c.table.ensures in
+    let made : IsSenderOf g.O.Outgoing.sent c.address.new.self clock.identity heard (reply_action q.action) q.id c.args.ingress [] =
+    sender_as_made g.O.Outgoing.sent c.address.new.self clock.identity c.clock.result heard _ _ _ [] _ (ap (λ r. g.O.Outgoing.sent r.now) c.address.ensures.place ∙ ap g.O.Outgoing.sent c.new-sender.ensures.held)
+    c.requires.empty c.address.ensures.ingress c.address.ensures.id c.address.ensures.envelope c.address.ensures.fits own in
+    let has = refused_sent g.O.Outgoing.sent g.O.Outgoing.grown q c.args.error d c.address.new.self c.read_into.new.answers.sender _ c.read_into.ensures in
+    let sets : c.args.agent.now.sets ≡ d = sym c.sets-2.ensures in
+    let sized : IsSized d = subst IsSized (c.sets.ensures ∙ sets) c.data_sets_law.ensures.sized in
+    let named : names_port (length d.ports) c.args.message.now.target.port ≡ true =
+    subst (λ (e : DataSetsValue). names_port (length e.ports) c.args.message.now.target.port ≡ true) sets (new_parts _ _ _ c.requires.new).port in
+    let fits = refusal_fits q c.args.error d reply (may_judge_port q d c.args.message.now c.request_of-request.ensures named) sized refl in
+    let sent = sent_reply g.O.Outgoing.sent g.O.Outgoing.grown q c.address.new.self c.read_into.new.answers.sender clock.identity heard reply c.args.ingress c.of_port-of_port.result _
+    made fits has c.of_port-of_port.ensures (search rules) in
+    let entries = g.T.ReplyTable.entries c.args.agent.now.table in
+    λ i. record {
+      sets = c.keep_sent.ensures.sets i;
+      entries = (c.keep_sent.ensures.entries reply sent ∙ (λ j. insert entries (c.heard_of-heard.ensures j).source (record {
+        number = (c.heard_of-heard.ensures j).number;
+        request = c.request_of-request.ensures j;
+        reply = reply_of (c.request_of-request.ensures j) (Some c.args.error) (c.sets-2.ensures j);
+      }))) i;
+    }
+
+pub returns-clause-sent : goal.returns-clause-sent
+returns-clause-sent g c =
+    let clock = g.T.ReplyTable.owner c.args.agent.now.table in
+    let q = c.request_of-request.result in
+    let heard = c.heard_of-heard.result in
+    let d = c.sets-2.result.now in
+    let reply = reply_of q (Some c.args.error) d in
+    let own : c.clock.result ≡ clock.identity = c.clock.ensures ∙ ap (λ t. (g.T.ReplyTable.owner t).identity) c.table.ensures in
+    let made : IsSenderOf g.O.Outgoing.sent c.address.new.self clock.identity heard (reply_action q.action) q.id c.args.ingress [] =
+    sender_as_made g.O.Outgoing.sent c.address.new.self clock.identity c.clock.result heard _ _ _ [] _ (ap (λ r. g.O.Outgoing.sent r.now) c.address.ensures.place ∙ ap g.O.Outgoing.sent c.new-sender.ensures.held)
+    c.requires.empty c.address.ensures.ingress c.address.ensures.id c.address.ensures.envelope c.address.ensures.fits own in
+    let has = refused_sent g.O.Outgoing.sent g.O.Outgoing.grown q c.args.error d c.address.new.self c.read_into.new.answers.sender _ c.read_into.ensures in
+    let sent : g.O.Outgoing.sent c.read_into.new.answers.sender.out.now ≡ rendered clock.identity heard reply c.args.ingress =
+    sent_rendered g.O.Outgoing.sent g.O.Outgoing.grown c.address.new.self c.read_into.new.answers.sender clock.identity heard reply (reply_action q.action) q.id c.args.ingress []
+    (refusal_parts q c.args.error d) made has in
+    let all : g.O.Outgoing.sent c.read_into.new.answers.sender.out.now
+    ≡ rendered clock.identity (heard_of c.args.message.now) (reply_of (request_of c.args.message.now) (Some c.args.error) c.args.agent.now.sets) c.args.ingress =
+    sent ∙ (λ i. rendered clock.identity (c.heard_of-heard.ensures i) (reply_of (c.request_of-request.ensures i) (Some c.args.error) (c.sets-2.ensures i)) c.args.ingress) in
+    search (rules, all)
