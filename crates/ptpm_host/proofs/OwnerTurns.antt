@@ -25,7 +25,7 @@ owned_fits k s t port datagram room places is sized has enough same =
 
 pub owner_turned_is : (c k : Clock) (s t next after : State) (port : ℕ) (datagram : List ℕ) (v : Message) (w verdict : Verdict) (out : List (ℕ × List ℕ))
     → message_of datagram ≡ Some v
-    → k ≡ owner_clock s.sets v.source
+    → k ≡ owner_clock c.identity v.source
     → t ≡ record { sets = s.sets; entries = empty }
     → IsTurned (turn k t port datagram) w out next
     → verdict ≡ owner_verdict v w
@@ -34,8 +34,8 @@ pub owner_turned_is : (c k : Clock) (s t next after : State) (port : ℕ) (datag
     → IsTurned (owner_turn c s port datagram) verdict out after
 unfolding owner_turn
 owner_turned_is c k s t next after port datagram v w verdict out read own begun turned is sets entries =
-    let here : IsTurned (turn (owner_clock s.sets v.source) (record { sets = s.sets; entries = empty }) port datagram) w out next =
-    subst (λ (u : State). IsTurned (turn (owner_clock s.sets v.source) u port datagram) w out next) begun
+    let here : IsTurned (turn (owner_clock c.identity v.source) (record { sets = s.sets; entries = empty }) port datagram) w out next =
+    subst (λ (u : State). IsTurned (turn (owner_clock c.identity v.source) u port datagram) w out next) begun
     (subst (λ (e : Clock). IsTurned (turn e t port datagram) w out next) own turned) in
     subst (λ (o : Option Message). IsTurned (owner_by c s port datagram o) verdict out after) (sym read) (record {
       verdict_is = is ∙ ap (owner_verdict v) here.verdict_is;

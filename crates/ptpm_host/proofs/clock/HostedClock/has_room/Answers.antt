@@ -1,6 +1,8 @@
 use Rattle.std.proofs.Common.{arith}
 use Rattle.std.proofs.lemmas.Bool.Decides.{nat_tests}
+use Rattle.ptpm_host.specs.Clock.{state_in}
+use Rattle.ptpm_host.proofs.MostSent.{most_few}
 use Rattle.ptpm_host.proofs.clock.HostedClock.has_room.Goals as goal
 
-pub returns-then-places-ge-MOST_SENT : goal.returns-then-places-ge-MOST_SENT
-returns-then-places-ge-MOST_SENT c = grind (arith, nat_tests)
+pub returns : goal.returns
+returns c = ?
