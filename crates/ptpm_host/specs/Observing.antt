@@ -81,7 +81,7 @@ pub record IsObserved (o : ObservedClock) (ports : List ObservedPort) (before af
 
 -- ---- the ports that stayed disabled as a number: 1 for port 1, 2 for port 2, 4 for port 3, and so on, summed up
 
--- so many ports from this one on, with 1 for the first
+-- this number of ports from one on, with 1 for the first
 abbrev pub left_from : ℕ → ℕ → List Bool → ℕ
 left_from port zero left = 0
 left_from port (suc n) left = from_bool (is_left port left) + 2 * left_from (port + 1) n left

@@ -28,9 +28,9 @@ use ptpm_data::{DataSets, ObservationError, PortsLeftDisabled};
 use ptpm_table::{HeapTable, Outgoing, ReplyTable};
 use std::alloc::Global;
 
-/// A clock. From its start or its restore on it has a block of memory with a slot of 2,144 octets for each of its managers. A clock of
-/// more than `ptpm_data::INLINE_PORTS` ports has one of 16 octets for each port besides, and for each manager two of 81 octets for each
-/// port. What it sends is written right into places of its host.
+/// A clock. From its start or its restore on it has a block of memory with a slot of 2,144 octets for each of its managers. With more
+/// than `ptpm_data::INLINE_PORTS` ports it has more blocks: one for its ports, and two for each manager. What it sends is written right
+/// into places of its host.
 #[derive(Drop)]
 pub struct HostedClock {
     pub(crate) agent: Agent<HeapTable>,

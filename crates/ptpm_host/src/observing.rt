@@ -183,7 +183,7 @@ pub fn left_number(left: &PortsLeftDisabled) -> u64
     left_from(left, 1, PORTS)
 }
 
-/// So many ports from this one on, with 1 for the first.
+/// This number of ports from one on, with 1 for the first.
 #[tactic(auto, using(crate::proofs::LeftNumbers::twice_fits))]
 fn left_from(left: &PortsLeftDisabled, port: u16, count: usize) -> u64
     requires ports { port + count ≤ PORTS + 1 }
