@@ -72,8 +72,8 @@ pub record IsChangedHere (q : RequestValue) (before after : HostedClock) : Type 
 abbrev pub owner_clock : ClockIdentity → PortIdentity → Clock
 owner_clock me owner = clock_with me ((owner, all_rights) ∷ [])
 
--- The verdict on a message of the owner, by whether it is in the clock's domain, from the clock itself, addressed to it, a request, and
--- for exactly this clock. It is never a repeat, since nothing of it is kept.
+-- The verdict on a message of the owner: in the clock's domain, from the clock itself, addressed to it, a request, for it
+-- alone. It is never a repeat, since nothing of it is kept.
 abbrev pub owned_at : Bool → Bool → Bool → Bool → Bool → Verdict
 owned_at domain own addressed request here =
     if not domain then verdicts.OtherDomain

@@ -34,6 +34,7 @@ impl HostedClock {
     /// Whether this many places are enough for what the clock sends for a datagram, or after a save. No entry is looked at if they are
     /// enough for as many answers as the table keeps.
     #[inline(always)]
+    #[tactic(auto, using(crate::proofs::MostSent::most_few, std::proofs::lemmas::Bool::Decides::nat_tests))]
     pub(crate) fn has_room(&self, places: usize) -> bool
         ensures { result ≡ nat_le (most_sent (state_in self.now)) places }
     {
