@@ -20,7 +20,7 @@ static const uint8_t identity[8] = { 0xaa, 0xbb, 0xcc, 0xff, 0xfe, 0xdd, 0xee, 0
 static const struct ptpm_manager_settings manager = {
     { 0x02, 0x00, 0x00, 0xff, 0xfe, 0x00, 0x00, 0x10 }, 1, PTPM_CLOCK_SET | PTPM_PORT_SET | PTPM_PORT_COMMAND
 };
-static __attribute__((aligned(16))) unsigned char block[PTPM_CLOCK_MEMORY_OF(1)];
+static __attribute__((aligned(16))) unsigned char block[PTPM_CLOCK_MEMORY_OF(PORTS, 1)];
 static struct ptpm_clock device;                /* all zeros: no clock is held yet */
 static struct ptpm_sent sent[PLACES];
 static struct ptpm_passed_on passed_on;         /* what was forwarded last */

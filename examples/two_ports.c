@@ -109,7 +109,7 @@ static void come_in(uint16_t port) {
 static void observe(void) {
     struct ptpm_observed_clock observed;
     struct ptpm_observed_port ports[PORTS];
-    uint8_t left;
+    uint64_t left;
     memset(&observed, 0, sizeof observed);
     memset(ports, 0, sizeof ports);
     observe_device(&observed, ports);

@@ -1,7 +1,8 @@
 /* The memory of libptpm_memory.a: what dist/c/heap.c asks of malloc, realloc and free, from one block that the host gives. The
    block consists of adjacent pieces; each begins with its size and that of the piece below it. Two free pieces are never adjacent. A
    clock has two pieces: its managers' slots, and then itself. They are taken from the lowest place that has room, and all others from
-   the highest. So what lies between clocks is room for clocks, and a clock that was stopped can be started again. */
+   the highest. So what lies between clocks is room for clocks, and a clock that was stopped can be started again. One of over eight
+   ports has further pieces, of its ports and of what it keeps of them for each manager. These are among the others. */
 #include "ptpm_memory.h"
 #include <stdint.h>
 #if __STDC_HOSTED__
@@ -12,7 +13,7 @@
 
 /* A piece lies at a multiple of UNIT, and its size is one. Its two words take UNIT octets on every machine. A clock takes CLOCK
    octets for itself and SLOT for each manager. */
-enum { UNIT = 16, CLOCK = 664, SLOT = 2136 };
+enum { UNIT = 16, CLOCK = 600, SLOT = 2144 };
 
 struct piece {
     size_t size;                /* with these two words; odd if the piece is taken */

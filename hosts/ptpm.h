@@ -26,7 +26,8 @@
      realloc, free, memcpy, memmove and memset. No call calls itself.
 
    A call that only reads takes a const handle, and leaves it as it is. If several errors apply, the first is returned. Only
-   ptpm_clock_start may return PTPM_NO_MEMORY in its place. Every other call asks for memory only if no other error applies. */
+   ptpm_clock_start, and ptpm_clock_restore of a clock of over eight ports, may return PTPM_NO_MEMORY in its place. Every other call asks
+   for memory only if no other error applies. */
 #ifndef PTPM_H
 #define PTPM_H
 
@@ -64,8 +65,11 @@ enum {
 #define PTPM_TO_EIGHT uint32_t rest; PTPM_AT_EIGHT
 #endif
 
-/* A clock: 2,800 octets at one pointer with one manager, and 34,840 with sixteen. All zeros hold no clock: struct ptpm_clock
-   clock = { 0 }; */
+/* The most ports that a clock has, and the most managers. */
+enum { PTPM_MOST_PORTS = 64, PTPM_MOST_MANAGERS = 64 };
+
+/* A clock: up to eight ports are 2,744 octets at one pointer with one manager, and 34,904 with sixteen (ptpm_clock_start). All zeros
+   hold no clock: struct ptpm_clock clock = { 0 }; */
 struct ptpm_clock { void *at; PTPM_TO_EIGHT bool live; bool restored; };
 
 /* The start values of a clock's own members: ptpm_clock_defaults writes them all, then the host writes its own over them.
@@ -219,7 +223,7 @@ struct ptpm_sent {
 /* Which members have another value after a datagram than before it: of the clock, and of port 1, port 2 and so on. */
 struct ptpm_changed {
     uint32_t clock;                     /* PTPM_CHANGED_IDENTITY to PTPM_CHANGED_TIME_SOURCE, summed up */
-    uint8_t ports[8];                   /* PTPM_CHANGED_PORT_STATE to PTPM_CHANGED_PORT_LOG_MIN_PDELAY, summed up */
+    uint8_t ports[64];                  /* PTPM_CHANGED_PORT_STATE to PTPM_CHANGED_PORT_LOG_MIN_PDELAY, summed up */
 };
 
 /* Members of a clock, in the order of PTPM_BAD_IDENTITY to PTPM_BAD_TIME_SOURCE. */
@@ -520,8 +524,8 @@ PTPM_HAS_SIZE(ptpm_observed_clock, 88);
 PTPM_HAS_SIZE(ptpm_observed_port, 16);
 PTPM_HAS_SIZE(ptpm_manager_settings, 12);
 PTPM_HAS_SIZE(ptpm_sent, 1476);
-PTPM_HAS_SIZE(ptpm_changed, 12);
-PTPM_HAS_SIZE(ptpm_taken, 32);
+PTPM_HAS_SIZE(ptpm_changed, 68);
+PTPM_HAS_SIZE(ptpm_taken, 88);
 PTPM_HAS_SIZE(ptpm_question, 150);
 PTPM_HAS_SIZE(ptpm_say, 1424);
 PTPM_HAS_SIZE(ptpm_limit, 36);
@@ -542,13 +546,16 @@ PTPM_HAS_SIZE(ptpm_rollout_event, 16);
 PTPM_HAS_SIZE(ptpm_rollout_action, 12);
 #undef PTPM_HAS_SIZE
 
-/* The most messages that a clock sends for a datagram. The most octets of a dataField of its own. The most octets of a message, its
-   dataField included. The most octets of a session's image, and of a clock's. */
+/* The most messages that a clock of up to eight ports sends for a datagram. The most octets of a dataField of its own. The most octets
+   of a message, its dataField included. The most octets of a session's image, and of that of a clock of up to eight ports and sixteen
+   managers. */
 enum { PTPM_MOST_SENT = 15, PTPM_MOST_READ = 130, PTPM_MOST_OCTETS = 1472, PTPM_SESSION_IMAGE_OCTETS = 1478 };
 enum { PTPM_CLOCK_IMAGE_OCTETS = 27385 };
 
-/* The most octets of the image of a clock with this number of ports, and this of managers. */
-#define PTPM_CLOCK_IMAGE_BOUND(ports, managers) (417 + 15 * (ports) + 1678 * (managers))
+/* The most messages that a clock with this number of ports sends for a datagram. The most octets of the image of a clock with this
+   number of ports, and this of managers. */
+#define PTPM_MOST_SENT_OF(ports) (2 * (ports) - 1)
+#define PTPM_CLOCK_IMAGE_BOUND(ports, managers) (417 + 15 * (ports) + (managers) * (1438 + 30 * ((ports) > 8 ? (ports) : 8)))
 
 /* The most octets of a record of a journal. */
 enum { PTPM_RECORD_OCTETS = 8221 };
@@ -607,7 +614,7 @@ enum { PTPM_MOST_ANSWERS = 16384, PTPM_SURVEY_PORT = 65534 };
 #define PTPM_NO_ROLLOUT 130             /* the handle holds none */
 #define PTPM_OTHER_SIZES 47             /* a struct of the caller has a different size than the library's */
 #define PTPM_GRANDMASTER_DIFFERS 50     /* a clock is its own grandmaster, with another priority or quality */
-#define PTPM_TOO_MANY_MANAGERS 51       /* over sixteen */
+#define PTPM_TOO_MANY_MANAGERS 51       /* over PTPM_MOST_MANAGERS */
 #define PTPM_MANAGER_TWICE 52           /* or `nobody` of an asker is its manager's port */
 #define PTPM_IDENTITY_IS_ZERO 56        /* the clock's identity is all zeros */
 #define PTPM_UNSAVED 118                /* a clock was changed and not saved, and this comes only after a save */
@@ -635,7 +642,7 @@ __extension__ enum PTPM_FOUR_OCTETS(ptpm_started) {
     PTPM_START_NO_MEMORY = PTPM_NO_MEMORY,
     PTPM_START_OTHER_SIZES = PTPM_OTHER_SIZES,
     PTPM_NO_PORTS = 48,
-    PTPM_TOO_MANY_PORTS = 49,           /* of a clock over eight, of a session over 255 */
+    PTPM_TOO_MANY_PORTS = 49,           /* of a clock over PTPM_MOST_PORTS, of a session over 255 */
     PTPM_START_GRANDMASTER_DIFFERS = PTPM_GRANDMASTER_DIFFERS,
     PTPM_START_TOO_MANY_MANAGERS = PTPM_TOO_MANY_MANAGERS,
     PTPM_START_MANAGER_TWICE = PTPM_MANAGER_TWICE,
@@ -846,6 +853,7 @@ __extension__ enum PTPM_FOUR_OCTETS(ptpm_saved) {
     PTPM_ACT_NOW = 31,                  /* ptpm_clock_saved: saved, and now the device is asked for what is under way */
     PTPM_SAVE_NO_CLOCK = PTPM_NO_CLOCK,
     PTPM_SAVE_NO_ROOM = PTPM_NO_ROOM,   /* for fewer octets than the image has, or than both have with its seal */
+    PTPM_SAVE_NO_MEMORY = PTPM_NO_MEMORY, /* ptpm_clock_image_of, of a clock of over eight ports */
     PTPM_SAVE_NO_SESSION = PTPM_NO_SESSION,
     PTPM_OTHER_IMAGE = 119              /* not the latest image, or it counted already */
 };
@@ -1005,10 +1013,11 @@ void ptpm_clock_defaults(struct ptpm_clock_settings *settings);
 void ptpm_port_defaults(struct ptpm_port_settings *settings);
 
 /* Starts a clock instead of what the handle holds, which is freed first.
-   Takes:   one to eight ports, and at most sixteen managers. Eight is the library's limit, and no setting (docs/embedding.md, "Eight
-            ports"). The first port is port 1. All port_count settings are read, even if they are too many.
+   Takes:   1 to PTPM_MOST_PORTS ports, and 0 to PTPM_MOST_MANAGERS managers. The first port is port 1. All port_count settings are
+            read, even if they are too many.
    Returns: PTPM_STARTED; or why not, and then the handle holds nothing.
-   Memory:  the clock, 664 octets and 2,136 for each manager, until it is stopped, and a copy of the ports until the call returns.
+   Memory:  the clock, until it is stopped: 600 octets, and 2,144 for each manager. A clock of over eight ports takes 16 more for each
+            port, and 81 for each port of each manager. And a copy of the ports until the call returns.
    Caller:  stops the clock. */
 enum ptpm_started ptpm_clock_start(struct ptpm_clock *clock, const struct ptpm_clock_settings *settings,
                                    const struct ptpm_port_settings *ports, size_t port_count,
@@ -1130,10 +1139,10 @@ enum ptpm_set_here ptpm_clock_set(struct ptpm_clock *clock, uint8_t action, uint
    Takes:   port_count places, from port 1 on: as many as the clock has ports, or fewer, or none.
    Returns: PTPM_OBSERVED; or why not, and then nothing changes.
    Writes:  *left: the disabled ports at which a state was observed, and which stay disabled. 1 is port 1, 2 is port 2, 4 is
-            port 3, and so on, summed up; 0 if the call is refused.
+            port 3, and so on, summed up: bit n is port n + 1. It is 0 if the call is refused.
    Caller:  stops these ports. */
 enum ptpm_observed ptpm_clock_observe(struct ptpm_clock *clock, const struct ptpm_observed_clock *observed,
-                                      const struct ptpm_observed_port *ports, size_t port_count, uint8_t *left);
+                                      const struct ptpm_observed_port *ports, size_t port_count, uint64_t *left);
 
 /* Reads the answer that a GET of a managementId would get. At a clock that saves (ptpm_clock_saving) that is what a stranger is
    shown: nothing that is unsaved, except what was observed.
@@ -1147,8 +1156,7 @@ enum ptpm_read ptpm_clock_read(const struct ptpm_clock *clock, uint16_t id, uint
 /* Makes the clock's image: what a host saves before it sends the messages of an answer PTPM_ANSWERED_NEW. From it the clock
    continues after a restart. It has the clock's data sets, the latest request of each manager and the reply to it. It has the change
    that is under way (ptpm_clock_undertake). The managers and what each of them may change are not in it.
-   Takes:   room octets; PTPM_CLOCK_IMAGE_OCTETS are enough for every clock, and PTPM_CLOCK_IMAGE_BOUND for one whose ports and
-            managers are known.
+   Takes:   room octets; PTPM_CLOCK_IMAGE_BOUND of its ports and managers are enough.
    Returns: PTPM_SAVED, or why not.
    Writes:  *size, and that number of octets from octets on: the image. If the call is refused, *size is 0 and no octet is written. */
 enum ptpm_saved ptpm_clock_image(const struct ptpm_clock *clock, uint8_t *octets, size_t room, size_t *size);
@@ -1179,13 +1187,14 @@ size_t ptpm_clock_transit(const struct ptpm_clock *clock, uint16_t port, const u
    Takes:   how many messages may wait, ptpm_clock_most_sent or more: one for a clock of one port.
    Returns: PTPM_SAVING; or PTPM_NO_CLOCK, PTPM_NO_ROOM for fewer places, or PTPM_NO_MEMORY, and then nothing changes. If the clock
             saves already, the answer is PTPM_SAVING, and nothing changes.
-   Memory:  some 900 octets and 1,476 for each place, until the clock is stopped.
+   Memory:  some 900 octets and 1,476 for each place, until the clock is stopped; over eight ports 32 more for each port.
    Caller:  saves the clock whenever it is unsaved (ptpm_clock_unsaved), and at once if it was not restored. */
 enum ptpm_handled ptpm_clock_saving(struct ptpm_clock *clock, size_t places);
 
 /* Like ptpm_clock_image, of a clock that saves. An earlier image can't be confirmed any more.
    Takes:   what ptpm_clock_image takes.
-   Returns: what ptpm_clock_image returns; PTPM_NO_CLOCK also for a clock that does not save.
+   Returns: what ptpm_clock_image returns; PTPM_NO_CLOCK also for a clock that does not save; PTPM_NO_MEMORY only over eight ports.
+   Memory:  over eight ports a copy of them, 16 octets for each, and as much again until the call returns.
    Writes:  what ptpm_clock_image writes, and *token: how many images were made since ptpm_clock_saving. It is 0 if the call is
             refused.
    Caller:  stores the image, and calls ptpm_clock_saved with the token once a restart would find it, whatever happens to the
@@ -1217,7 +1226,7 @@ size_t ptpm_clock_free(const struct ptpm_clock *clock);
 uint32_t ptpm_clock_unsaved(const struct ptpm_clock *clock);
 
 /* Puts the clock of an image in the handle, instead of what it holds, which is then freed.
-   Takes:   the identity and the number of ports that the clock of the image must have; at most sixteen managers; and size octets.
+   Takes:   the identity and the number of ports that the clock of the image must have; its managers, as for a start; and size octets.
             Managers and what each of them may change are those that are given. All else comes from the image. A manager that is
             given and has no request in the image begins afresh.
    Returns: PTPM_RESTORED; or why not, and then the handle holds what it held. The first of these that holds: PTPM_TOO_MANY_MANAGERS,
@@ -1227,16 +1236,17 @@ uint32_t ptpm_clock_unsaved(const struct ptpm_clock *clock);
             out before.
    Writes:  *gone: the number of requests of the image whose managers are not among those that are given. They are forgotten. If
             the call is refused it is 0.
-   Memory:  the clock, until it is stopped, as much as for a start.
+   Memory:  the clock, until it is stopped, as much as for a start. Over eight ports also 144 octets for each port until the call
+            returns. PTPM_NO_MEMORY then comes before what is refused after PTPM_OTHER_KIND.
    Caller:  stops the clock. */
 enum ptpm_restored ptpm_clock_restore(struct ptpm_clock *clock, const uint8_t identity[8], size_t port_count,
                                       const struct ptpm_manager_settings *managers, size_t manager_count,
                                       const uint8_t *image, size_t size, size_t *gone);
 
-/* Returns the most messages that one datagram makes at this clock. A queue of the host has to be that long. It is 2 * port_count - 1:
-   a copy for each other port, and an answer of each port. If a kept reply has more answers, it is their number. Only an image that
-   another program has made can bring such a reply.
-   Returns: the number, at most PTPM_MOST_SENT; 0 if the handle holds no clock. */
+/* Returns the most messages that one datagram makes at this clock. A queue of the host has to be that long. It is PTPM_MOST_SENT_OF its
+   ports: a copy for each other port, and an answer of each port. If a kept reply has more answers, it is their number, eight at most.
+   Only an image that another program has made can bring such a reply.
+   Returns: the number; 0 if the handle holds no clock. */
 size_t ptpm_clock_most_sent(const struct ptpm_clock *clock);
 
 /* Ends what the handle holds, if it holds anything. The handle then holds nothing, and may be started again. NULL is allowed, as for

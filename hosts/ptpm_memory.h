@@ -4,10 +4,10 @@
    as ptpm.h says.
 
    Only one thread at a time may be in a call that allocates or frees memory, even if the handles differ. The library has no lock.
-   These calls are the starts, the restores, the stops, and the three below. Of a clock it is ptpm_clock_saving. Of a session they are
-   ptpm_session_begin, ptpm_session_begin_at, ptpm_session_give_up and ptpm_session_receive. Of a survey it is ptpm_survey_receive, and
-   of an asker each call that hands something out. All others allocate none, and may run in parallel with handles of their own,
-   including ptpm_clock_handle. */
+   These calls are the starts, the restores, the stops, and the three below. Of a clock it is ptpm_clock_saving, and over eight ports
+   ptpm_clock_image_of. Of a session they are ptpm_session_begin, ptpm_session_begin_at, ptpm_session_give_up and ptpm_session_receive.
+   Of a survey it is ptpm_survey_receive, and of an asker each call that hands something out. All others allocate none, and may run in
+   parallel with handles of their own, including ptpm_clock_handle. */
 #ifndef PTPM_MEMORY_H
 #define PTPM_MEMORY_H
 
@@ -18,14 +18,22 @@
 extern "C" {
 #endif
 
-/* What a clock takes that has this many managers, 0 to 16, and any ports, from its start or its restore on. PTPM_CLOCK_MEMORY is
-   enough for any clock. A block that holds only clocks needs no more than the sum, if all have the same number of managers. They
+/* What a clock takes that has this many ports, 1 to 64, and managers, 0 to 64, from its start or its restore on. Up to eight ports take
+   what one takes. PTPM_CLOCK_MEMORY is enough for any clock of up to eight ports and sixteen managers. A block that holds only clocks
+   needs no more than the sum, if all have the same number of managers. Those of over eight ports have the same number of ports too. They
    may start and stop in any order. A restore in a live handle has both clocks for a moment. */
-#define PTPM_CLOCK_MEMORY_OF(managers) ((size_t)720 + ((managers) > 0 ? ((size_t)(managers) * 2136 + 31) / 16 * 16 : 0))
-#define PTPM_CLOCK_MEMORY 34912
+#define PTPM_CLOCK_MEMORY_OF(ports, managers) \
+    ((size_t)656 + ((managers) > 0 ? PTPM_PIECE((size_t)(managers) * 2144) : 0) \
+     + ((ports) > 8 ? PTPM_OF_MANY_PORTS((size_t)(ports), (size_t)(managers)) : 0))
+#define PTPM_OF_MANY_PORTS(ports, managers) \
+    (PTPM_PIECE(16 * (ports)) + PTPM_PIECE(144 * (ports)) + (managers) * (PTPM_PIECE(ports) + PTPM_PIECE(80 * (ports))))
+#define PTPM_PIECE(octets) (((octets) + 31) / 16 * 16)
+#define PTPM_CLOCK_MEMORY 34976
 
-/* What a clock takes besides once it is saved while it takes datagrams (ptpm_clock_saving), with places for this many messages. */
-#define PTPM_SAVING_MEMORY(places) ((size_t)1024 + ((size_t)(places) * 1476 + 31) / 16 * 16)
+/* What a clock of this many ports takes besides once it is saved while it takes datagrams (ptpm_clock_saving), with places for this
+   many messages. */
+#define PTPM_SAVING_MEMORY_OF(ports, places) \
+    ((size_t)1024 + PTPM_PIECE((size_t)(places) * 1476) + ((ports) > 8 ? 5 * PTPM_PIECE(16 * (size_t)(ports)) : 0))
 
 /* The most that a session takes, whatever its requests and their answers are. A restore in a live handle has both sessions for a
    moment. */

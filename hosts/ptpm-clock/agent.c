@@ -94,7 +94,7 @@ static const char *state_of(size_t port) {
 
 /* Says the clock's identity and its interfaces, once it is heard. */
 void say_started(void) {
-    char identity[IDENTITY_TEXT], text[2048];
+    char identity[IDENTITY_TEXT], text[LINE];
     write_identity(identity, options->settings.identity);
     size_t size = (size_t)snprintf(text, sizeof text, "%s in domain %u:", identity, domain());
     for (size_t i = 0; i < ports_of(options); i++) {
@@ -157,7 +157,7 @@ static void print_turn(const struct heard *heard, enum ptpm_handled answer, cons
 /* Sends what the clock made of a datagram, or has it wait for a save. How many messages were not taken. */
 static unsigned long hand_on(const struct heard *heard, enum ptpm_handled answer, struct ptpm_sent *places,
                              const struct ptpm_taken *taken) {
-    const struct ptpm_sent *kept[PTPM_MOST_SENT];
+    const struct ptpm_sent *kept[TURN];
     unsigned long lost = 0;
     bool is_of_port = handed_in_at(heard) != ingress_of(heard);
     for (size_t i = 0; is_of_port && i < taken->count; i++) places[i].port = ingress_of(heard);
@@ -191,13 +191,13 @@ static unsigned long take_turn(struct heard *heard, const struct ptpm_say *say) 
     if (has_values && say == NULL) say = value_to_give(&clock_held, heard);
     if (has_ptp4l && say == NULL) say = learned_to_give(&clock_held, heard);
     enum ptpm_handled answer = ptpm_clock_take(&clock_held, handed_in_at(heard), heard->octets, heard->size, say != NULL ? say : &nothing,
-                                               is_judged_as_owner(heard, say), places, PTPM_MOST_SENT, &taken);
+                                               is_judged_as_owner(heard, say), places, TURN, &taken);
     if (answer == PTPM_HANDLE_UNSAVED || answer == PTPM_HANDLE_UNDER_WAY) {
         count_manager_dropped();
         return 0;
     }
     if (options->limits.is_passed_on_unread && taken.count == 0) {
-        taken.count = ptpm_clock_transit(&clock_held, ingress_of(heard), heard->octets, heard->size, places, PTPM_MOST_SENT);
+        taken.count = ptpm_clock_transit(&clock_held, ingress_of(heard), heard->octets, heard->size, places, TURN);
     }
     if (say != NULL && say->kind == PTPM_GIVES) taken.count = answer_from_ports(&clock_held, heard, places, (size_t)taken.count);
     else if (say != NULL) tell_not_made(answer);
@@ -209,7 +209,7 @@ static unsigned long end_change(struct heard *heard, const struct ptpm_say *say)
     struct ptpm_taken taken;
     struct ptpm_sent *places = free_places();
     if (has_ptp4l) learn_value(heard);
-    enum ptpm_handled answer = ptpm_clock_decide(&clock_held, say, places, PTPM_MOST_SENT, &taken);
+    enum ptpm_handled answer = ptpm_clock_decide(&clock_held, say, places, TURN, &taken);
     tell_not_made(answer);
     return hand_on(heard, answer, places, &taken);
 }
@@ -298,7 +298,8 @@ static void ask_about_next(void) {
     else decide_change(objection);
 }
 
-long take_waiting(void) {
+/* In how many milliseconds a save may begin; -1 if none is to. */
+static long take_changes(void) {
     do ask_about_next();
     while (take_decided());
     if (is_saving || !ptpm_clock_unsaved(&clock_held)) return -1;
@@ -306,6 +307,13 @@ long take_waiting(void) {
     if (left > 0) return left;
     if (peers_asking() > 0 || is_next_of_peer() || may_save()) begin_save(&clock_held);
     return is_saving ? -1 : NEXT_SAVE;
+}
+
+long take_waiting(void) {
+    unsigned long dropped = 0;
+    long left = take_changes(), again = answer_again(&dropped);
+    count_dropped(dropped);
+    return again < 0 || (left >= 0 && left < again) ? left : again;
 }
 
 /* Sends what the clock gives out. Nothing is passed on of what the owner asks. */
@@ -334,16 +342,16 @@ void take_saved(void) {
     if (give_out() && is_under_way()) ask_program(&under_way);
 }
 
-static void tell_left(uint8_t left) {
-    for (int i = 0; i < OBSERVED_PORTS; i++) {
-        if (left >> i & 1) say_at_times("%s: port %d stays DISABLED", options->source, i + 1);
+static void tell_left(uint64_t left) {
+    for (unsigned i = 0; i < PORTS; i++) {
+        if (left >> i & 1) say_at_times("%s: port %u stays DISABLED", options->source, i + 1);
     }
 }
 
 /* The clock observes what a text says, all of it or nothing. */
 void observe(char *text) {
     struct observation observation;
-    uint8_t left = 0;
+    uint64_t left = 0;
     if (!read_observation(&observation, options->source, text)) {
         count_observation(false);
         return;

@@ -33,8 +33,8 @@ void take_unicast_round(void);
    number, since others than managers are to be answered all the same. */
 size_t room_for_peers(void);
 
-/* Asks the device about changes that wait for it, and begins a save if it is time for one. In how many milliseconds it may be time for
-   one; -1 if there is nothing to save, or a save is under way. */
+/* Asks the device about changes that wait for it, begins a save if it is time for one, and sends answers for which a program of this host
+   had no room. In how many milliseconds it may be time for one of these; -1 if nothing waits, or only for a save that is under way. */
 long take_waiting(void);
 
 /* The save that was begun is done: sends what waited for it. Asks the device for the change that is under way, if it is time for that. */

@@ -15,7 +15,7 @@ void add_asker(const struct heard *heard, uint16_t port, const struct ptpm_taken
     if (heard->station != NULL) asker->heard.station = memcpy(asker->station, heard->station, STATION);
     asker->count = (size_t)taken->waiting;
     asker->changed = taken->changed;
-    if (value != NULL) asker->value = *value;
+    if (value != NULL) memcpy(&asker->value, value, value->size);
     if (heard->port == NULL) of_peers++;
     else of_ports += (size_t)taken->waiting;
 }

@@ -11,7 +11,7 @@
 #include <stdbool.h>
 #include <stddef.h>
 
-/* How many messages may wait. Requests at ports leave half of the places to programs of this host. */
+/* While fewer messages wait, another turn is taken. Requests at ports leave half of the places to programs of this host. */
 enum { MOST_WAITING = 128, MOST_OF_PORTS = MOST_WAITING / 2 };
 
 /* A request whose messages wait. Its octets are not kept, except for its sourcePortIdentity and sequenceId. */

@@ -15,7 +15,7 @@ bool has_device;
 
 static const struct options *options;
 static struct source source;
-static struct device_limits limits;
+static struct device_limits rooms[2], *limits = &rooms[0];
 static struct device_counts counts;
 
 /* Changes that wait. The program is asked about the first, which is then decided and taken. A manager has one of them at most. */
@@ -31,14 +31,14 @@ static bool is_said;
 enum file_says { SAYS_NOTHING, SAYS_LIMITS, IS_WRONG };
 
 static enum file_says take_limits(void) {
-    static struct device_limits found;
+    struct device_limits *other = limits == &rooms[0] ? &rooms[1] : &rooms[0];
     static char empty[1];
     char *text = empty;
     read_source(&source);
     bool is_empty = is_empty_file(&source), has_text = next_text(&source, &text);
     if (!has_text && !is_empty) return SAYS_NOTHING;
-    if (!read_device_limits(&found, ports_of(options), source.path, text)) return IS_WRONG;
-    limits = found;
+    if (!read_device_limits(other, ports_of(options), source.path, text)) return IS_WRONG;
+    limits = other;
     return SAYS_LIMITS;
 }
 
@@ -56,7 +56,7 @@ void read_limits(void) {
     switch (take_limits()) {
     case SAYS_NOTHING: break;
     case SAYS_LIMITS:
-        if (options->is_verbose) print_line("limits read: %zu", limits.count);
+        if (options->is_verbose) print_line("limits read: %zu", limits->count);
         break;
     case IS_WRONG: say_at_times("%s: the limits stay as they were", source.path);
     }
@@ -74,7 +74,7 @@ static void object(struct ptpm_say *say, uint16_t error) {
 
 const struct ptpm_say *objection_of_limits(const struct ptpm_question *asked) {
     static struct ptpm_say objection;
-    uint16_t error = ptpm_limits_say(limits.all, limits.count, asked);
+    uint16_t error = ptpm_limits_say(limits->all, limits->count, asked);
     if (error == 0) return NULL;
     object(&objection, error);
     return &objection;

@@ -7,8 +7,8 @@
 #include <stdbool.h>
 #include <stddef.h>
 
-/* As many as there are ids of the profile, for all ports together and for each of the eight. */
-enum { MOST_LIMITS = 32 * 9 };
+/* As many as there are ids of the profile, for all ports together and for each. */
+enum { MOST_LIMITS = 32 * (1 + PTPM_MOST_PORTS) };
 
 struct device_limits {
     struct ptpm_limit all[MOST_LIMITS];

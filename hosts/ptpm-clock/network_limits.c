@@ -24,10 +24,10 @@ static uint64_t time_now(void) { return (uint64_t)milliseconds(); }
 void start_limits(const struct limits *given) {
     limits = *given;
     if (getrandom(&passed_on.seed, sizeof passed_on.seed, 0) < 0) give_up("getrandom");
-    for (int i = 0; i < PORTS; i++) {
-        start_shares(&copies[i], (uint64_t)limits.rate, MOST_SHARES, time_now());
-        start_shares(&answers[i], (uint64_t)limits.rate, MOST_SHARES, time_now());
-        start_shares(&requests[i], (uint64_t)limits.manager_rate, MANAGERS_HEARD, time_now());
+    for (size_t i = 0; i < port_count; i++) {
+        start_shares(&copies[i], (uint64_t)limits.rate, MOST_SHARES, 1, time_now());
+        start_shares(&answers[i], (uint64_t)limits.rate, MOST_SHARES, port_count, time_now());
+        start_shares(&requests[i], (uint64_t)limits.manager_rate, MANAGERS_HEARD, 1, time_now());
     }
 }
 
@@ -102,7 +102,7 @@ bool admit_answer_ahead(struct heard *heard, const uint8_t own[8]) {
 }
 
 size_t keep_back(const struct heard *heard, uint32_t answer, const struct ptpm_sent *sent, size_t count,
-                 const struct ptpm_sent *kept[PTPM_MOST_SENT]) {
+                 const struct ptpm_sent *kept[TURN]) {
     uint16_t ingress = ingress_of(heard);
     size_t left = 0;
     bool is_asked = false, is_going_on = false;

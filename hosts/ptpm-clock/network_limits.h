@@ -53,7 +53,7 @@ void lower_hops(struct heard *heard);
 /* Which of the messages that the agent made of a datagram are to go out. Those at the port that it came in at answer it, and the
    others forward it. Keeps them in their order at the head of the places; how many there are. */
 size_t keep_back(const struct heard *heard, uint32_t answer, const struct ptpm_sent *sent, size_t count,
-                 const struct ptpm_sent *kept[PTPM_MOST_SENT]);
+                 const struct ptpm_sent *kept[TURN]);
 
 const struct kept_back *kept_back_so_far(void);
 

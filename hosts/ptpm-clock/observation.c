@@ -202,7 +202,7 @@ static bool put_of_port(struct observation *observation, size_t port, const stru
 static bool take_port(struct observation *observation, char **words, size_t count) {
     long long port;
     if (count != 4) return wrong("it takes port PORT MEMBER VALUE");
-    if (!read_integer(words[1], 1, OBSERVED_PORTS, &port)) return wrong("port %s: it takes a number from 1 to 8", words[1]);
+    if (!read_integer(words[1], 1, PTPM_MOST_PORTS, &port)) return wrong("port %s: it takes a number from 1 to %d", words[1], PTPM_MOST_PORTS);
     int place = place_of(members_of_port, words[2]);
     if (place < 0 && is_passed_over(words[2])) return true;
     if (place < 0) return wrong("%s: no such member of a port is observed", words[2]);
@@ -213,8 +213,8 @@ static bool take_port(struct observation *observation, char **words, size_t coun
 static bool take_port_identity(struct observation *observation, const char *text) {
     uint8_t clock[8];
     uint16_t port;
-    bool is_observable = ptpm_port_identity_parse(text, strlen(text), clock, &port) && port >= 1 && port <= OBSERVED_PORTS;
-    if (!is_observable) return wrong("portIdentity %s: it takes that of a port from 1 to 8", text);
+    bool is_observable = ptpm_port_identity_parse(text, strlen(text), clock, &port) && port >= 1 && port <= PTPM_MOST_PORTS;
+    if (!is_observable) return wrong("portIdentity %s: it takes that of a port from 1 to %d", text, PTPM_MOST_PORTS);
     observation->printed_port = port;
     return true;
 }

@@ -6,11 +6,9 @@
 #include <stdbool.h>
 #include <stddef.h>
 
-enum { OBSERVED_PORTS = 8 };
-
 struct observation {
     struct ptpm_observed_clock clock;
-    struct ptpm_observed_port ports[OBSERVED_PORTS];
+    struct ptpm_observed_port ports[PTPM_MOST_PORTS];
     size_t port_count;          /* up to the last port that has an observation */
     unsigned grandmaster;       /* which members of a grandmaster are given, a bit each */
     size_t printed_port;        /* the latest that a portIdentity named; 0 if none did */

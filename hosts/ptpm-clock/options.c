@@ -53,10 +53,10 @@ static const char help[] =
     "Answers PTP management messages as a clock does, over UDP or Ethernet at its interfaces and on a Unix socket.\n"
     "\n"
     "  IDENTITY            clockIdentity of the clock: aabbccfffeddee01, or aabbcc.fffe.ddee01\n"
-    "  INTERFACE           one for each of its ports, eight at most. With -u there may be none\n"
+    "  INTERFACE           one for each of its ports, 64 at most. With -u there may be none\n"
     "  -6, --ipv6          IPv6 instead of IPv4\n"
     "  -2, --ethernet      IEEE 802.3 instead of IPv4\n"
-    "  -m MANAGER          IDENTITY/PORT of a manager with every right, sixteen at most\n"
+    "  -m MANAGER          IDENTITY/PORT of a manager with every right, 64 at most\n"
     "  -d DOMAIN           domainNumber (0)\n"
     "\n"
     "  -u PATH             a Unix socket for programs of this host, which counts as port 1\n"
@@ -75,12 +75,12 @@ static const char help[] =
     "  --ttl-security      unicast with a TTL below 255 is ignored, since a router has forwarded it\n"
     "\n"
     "  -s, --state FILE    the clock is saved to FILE before it answers, and goes on from FILE at its next start\n"
-    "  -o FILE             what the clock observes, like a servo: a file, which is read at the start and whenever it is\n"
+    "  -o FILE             what the clock observes, from a servo: a file that is read at the start and whenever it is\n"
     "                      written, or a pipe. Lines are for example: offset_from_master 98304, or: port 1 state 9\n"
     "  --limits FILE       the values that the hardware has: managers can set no others. It is read like -o.\n"
     "                      Lines are for example: LOG_SYNC_INTERVAL -4..1, or: port 2 DELAY_MECHANISM E2E, or: DOMAIN never\n"
     "  --ask PROGRAM       a program of the device, which is run for each change that a manager asks for. Status 0\n"
-    "                      agrees. Its words are MANAGER NUMBER set|command ID NAME PORT|all OCTETS [MEMBER VALUE]..\n"
+    "                      agrees. Its arguments are MANAGER NUMBER set|command ID NAME PORT|all OCTETS [MEMBER VALUE]..\n"
     "  --ask-time SECONDS  how long it may run (10)\n"
     "  --give ID FILE      the octets of FILE answer a GET of ID, which the clock itself lacks. ID is for example\n"
     "                      CLOCK_DESCRIPTION, or 2014/2 for port 2. FILE is read at each GET\n"
@@ -196,7 +196,7 @@ static struct value value_named(void) {
     if (id < 0) refuse_command_line("--give %s: it takes a managementId, such as CLOCK_DESCRIPTION", optarg);
     if (id_name((uint16_t)id) != NULL) refuse_command_line("--give %s: the clock has a value of its own", optarg);
     if (id >= IDS_OF_MAKERS && read_id_name((uint16_t)id) != NULL) refuse_command_line("--give %s: it is an id of ptp4l: take another one", optarg);
-    if (slash != NULL && port < 1) refuse_command_line("--give %s: a port has a number from 1 to 8", optarg);
+    if (slash != NULL && port < 1) refuse_command_line("--give %s: a port has a number from 1 to %d", optarg, PORTS);
     return (struct value){ .id = (uint16_t)id, .port = (uint16_t)port };
 }
 
@@ -326,7 +326,7 @@ static void judge_ptp4l(const struct options *options) {
 
 static void judge(const struct options *options) {
     judge_ptp4l(options);
-    if (options->interface_count > PORTS) refuse_command_line("it takes eight interfaces at most");
+    if (options->interface_count > PORTS) refuse_command_line("it takes %d interfaces at most", PORTS);
     if (options->interface_count == 0 && options->meeting.path == NULL) {
         refuse_command_line("an interface is missing, or a Unix socket: -u PATH");
     }

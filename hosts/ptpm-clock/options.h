@@ -10,7 +10,7 @@
 #include <stdbool.h>
 #include <stdint.h>
 
-enum { MANAGERS = 16, VALUES = 64 };
+enum { MANAGERS = PTPM_MOST_MANAGERS, VALUES = 64 };
 
 /* An id that the clock lacks, and the file that has its value at a port; port 0 is the clock. */
 struct value { uint16_t id, port; const char *path; };

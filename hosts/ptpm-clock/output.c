@@ -12,7 +12,7 @@
 #include <time.h>
 #include <unistd.h>
 
-enum { ROOM = 262144, LINE = 2048, TIMES_A_SECOND = 10 };
+enum { ROOM = 262144, TIMES_A_SECOND = 10 };
 
 /* The lines that wait for one stream, the oldest at `first`. */
 struct stream {

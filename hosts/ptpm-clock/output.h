@@ -4,6 +4,9 @@
 #ifndef OUTPUT_H
 #define OUTPUT_H
 
+/* How many octets a line has at most. It says each port of a clock. */
+enum { LINE = 4096 };
+
 /* From now on lines are written by threads. No thread has more rights than the program has by then. */
 void start_output(void);
 

@@ -1,7 +1,9 @@
 #define _GNU_SOURCE
 #include "peers.h"
+#include "monotonic.h"
 #include "program.h"
 #include "unix_socket.h"
+#include <errno.h>
 #include <limits.h>
 #include <linux/sockios.h>
 #include <string.h>
@@ -10,8 +12,9 @@
 
 enum {
     ROOM = 1 << 20,             /* octets of what nobody has read yet, at one socket */
-    SHARE = 32768,              /* and how many of them one peer may add */
+    SHARE = 32768, A_PORT = 1024,       /* how many of them one peer may add, and how many more for each port of the clock */
     UNCHECKED = 8,              /* messages after which it is checked how much was read */
+    PATIENCE = 50, PAUSE = 1    /* milliseconds: how long a peer may read nothing that has answers to come, and when it is tried again */
 };
 
 /* A socket to send from, and the peer that has it. */
@@ -23,6 +26,17 @@ struct way_back {
     int unchecked;
     unsigned long used;
 };
+
+/* The answers that one peer had no room for. Linux keeps ten for a program that does not read (net.unix.max_dgram_qlen), and a clock may
+   have more ports. Those of a second peer are dropped meanwhile. */
+static struct {
+    struct ptpm_sent messages[TURN];
+    size_t first, count;
+    int socket;
+    union sender peer;
+    socklen_t size;
+    int64_t end;
+} kept;
 
 static struct way_back ways[WAYS_BACK];
 static unsigned long turn;
@@ -101,7 +115,45 @@ static bool check_room(struct way_back *way) {
     if (++way->unchecked <= UNCHECKED) return true;
     int octets = unread(way);
     if (octets <= way->left_by_others) way->unchecked = 1;
-    return octets < way->left_by_others + SHARE;
+    return octets < way->left_by_others + SHARE + A_PORT * (int)port_count;
+}
+
+static bool is_kept(int from, const struct heard *answered) {
+    return kept.count > 0 && kept.socket == from && kept.size == answered->sender_size
+           && memcmp(&kept.peer, &answered->sender, kept.size) == 0;
+}
+
+/* Keeps an answer after those that are kept for its peer. */
+static bool keep(int from, const struct ptpm_sent *message, const struct heard *answered) {
+    if (kept.first + kept.count == TURN) return false;
+    if (kept.count == 0) {
+        kept.first = 0;
+        kept.socket = from;
+        kept.peer = answered->sender;
+        kept.size = answered->sender_size;
+        kept.end = milliseconds() + PATIENCE;
+    }
+    struct ptpm_sent *place = &kept.messages[kept.first + kept.count++];
+    place->size = message->size;
+    memcpy(place->octets, message->octets, message->size);
+    return true;
+}
+
+long answer_again(unsigned long *dropped) {
+    while (kept.count > 0) {
+        const struct ptpm_sent *message = &kept.messages[kept.first];
+        if (sendto(kept.socket, message->octets, message->size, MSG_DONTWAIT, &kept.peer.any, kept.size) >= 0) {
+            kept.end = milliseconds() + PATIENCE;
+        } else if (errno == EAGAIN && milliseconds() < kept.end) {
+            return PAUSE;
+        } else {
+            *dropped += kept.count;
+            kept.count = 1;
+        }
+        kept.first++;
+        kept.count--;
+    }
+    return -1;
 }
 
 bool answer_peer(const struct ptpm_sent *message, const struct heard *answered) {
@@ -112,7 +164,9 @@ bool answer_peer(const struct ptpm_sent *message, const struct heard *answered) 
         if (!check_room(way)) return false;
         from = way->socket;
     }
-    return sendto(from, message->octets, message->size, MSG_DONTWAIT, &answered->sender.any, answered->sender_size) >= 0;
+    if (is_kept(from, answered)) return keep(from, message, answered);
+    if (sendto(from, message->octets, message->size, MSG_DONTWAIT, &answered->sender.any, answered->sender_size) >= 0) return true;
+    return errno == EAGAIN && kept.count == 0 && keep(from, message, answered);
 }
 
 void close_peers(void) {

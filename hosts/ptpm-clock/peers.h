@@ -25,8 +25,13 @@ int open_owner(const char *path, gid_t group);
    something there. */
 int way_back_socket(size_t place);
 
-/* Sends a message to the sender of what it answers; whether it was accepted. It comes from the path of the socket that was asked. */
+/* Sends a message to the sender of what it answers, or keeps it for a moment if that reads too slowly; whether it was accepted. It comes
+   from the path of the socket that was asked. */
 bool answer_peer(const struct ptpm_sent *message, const struct heard *answered);
+
+/* Sends what is kept as far as there is room. All of it is dropped if its peer has read nothing for a while, and then counted. In how many
+   milliseconds it is to be called again; -1 if nothing is kept. */
+long answer_again(unsigned long *dropped);
 
 void close_peers(void);
 

@@ -3,11 +3,12 @@
 #define PORTS_H
 
 #include "ethernet.h"
+#include "ptpm.h"
 #include <stdbool.h>
 #include <stddef.h>
 #include <stdint.h>
 
-enum { PORTS = 8 };
+enum { PORTS = PTPM_MOST_PORTS };
 
 /* How messages go over the interfaces (IEEE 1588-2019, annexes C, D and E). */
 enum transport { UDP_IPV4, UDP_IPV6, ETHERNET };

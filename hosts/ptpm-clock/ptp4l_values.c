@@ -38,6 +38,7 @@ static struct learned latest = { .place = IDS };
 void start_ptp4l_values(const struct options *given, uint8_t of_clock) {
     options = given;
     domain = of_clock;
+    latest.size = offsetof(struct learned, at) + (1 + ports_of(options)) * sizeof latest.at[0];
 }
 
 static uint16_t get16(const uint8_t *at) { return (uint16_t)(at[0] << 8 | at[1]); }
@@ -75,7 +76,7 @@ static void make_utc_properties(uint8_t octets[4]) {
 
 static bool take_value(size_t place, const struct ptp4l_answer *answer) {
     size_t at = ids[place].is_of_port ? answer->port : 0;
-    if (answer->error != 0 || answer->size > PTPM_MOST_READ || at > PORTS) return false;
+    if (answer->error != 0 || answer->size > PTPM_MOST_READ || at > ports_of(options)) return false;
     memcpy(latest.at[at].octets, answer->field, latest.at[at].size = answer->size);
     if (ids[place].id == PTPM_ID_UTC_PROPERTIES && answer->size == 4) make_utc_properties(latest.at[at].octets);
     return true;
@@ -105,7 +106,7 @@ static bool admit_question(struct heard *heard) {
 bool learn_value(struct heard *heard) {
     latest.place = id_asked(heard);
     if (latest.place == IDS) return true;
-    for (size_t i = 0; i <= PORTS; i++) latest.at[i].size = 0;
+    for (size_t i = 0; i <= ports_of(options); i++) latest.at[i].size = 0;
     latest.is_known = admit_question(heard) && ask_value(latest.place, port_asked(heard));
     return latest.is_known || !is_own(heard->octets + TARGET_AT);
 }
@@ -113,7 +114,7 @@ bool learn_value(struct heard *heard) {
 const struct learned *value_learned(void) { return &latest; }
 
 /* The place of the value for an answer of this port. */
-static size_t place_of(const struct learned *value, uint16_t port) { return ids[value->place].is_of_port && port <= PORTS ? port : 0; }
+static size_t place_of(const struct learned *value, uint16_t port) { return ids[value->place].is_of_port && port <= ports_of(options) ? port : 0; }
 
 const struct ptpm_say *learned_to_give(const struct ptpm_clock *clock, const struct heard *heard) {
     static struct ptpm_say say;

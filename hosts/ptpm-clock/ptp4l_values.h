@@ -15,6 +15,7 @@ void start_ptp4l_values(const struct options *given, uint8_t domain);
 struct learned {
     size_t place;                       /* of the id in the table of those that the ptp4l is asked for */
     bool is_known;                      /* whether the ptp4l has answered */
+    size_t size;                        /* of what is used of it: one of few ports is short */
     struct { size_t size; uint8_t octets[PTPM_MOST_READ]; } at[1 + PORTS];      /* by ports, or in the first place if it is of the clock */
 };
 

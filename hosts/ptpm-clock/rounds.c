@@ -7,7 +7,7 @@
 #include <linux/udp.h>
 #include <string.h>
 
-enum { PLACES = ROUND + PTPM_MOST_SENT, LEAST_JOINED = 8, MOST_JOINED = 64, MOST_OCTETS = 60000 };
+enum { PLACES = ROUND + TURN, LEAST_JOINED = 8, MOST_JOINED = 64, MOST_OCTETS = 60000 };
 
 /* What the kernel reports of, or gets for, a datagram's addresses. */
 struct control { _Alignas(struct cmsghdr) char octets[CMSG_SPACE(sizeof(struct in6_pktinfo)) + CMSG_SPACE(sizeof(int))]; };
@@ -158,7 +158,7 @@ size_t hear_host(int socket, bool is_copied, int packets_of_host, struct heard h
     return hear(is_copied ? take_copied : take_of_host, NULL, socket, ROUND, heard);
 }
 
-struct ptpm_sent *places_to_send(void) { return PLACES - box.used >= PTPM_MOST_SENT ? box.sent + box.used : NULL; }
+struct ptpm_sent *places_to_send(void) { return PLACES - box.used >= TURN ? box.sent + box.used : NULL; }
 
 void send_later(const struct ptpm_sent *message, const struct heard *answered) {
     box.waiting[box.waiting_count++] = (struct outgoing){ message, answered };

@@ -11,7 +11,8 @@
 #include <sys/socket.h>
 #include <sys/un.h>
 
-enum { ROUND = 64, MOST_HEARD = 2048 };
+/* How many datagrams a round has, how many octets of one are kept, and how many messages a turn makes at most. */
+enum { ROUND = 64, MOST_HEARD = 2048, TURN = PTPM_MOST_SENT_OF(PORTS) };
 
 /* Who sent a datagram. */
 union sender {
@@ -51,7 +52,7 @@ size_t hear_round(const struct port *port, int socket, size_t most, struct heard
    are heard at another one (general_port.h). What comes in at no interface of a port is left out. */
 size_t hear_host(int socket, bool is_copied, int packets, struct heard heard[ROUND]);
 
-/* The places of a turn's messages, PTPM_MOST_SENT of them. NULL if there are fewer: then what is to go out has to be sent first. */
+/* The places of a turn's messages, TURN of them. NULL if there are fewer: then what is to go out has to be sent first. */
 struct ptpm_sent *places_to_send(void);
 
 /* A message that is in the next place, or after others, is to go out at its port. It goes to the sender of what it answers, if

@@ -20,8 +20,8 @@
 enum { NOT_STARTED = 1, NOT_OPENED = 2, IDENTITY = 12 };
 enum { KIND_AT = 4, WITH_CHANGE = 3, CHANGE_SIZE_AT = 14, CHANGE_AT = 16 };
 
-/* Octets of a file, and of one that has more than that. */
-enum { ROOM = PTPM_CLOCK_IMAGE_OCTETS + PTPM_SEAL_OCTETS, MOST_STATE_OCTETS = ROOM + 1, LOCK_TRIES = 100 };
+/* Octets of any clock's file, and of one that has more than that. */
+enum { ROOM = PTPM_CLOCK_IMAGE_BOUND(PTPM_MOST_PORTS, PTPM_MOST_MANAGERS) + PTPM_SEAL_OCTETS, MOST_STATE_OCTETS = ROOM + 1, LOCK_TRIES = 100 };
 enum { JOINED = 5 };        /* requests of managers for which there is one save */
 enum { SECOND = 1000, MOST_PAUSE = 5, PAUSE_PART = 20 };        /* milliseconds, and which part of the time of a save */
 
@@ -164,8 +164,8 @@ bool restore_clock(struct ptpm_clock *clock, const struct options *given) {
         tell_gone(restore(clock, size));
         tell_domain(clock);
     }
-    static const uint8_t room[ROOM];
-    if (!try_room(&file, room, sizeof room)) refuse_file(NULL);
+    size_t most = PTPM_CLOCK_IMAGE_BOUND(ports_of(options), options->manager_count) + PTPM_SEAL_OCTETS;
+    if (!try_room(&file, octets, most)) refuse_file(NULL);
     return is_there;
 }
 
@@ -183,7 +183,7 @@ static void count_save(size_t size, unsigned long time) {
 static bool fill_octets(struct ptpm_clock *clock) {
     size_t size;
     begun = microseconds();
-    if (ptpm_clock_image_of(clock, octets, PTPM_CLOCK_IMAGE_OCTETS, &size, &token) != PTPM_SAVED) return false;
+    if (ptpm_clock_image_of(clock, octets, ROOM - PTPM_SEAL_OCTETS, &size, &token) != PTPM_SAVED) return false;
     size_of_file = write_seal(octets, size, saves_of_file + 1);
     return true;
 }
@@ -209,7 +209,7 @@ static enum ptpm_saved fail(void) {
 
 void save_at_start(struct ptpm_clock *clock) {
     if (options->state == NULL) return;
-    if (ptpm_clock_saving(clock, MOST_WAITING) != PTPM_SAVING) refuse_file(strerror(ENOMEM));
+    if (ptpm_clock_saving(clock, MOST_WAITING + ptpm_clock_most_sent(clock) - 1) != PTPM_SAVING) refuse_file(strerror(ENOMEM));
     if (!fill_octets(clock) || replace_kept(&file, octets, size_of_file) != REPLACED) refuse_file(NULL);
     succeed(clock);
 }

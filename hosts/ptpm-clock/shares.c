@@ -5,9 +5,9 @@
 
 enum { KEPT = 1000 };       /* for how many milliseconds an address keeps its place at least */
 
-void start_shares(struct shares *shares, uint64_t rate, size_t count, uint64_t now) {
+void start_shares(struct shares *shares, uint64_t rate, size_t count, uint64_t least, uint64_t now) {
     uint64_t own = rate / (2 * count);
-    *shares = (struct shares){ .count = count, .own = own > 0 ? own : 1 };
+    *shares = (struct shares){ .count = count, .own = own > least ? own : least };
     ptpm_rate_start(&shares->all, rate, now);
 }
 

@@ -20,8 +20,8 @@ struct shares {
 };
 
 /* All have this many tokens a second together. Each of `count` addresses has as many that together they have half as many again,
-   but at least one a second. */
-void start_shares(struct shares *shares, uint64_t rate, size_t count, uint64_t now);
+   but at least `least` a second. */
+void start_shares(struct shares *shares, uint64_t rate, size_t count, uint64_t least, uint64_t now);
 
 /* Takes a token of a datagram's sender, or else one of those of all; whether there is one. A program of this host has only those of
    all. */

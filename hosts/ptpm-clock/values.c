@@ -106,12 +106,12 @@ uint16_t port_asked(const struct heard *heard) {
 }
 
 size_t answer_from_ports(struct ptpm_clock *clock, const struct heard *heard, struct ptpm_sent *places, size_t count) {
-    static struct ptpm_sent made[PTPM_MOST_SENT];
+    static struct ptpm_sent made[TURN];
     struct ptpm_taken taken;
     if (count == 0 || said[0].port == 0 || is_kept(heard) || port_asked(heard) != ingress_of(heard)) return count;
     count--;
     for (size_t i = 0; i < said_count; i++) {
-        ptpm_clock_take(clock, said[i].port, heard->octets, heard->size, &said[i].say, heard->is_of_owner, made, PTPM_MOST_SENT, &taken);
+        ptpm_clock_take(clock, said[i].port, heard->octets, heard->size, &said[i].say, heard->is_of_owner, made, TURN, &taken);
         if (taken.count == 0) continue;
         places[count] = made[taken.count - 1];          /* the copies that are passed on come before it */
         places[count++].port = ingress_of(heard);

@@ -6,7 +6,7 @@
 #include <sys/random.h>
 
 void draw_octets(uint8_t *octets, size_t size) {
-    if (getrandom(octets, size, 0) != (ssize_t)size) refuse("nothing was sent: no octets can be drawn: %s", strerror(errno));
+    if (getrandom(octets, size, 0) != (ssize_t)size) refuse("nothing was sent: there are no random octets: %s", strerror(errno));
 }
 
 uint16_t draw_number(void) {

@@ -288,7 +288,7 @@ def answers_in_another_way():
         status, printed, said = asked_at(wire, answers, "--target", ME, "set", "PRIORITY1", "100")
         check(f"a SET is answered {name} alone after a GET by the group",
               (status, printed) == ((0, "priority1 100\n") if name == "by the group" else (3, "")))
-        check("another way is said", ("came by a different way than the first one" in said) == (name != "by the group"))
+        check("another way is said", ("came by a different path than the first one" in said) == (name != "by the group"))
         shutil.rmtree(os.path.join(work, "state"), ignore_errors=True)
     wire.remove()
 

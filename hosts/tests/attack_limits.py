@@ -13,10 +13,11 @@ TOOL = "0a0b0c0d0e0f10aa"
 ASKERS, MANAGERS = 32, 8
 
 
-def most_in(seconds, rate, addresses, places=ASKERS):
+def most_in(seconds, rate, addresses, places=ASKERS, least=1):
     """What a rate lets through in a time, however slow the machine is: what a second brings at once, and then what the time brings. All
-    have the rate together, and each of the latest addresses a 64th besides, or a 16th of a manager's rate, but one a second at least."""
-    own = max(rate // (2 * places), 1)
+    have the rate together, and each of the latest addresses a 64th besides, or a 16th of a manager's rate. But it has one a
+    second at least, and of answers one for each port of the clock."""
+    own = max(rate // (2 * places), least)
     return (rate + own * addresses) * (1 + seconds)
 
 
@@ -38,7 +39,7 @@ def rates():
     for number in range(200):
         first.come_in(message(number, target=ME))
     answered = len(first.sent(0.5))
-    check("a stranger's answers have a rate", 20 <= answered <= most_in(watch.seconds(), 20, 1))
+    check("a stranger's answers have a rate", 20 <= answered <= most_in(watch.seconds(), 20, 1, least=2))
     for number in range(100):
         first.come_in(message(number, source=MANAGER, target=ME))
     answers = []

@@ -8,14 +8,14 @@
 #include <stdlib.h>
 #include <string.h>
 
-enum { CLOCKS = 3, PORTS = 8, MANAGERS = 16, TIMES = 10000, MOST_FIELD = 1418, HEAD = 54 };
-enum { ROOM = CLOCKS * PTPM_CLOCK_MEMORY + 4 * PTPM_SESSION_MEMORY + PTPM_SURVEY_MEMORY(PTPM_MOST_ANSWERS, 1418) };
+enum { CLOCKS = 3, FEW_PORTS = 8, FEW_MANAGERS = 16, TIMES = 10000, MOST_FIELD = 1418, HEAD = 54 };
+enum { ROOM = CLOCKS * PTPM_CLOCK_MEMORY_OF(PTPM_MOST_PORTS, PTPM_MOST_MANAGERS) + 4 * PTPM_SESSION_MEMORY + PTPM_SURVEY_MEMORY(PTPM_MOST_ANSWERS, 1418) };
 
 static const uint8_t manager[8] = { 0x00, 0x11, 0x22, 0x33, 0x44, 0x55, 0x66, 0x77 };
 static const uint8_t target[8] = { 0xaa, 0xbb, 0xcc, 0xff, 0xfe, 0xdd, 0xee, 0x01 };
 static const uint8_t field[MOST_FIELD];
 static __attribute__((aligned(16))) uint8_t block[ROOM];
-static uint8_t octets[PTPM_MOST_OCTETS], image[PTPM_CLOCK_IMAGE_OCTETS];
+static uint8_t octets[PTPM_MOST_OCTETS], image[PTPM_CLOCK_IMAGE_BOUND(PTPM_MOST_PORTS, PTPM_MOST_MANAGERS)];
 static struct ptpm_clock clocks[CLOCKS];
 static struct ptpm_session session;
 static struct ptpm_survey survey;
@@ -36,24 +36,24 @@ static size_t answer_of(uint16_t number, uint16_t source, size_t size) {
     return whole;
 }
 
-static struct ptpm_manager_settings managers[MANAGERS];
-static size_t clock_managers = MANAGERS;    /* how many of them a clock has */
+static struct ptpm_manager_settings managers[PTPM_MOST_MANAGERS];
+static size_t clock_ports = FEW_PORTS, clock_managers = FEW_MANAGERS;   /* how many a clock has */
 
-static size_t clock_room(void) { return PTPM_CLOCK_MEMORY_OF(clock_managers); }
+static size_t clock_room(void) { return PTPM_CLOCK_MEMORY_OF(clock_ports, clock_managers); }
 
 static enum ptpm_started start_clock(struct ptpm_clock *clock) {
     struct ptpm_clock_settings settings;
-    struct ptpm_port_settings ports[PORTS];
+    struct ptpm_port_settings ports[PTPM_MOST_PORTS];
     ptpm_clock_defaults(&settings);
     memcpy(settings.identity, target, 8);
-    for (int i = 0; i < PORTS; i++) ptpm_port_defaults(&ports[i]);
-    return ptpm_clock_start(clock, &settings, ports, PORTS, managers, clock_managers);
+    for (size_t i = 0; i < clock_ports; i++) ptpm_port_defaults(&ports[i]);
+    return ptpm_clock_start(clock, &settings, ports, clock_ports, managers, clock_managers);
 }
 
 static enum ptpm_restored restore_clock(struct ptpm_clock *clock, const struct ptpm_clock *from) {
     size_t size, gone;
     if (ptpm_clock_image(from, image, sizeof image, &size) != PTPM_SAVED) return PTPM_NOT_AN_IMAGE;
-    return ptpm_clock_restore(clock, target, PORTS, managers, clock_managers, image, size, &gone);
+    return ptpm_clock_restore(clock, target, clock_ports, managers, clock_managers, image, size, &gone);
 }
 
 static bool holds_clock(const struct ptpm_clock *clock) {
@@ -188,7 +188,7 @@ static void given_again(void) {
 
 /* A clock takes what the header says of its managers, and no octet less. */
 static void exact_managers(void) {
-    for (clock_managers = 0; clock_managers <= MANAGERS; clock_managers++) {
+    for (clock_managers = 0; clock_managers <= PTPM_MOST_MANAGERS; clock_managers++) {
         ptpm_memory_give(block, clock_room() - 1);
         check(start_clock(&clocks[0]) == PTPM_START_NO_MEMORY, "a clock in one octet less than its managers take");
         stop_all();
@@ -196,8 +196,8 @@ static void exact_managers(void) {
         check(start_clock(&clocks[0]) == PTPM_STARTED && ptpm_memory_taken() == clock_room(), "what a clock takes with its managers");
         stop_all();
     }
-    clock_managers = MANAGERS;
-    check(clock_room() == PTPM_CLOCK_MEMORY, "what any clock takes at most");
+    clock_managers = FEW_MANAGERS;
+    check(clock_room() == PTPM_CLOCK_MEMORY, "what a clock of few ports takes at most");
 }
 
 /* So many clocks in a block for them; and in one octet less one fewer, until another is stopped. */
@@ -217,10 +217,10 @@ static void exact_clocks(int all) {
 }
 
 /* Clocks that are started, started again, restored and stopped without end, in a block for just this many. */
-static void endless_clocks(void) {
+static void endless_clocks(int times) {
     unsigned refused = 0;
     ptpm_memory_give(block, CLOCKS * clock_room());
-    for (int i = 0; i < TIMES; i++) {
+    for (int i = 0; i < times; i++) {
         struct ptpm_clock *one = &clocks[below(CLOCKS)], *other = &clocks[below(CLOCKS)];
         if (below(3) == 0) ptpm_clock_stop(one);
         else if (one->at == NULL && other->at != NULL) refused += restore_clock(one, other) != PTPM_RESTORED;
@@ -228,6 +228,32 @@ static void endless_clocks(void) {
     }
     check(refused == 0, "no start is refused, whatever was stopped before it");
     stop_all();
+}
+
+/* A start of a clock of many ports in a block that grows by one unit each time until none of its blocks is refused. */
+static size_t least_room(void) {
+    size_t room = 32;
+    for (;; room += 16) {
+        ptpm_memory_give(block, room);
+        enum ptpm_started answer = start_clock(&clocks[0]);
+        check(answer == PTPM_STARTED || (answer == PTPM_START_NO_MEMORY && ptpm_memory_taken() == 0), "a start that is refused holds nothing");
+        if (answer == PTPM_STARTED) return room;
+    }
+}
+
+static void many_ports(void) {
+    static const size_t ports[] = { 9, 24, 28, PTPM_MOST_PORTS }, counts[] = { 0, 1, 4, FEW_MANAGERS, PTPM_MOST_MANAGERS };
+    for (size_t i = 0; i < sizeof ports / sizeof *ports; i++) {
+        for (size_t k = 0; k < sizeof counts / sizeof *counts; k++) {
+            clock_ports = ports[i];
+            clock_managers = counts[k];
+            check(least_room() <= clock_room() && holds_clock(&clocks[0]), "a clock of many ports in its block");
+            stop_all();
+            endless_clocks(TIMES / 10);
+        }
+    }
+    clock_ports = FEW_PORTS;
+    clock_managers = FEW_MANAGERS;
 }
 
 /* The order of requests and answers that leaves the least room. A restart has a request of 1,408 octets, and an answer of as many comes.
@@ -349,18 +375,18 @@ static void side_by_side(void) {
 int main(void) {
     static const unsigned answers[] = { 1, 8, 9, 16, 17, 100, 257, 512, 513, 5000, PTPM_MOST_ANSWERS };
     static const size_t sizes[] = { 0, 2, 130, MOST_FIELD };
-    for (int i = 0; i < MANAGERS; i++) {
+    for (int i = 0; i < PTPM_MOST_MANAGERS; i++) {
         memcpy(managers[i].clock, manager, 8);
         managers[i].port = (uint16_t)(i + 1);
     }
     nothing_given();
     given_again();
     exact_managers();
-    for (clock_managers = 1; clock_managers <= MANAGERS; clock_managers += MANAGERS - 1) {
+    for (clock_managers = 1; clock_managers <= FEW_MANAGERS; clock_managers += FEW_MANAGERS - 1) {
         for (int all = 1; all <= CLOCKS; all++) exact_clocks(all);
-        endless_clocks();
+        endless_clocks(TIMES);
     }
-    clock_managers = MANAGERS;
+    many_ports();
     exact_session();
     roomy_asker();
     for (size_t i = 0; i < sizeof answers / sizeof *answers; i++)

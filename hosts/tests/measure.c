@@ -11,7 +11,7 @@
 #include <stdlib.h>
 #include <string.h>
 
-enum { HEAD = 54, MOST = PTPM_MOST_OCTETS, MOST_PORTS = 8, MOST_MANAGERS = 16 };
+enum { HEAD = 54, MOST = PTPM_MOST_OCTETS, FEW_PORTS = 8, MOST_MANAGERS = 16, PLACES = PTPM_MOST_SENT_OF(PTPM_MOST_PORTS) };
 enum {
     GET = PTPM_GET, SET = PTPM_SET, RESPONSE = 2, PRIORITY1 = PTPM_ID_PRIORITY1, PORT_DATA_SET = PTPM_ID_PORT_DATA_SET,
     LOG_ANNOUNCE_INTERVAL = PTPM_ID_LOG_ANNOUNCE_INTERVAL, USER_DESCRIPTION = PTPM_ID_USER_DESCRIPTION
@@ -43,13 +43,18 @@ static const struct list lists[] = {
     { "stranger", 2, 1, STRANGER, CLOCK, GET, PRIORITY1, 0, 0, 0, PLAIN },
     { "repeat", 2, 1, MANAGER, CLOCK, GET, PRIORITY1, 0, 0, 0, PLAIN },
     { "other_domain", 2, 1, MANAGER, CLOCK, GET, PRIORITY1, 0, 0, 0, IN_ANOTHER_DOMAIN },
-    { "ports_get", MOST_PORTS, 1, MANAGER, CLOCK, GET, PORT_DATA_SET, 0, 0, 1, PLAIN },
-    { "ports_set", MOST_PORTS, 1, MANAGER, CLOCK, SET, LOG_ANNOUNCE_INTERVAL, 2, 2, 1, PLAIN },
-    { "ports_repeat", MOST_PORTS, 1, MANAGER, CLOCK, GET, PORT_DATA_SET, 0, 0, 0, PLAIN },
-    { "ports_stranger", MOST_PORTS, 1, STRANGER, EVERY, GET, PORT_DATA_SET, 0, 0, 0, PLAIN },
+    { "ports_get", FEW_PORTS, 1, MANAGER, CLOCK, GET, PORT_DATA_SET, 0, 0, 1, PLAIN },
+    { "ports_set", FEW_PORTS, 1, MANAGER, CLOCK, SET, LOG_ANNOUNCE_INTERVAL, 2, 2, 1, PLAIN },
+    { "ports_repeat", FEW_PORTS, 1, MANAGER, CLOCK, GET, PORT_DATA_SET, 0, 0, 0, PLAIN },
+    { "ports_stranger", FEW_PORTS, 1, STRANGER, EVERY, GET, PORT_DATA_SET, 0, 0, 0, PLAIN },
     { "forward", 2, 1, MANAGER, ANOTHER, GET, PRIORITY1, 0, 0, 0, PLAIN },
-    { "forward_seven", MOST_PORTS, 1, MANAGER, ANOTHER, GET, PRIORITY1, 0, 0, 0, PLAIN },
-    { "forward_long", MOST_PORTS, 1, MANAGER, ANOTHER, SET, PRIORITY1, MOST - HEAD, 0, 0, PLAIN },
+    { "forward_seven", FEW_PORTS, 1, MANAGER, ANOTHER, GET, PRIORITY1, 0, 0, 0, PLAIN },
+    { "forward_long", FEW_PORTS, 1, MANAGER, ANOTHER, SET, PRIORITY1, MOST - HEAD, 0, 0, PLAIN },
+    { "switch_get", PTPM_MOST_PORTS, 1, MANAGER, CLOCK, GET, PRIORITY1, 0, 0, 1, PLAIN },
+    { "switch_ports_get", PTPM_MOST_PORTS, 1, MANAGER, CLOCK, GET, PORT_DATA_SET, 0, 0, 1, PLAIN },
+    { "switch_ports_set", PTPM_MOST_PORTS, 1, MANAGER, CLOCK, SET, LOG_ANNOUNCE_INTERVAL, 2, 2, 1, PLAIN },
+    { "switch_ports_repeat", PTPM_MOST_PORTS, 1, MANAGER, CLOCK, GET, PORT_DATA_SET, 0, 0, 0, PLAIN },
+    { "switch_forward", PTPM_MOST_PORTS, 1, MANAGER, ANOTHER, GET, PRIORITY1, 0, 0, 0, PLAIN },
     { "other_clock", 2, 1, MANAGER, ANOTHER, GET, PRIORITY1, 0, 0, 0, WITHOUT_HOPS },
     { "old", 2, 1, MANAGER, CLOCK, GET, PRIORITY1, 0, 0, 0, OLDER },
 };
@@ -59,7 +64,7 @@ static const uint8_t stranger[8] = { 0x0a, 0x0b, 0x0c, 0x0d, 0x0e, 0x0f, 0x10, 0
 static const uint8_t identity[8] = { 0xaa, 0xbb, 0xcc, 0xff, 0xfe, 0xdd, 0xee, 0x01 };
 static const uint8_t another[8] = { 0xaa, 0xbb, 0xcc, 0xff, 0xfe, 0xdd, 0xee, 0x02 };
 static const uint8_t every[8] = { 0xff, 0xff, 0xff, 0xff, 0xff, 0xff, 0xff, 0xff };
-static struct ptpm_sent sent[PTPM_MOST_SENT];
+static struct ptpm_sent sent[PLACES];
 static bool is_taken;                   /* by ptpm_clock_take */
 
 /* The number in two octets, the high one first. */
@@ -92,7 +97,7 @@ static size_t request(const struct list *list, uint8_t octets[MOST]) {
 /* The clock of the list: ports that are MASTER, and managers that may change everything. The last is `manager`. */
 static bool start(const struct list *list, struct ptpm_clock *clock) {
     struct ptpm_clock_settings settings;
-    struct ptpm_port_settings ports[MOST_PORTS];
+    struct ptpm_port_settings ports[PTPM_MOST_PORTS];
     struct ptpm_manager_settings managers[MOST_MANAGERS];
     ptpm_clock_defaults(&settings);
     memcpy(settings.identity, identity, 8);
@@ -108,7 +113,7 @@ static bool start(const struct list *list, struct ptpm_clock *clock) {
 static enum ptpm_handled take(struct ptpm_clock *clock, const uint8_t *octets, size_t size, size_t *messages) {
     static const struct ptpm_say agrees;
     static struct ptpm_taken taken;
-    enum ptpm_handled answer = ptpm_clock_take(clock, 1, octets, size, &agrees, 0, sent, PTPM_MOST_SENT, &taken);
+    enum ptpm_handled answer = ptpm_clock_take(clock, 1, octets, size, &agrees, 0, sent, PLACES, &taken);
     *messages = taken.count;
     return answer;
 }
@@ -118,7 +123,7 @@ static enum ptpm_handled repeat(struct ptpm_clock *clock, const struct list *lis
     static uint8_t places[2][MOST];
     struct list first = { .from = MANAGER, .to = CLOCK, .action = GET, .id = list->id, .how = PLAIN };
     size_t size = request(&first, places[0]);
-    enum ptpm_handled answer = ptpm_clock_handle(clock, 1, places[0], size, sent, PTPM_MOST_SENT, messages);
+    enum ptpm_handled answer = ptpm_clock_handle(clock, 1, places[0], size, sent, PLACES, messages);
     size = request(list, places[0]);
     memcpy(places[1], places[0], MOST);
     uint16_t number = list->how == OLDER ? 6 : 7;
@@ -126,7 +131,7 @@ static enum ptpm_handled repeat(struct ptpm_clock *clock, const struct list *lis
         uint8_t *octets = places[i % 2];
         number = (uint16_t)(number + list->step);
         put(octets + 30, number);
-        answer = is_taken ? take(clock, octets, size, messages) : ptpm_clock_handle(clock, 1, octets, size, sent, PTPM_MOST_SENT, messages);
+        answer = is_taken ? take(clock, octets, size, messages) : ptpm_clock_handle(clock, 1, octets, size, sent, PLACES, messages);
     }
     return answer;
 }

@@ -12,7 +12,8 @@
 #include <sys/mman.h>
 #include <unistd.h>
 
-enum { BASES = 64, MOST_MANAGERS = 16, MOST_PORTS = 8, ROOM = 32768, PAGE = 4096, REQUESTS = 40, NEW = 400 };
+enum { BASES = 64, MOST_MANAGERS = 16, FEW_PORTS = 8, ROOM = 65536, PAGE = 4096, REQUESTS = 40, NEW = 400 };
+enum { PLACES = PTPM_MOST_SENT_OF(PTPM_MOST_PORTS), IMAGE_OCTETS = PTPM_CLOCK_IMAGE_BOUND(PTPM_MOST_PORTS, MOST_MANAGERS) };
 enum { KIND = 4, VERSION = 5, SIZE = 8, HEAD = 12, IDENTITY = 12, MESSAGE = 16, WITH_CHANGE = 3 };
 
 /* A clock, its managers and its image. */
@@ -20,7 +21,7 @@ struct base { size_t port_count, manager_count, size; struct ptpm_manager_settin
 
 static struct base bases[BASES];
 static const uint8_t identity[8] = { 0xaa, 0xbb, 0xcc, 0xff, 0xfe, 0xdd, 0xee, 0x01 };
-static struct ptpm_sent sent[PTPM_MOST_SENT];
+static struct ptpm_sent sent[PLACES];
 static unsigned long answers[PTPM_OTHER_SESSION];
 
 /* Memory that can be written at one place and only read at another, between pages that can't be read. */
@@ -89,17 +90,17 @@ static void ask(struct ptpm_clock *clock, const struct base *base) {
     if (base->manager_count == 0) return;
     const struct ptpm_manager_settings *manager = &base->managers[draw((uint32_t)base->manager_count)];
     size_t size = draw_request(request, manager, (uint16_t)draw(NEW), base->port_count);
-    ptpm_clock_handle(clock, 1, request, size, sent, PTPM_MOST_SENT, &count);
+    ptpm_clock_handle(clock, 1, request, size, sent, PLACES, &count);
 }
 
 /* Has a clock keep a change as under way, if what is drawn is one: then its image is of another kind. */
 static void undertake(struct ptpm_clock *clock, const struct base *base) {
-    static uint8_t image[PTPM_CLOCK_IMAGE_OCTETS];
+    static uint8_t image[IMAGE_OCTETS];
     uint8_t request[256];
     uint64_t token;
     size_t size;
     struct ptpm_question asked;
-    check(ptpm_clock_saving(clock, PTPM_MOST_SENT) == PTPM_SAVING && ptpm_clock_image_of(clock, image, sizeof image, &size, &token) == PTPM_SAVED
+    check(ptpm_clock_saving(clock, PLACES) == PTPM_SAVING && ptpm_clock_image_of(clock, image, sizeof image, &size, &token) == PTPM_SAVED
           && ptpm_clock_saved(clock, token) == PTPM_SAVED, "a clock that saves");
     if (base->manager_count == 0) return;
     size = draw_request(request, base->managers, NEW, base->port_count);
@@ -109,13 +110,13 @@ static void undertake(struct ptpm_clock *clock, const struct base *base) {
 static void draw_base(struct base *base, size_t place) {
     struct ptpm_clock clock = { 0 };
     struct ptpm_clock_settings settings;
-    struct ptpm_port_settings ports[MOST_PORTS];
-    static uint8_t image[PTPM_CLOCK_IMAGE_OCTETS];
+    struct ptpm_port_settings ports[PTPM_MOST_PORTS];
+    static uint8_t image[IMAGE_OCTETS];
     ptpm_clock_defaults(&settings);
     memcpy(settings.identity, identity, 8);
     settings.domain = (uint8_t)draw(2);
-    base->port_count = 1 + draw(MOST_PORTS);
-    base->manager_count = place % (MOST_MANAGERS + 1);
+    base->port_count = place == 0 ? PTPM_MOST_PORTS : 1 + draw(is_drawn(50) ? FEW_PORTS : PTPM_MOST_PORTS);
+    base->manager_count = place == 0 ? MOST_MANAGERS : place % (MOST_MANAGERS + 1);
     for (size_t i = 0; i < base->port_count; i++) ptpm_port_defaults(&ports[i]);
     for (size_t i = 0; i < base->manager_count; i++) {
         base->managers[i] = (struct ptpm_manager_settings){ { (uint8_t)draw(3), 2, 3, 4, 5, 6, 7, (uint8_t)i }, (uint16_t)draw(3), 7 };
@@ -174,7 +175,7 @@ static bool may_be(enum ptpm_restored answer, const uint8_t *image, size_t size)
 }
 
 static bool has_image(const struct ptpm_clock *clock, const uint8_t *image, size_t size) {
-    static uint8_t own[PTPM_CLOCK_IMAGE_OCTETS];
+    static uint8_t own[IMAGE_OCTETS];
     size_t found;
     return ptpm_clock_image(clock, own, sizeof own, &found) == PTPM_SAVED && found == size && memcmp(own, image, size) == 0;
 }
@@ -236,7 +237,7 @@ int main(int argc, char **argv) {
         restore(&clock, base);
     }
     ptpm_clock_stop(&clock);
-    check(mallinfo2().uordblks < before + PAGE, "no memory is kept, except by the allocator for its next blocks");
+    check(mallinfo2().uordblks < before + ROOM, "no memory is kept, except by the allocator for its next blocks");
     print_answers();
     for (size_t i = 0; i < BASES; i++) free(bases[i].image);
     return print_checks("restores");

@@ -17,7 +17,7 @@ REFUSED = """-d 256 collect|--domain 256: it takes a number from 0 to 255, two a
 -d 0-7 survey PRIORITY1|--domain 0-7: it takes a number from 0 to 255
 collect PRIORITY1|collect PRIORITY1: collect takes no managementId
 collect --target aabbccfffeddee01|collect asks every clock: it takes no --target
--m 0011223344556677/1 collect|--manager: collect asks by no manager
+-m 0011223344556677/1 collect|--manager: collect asks anonymously
 -x status|status takes none of --port, --text, --hexadecimal and --numbers
 --json collect|--json: collect prints datagrams in hexadecimal
 --watch 1 survey PRIORITY1|--watch: only status takes it

@@ -6,11 +6,11 @@
 #include <stdlib.h>
 #include <string.h>
 
-enum { TIMES = 50, GET_SIZE = 54, ANSWER_SIZE = 56, MANY = 3 };
+enum { TIMES = 50, GET_SIZE = 54, ANSWER_SIZE = 56, MANY = 3, PORTS = PTPM_MOST_PORTS, PLACES = PTPM_MOST_SENT_OF(PORTS) };
 
 static const uint8_t manager[8] = { 0x00, 0x11, 0x22, 0x33, 0x44, 0x55, 0x66, 0x77 };
 static const uint8_t target[8] = { 0xaa, 0xbb, 0xcc, 0xff, 0xfe, 0xdd, 0xee, 0x01 };
-static struct ptpm_sent sent[PTPM_MOST_SENT];
+static struct ptpm_sent sent[PLACES];
 
 static void expect(uint32_t answer, uint32_t wanted, const char *what) {
     if (answer == wanted) return;
@@ -36,37 +36,37 @@ static size_t answer_of(uint16_t number, uint8_t last, uint8_t octets[ANSWER_SIZ
 static void use_clock(struct ptpm_clock *clock, const uint8_t *request) {
     uint8_t field[PTPM_MOST_READ];
     size_t count, size;
-    expect(ptpm_clock_handle(clock, 1, request, GET_SIZE, sent, PTPM_MOST_SENT, &count), PTPM_ANSWERED_NEW, "clock_handle");
-    expect(ptpm_clock_handle(clock, 1, request, GET_SIZE, sent, PTPM_MOST_SENT, &count), PTPM_ANSWERED_REPEAT, "clock_handle");
-    expect(ptpm_clock_handle(clock, 1, request, GET_SIZE - 1, sent, PTPM_MOST_SENT, &count), PTPM_TOO_SHORT, "clock_handle");
+    expect(ptpm_clock_handle(clock, 1, request, GET_SIZE, sent, PLACES, &count), PTPM_ANSWERED_NEW, "clock_handle");
+    expect(ptpm_clock_handle(clock, 1, request, GET_SIZE, sent, PLACES, &count), PTPM_ANSWERED_REPEAT, "clock_handle");
+    expect(ptpm_clock_handle(clock, 1, request, GET_SIZE - 1, sent, PLACES, &count), PTPM_TOO_SHORT, "clock_handle");
     expect(ptpm_clock_read(clock, PTPM_ID_DEFAULT_DATA_SET, 0, field, sizeof field, &size), PTPM_READ, "clock_read");
 }
 
 /* A message waits when the clock is left. */
 static void use_saving(struct ptpm_clock *clock, const uint8_t *request) {
     static const struct ptpm_say agrees;
-    static uint8_t image[PTPM_CLOCK_IMAGE_OCTETS];
+    static uint8_t image[PTPM_CLOCK_IMAGE_BOUND(PORTS, 1)];
     struct ptpm_taken taken;
     size_t size;
     uint64_t token;
     expect(ptpm_clock_saving(clock, 1), PTPM_NO_ROOM, "clock_saving that is refused");
-    expect(ptpm_clock_saving(clock, PTPM_MOST_SENT), PTPM_SAVING, "clock_saving");
+    expect(ptpm_clock_saving(clock, PLACES), PTPM_SAVING, "clock_saving");
     expect(ptpm_clock_image_of(clock, image, sizeof image, &size, &token), PTPM_SAVED, "clock_image_of");
     expect(ptpm_clock_saved(clock, token), PTPM_SAVED, "clock_saved");
-    expect(ptpm_clock_take(clock, 1, request, GET_SIZE, &agrees, 0, sent, PTPM_MOST_SENT, &taken), PTPM_ANSWERED_NEW, "clock_take");
+    expect(ptpm_clock_take(clock, 1, request, GET_SIZE, &agrees, 0, sent, PLACES, &taken), PTPM_ANSWERED_NEW, "clock_take");
     expect((uint32_t)taken.waiting, 1, "clock_take, how many wait,");
 }
 
 static void clocks(struct ptpm_clock *clock, const uint8_t *request) {
     struct ptpm_clock_settings settings;
-    struct ptpm_port_settings ports[MANY];
+    struct ptpm_port_settings ports[PORTS];
     struct ptpm_manager_settings managers[2] = { { .port = 1, .rights = PTPM_CLOCK_SET }, { .port = 1 } };
     memcpy(managers[0].clock, manager, 8);
     memcpy(managers[1].clock, manager, 8);
     ptpm_clock_defaults(&settings);
     memcpy(settings.identity, target, 8);
-    for (int i = 0; i < MANY; i++) ptpm_port_defaults(&ports[i]);
-    expect(ptpm_clock_start(clock, &settings, ports, MANY, managers, 1), PTPM_STARTED, "clock_start");
+    for (int i = 0; i < PORTS; i++) ptpm_port_defaults(&ports[i]);
+    expect(ptpm_clock_start(clock, &settings, ports, PORTS, managers, 1), PTPM_STARTED, "clock_start");
     use_clock(clock, request);
     expect(ptpm_clock_start(clock, &settings, ports, 1, managers, 1), PTPM_STARTED, "clock_start in a live handle");
     use_clock(clock, request);

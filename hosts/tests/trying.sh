@@ -8,8 +8,8 @@ for word in ip pmc ptp4l python3; do
 done
 [ "$(id -u)" = 0 ] || lacks "network namespaces need root"
 [ -c /dev/net/tun ] || lacks "/dev/net/tun is missing"
-make -s clock manage link dies.so set_clock.so fields stops restores flash blocks block_host limits_host measure units libptpm.so ||
-    lacks "clock, manage, link, dies.so, set_clock.so, fields, stops, restores, flash, blocks, block_host, limits_host, measure, units and libptpm.so are not built"
+make -s clock manage link dies.so set_clock.so fields stops restores flash blocks block_host limits_host switch_host measure units libptpm.so ||
+    lacks "clock, manage, link, dies.so, set_clock.so, fields, stops, restores, flash, blocks, block_host, limits_host, switch_host, measure, units and libptpm.so are not built"
 
 identity=aabbccfffeddee01 other=0a0b0c0d0e0f1011
 near=ptpm-near-$$ far=ptpm-far-$$

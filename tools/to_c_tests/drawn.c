@@ -7,18 +7,20 @@
 #include <stdlib.h>
 #include <string.h>
 
-enum { EACH = 1000, PORTS = 8, MANAGERS = 16, LIKE_A_MESSAGE = 54 };
+enum { EACH = 1000, FEW_PORTS = 8, PORTS = PTPM_MOST_PORTS, FEW_MANAGERS = 16, MANAGERS = PTPM_MOST_MANAGERS, LIKE_A_MESSAGE = 54 };
+enum { PLACES = PTPM_MOST_SENT_OF(PORTS) };
 
 static const uint8_t me[8] = { 0xaa, 0xbb, 0xcc, 0xff, 0xfe, 0xdd, 0xee, 1 }, asker[8] = { 0, 0x11, 0x22, 0xff, 0xfe, 0x33, 0x44, 0x55 };
 static uint64_t state, sum;
 static struct ptpm_clock agent;
+static size_t ports_of_agent;       /* as it was started last */
 static struct ptpm_session session;
 static struct ptpm_survey survey;
 static struct ptpm_session_settings asks = { .port = 1, .target_ports = PORTS, .first = 1, .hops = 1, .attempts = 3 };
-static struct ptpm_sent sent[PTPM_MOST_SENT];
+static struct ptpm_sent sent[PLACES];
 static struct ptpm_passed_on passed_on;
 static struct ptpm_rate rate;
-static uint8_t message[PTPM_MOST_OCTETS], image[PTPM_CLOCK_IMAGE_OCTETS];
+static uint8_t message[PTPM_MOST_OCTETS], image[PTPM_CLOCK_IMAGE_BOUND(PORTS, MANAGERS)];
 
 /* A number below this one. */
 static uint32_t below(uint32_t bound) {
@@ -45,7 +47,7 @@ static void start_clock(void) {
     struct ptpm_clock_settings settings;
     struct ptpm_port_settings ports[PORTS + 1];
     struct ptpm_manager_settings managers[MANAGERS + 1];
-    size_t count = below(MANAGERS + 2);
+    size_t count = below(below(8) == 0 ? MANAGERS + 2 : FEW_MANAGERS + 1);
     ptpm_clock_defaults(&settings);
     memcpy(settings.identity, me, sizeof me);
     settings.offset_from_master = (int64_t)state;
@@ -62,7 +64,8 @@ static void start_clock(void) {
         ports[i].state = (uint8_t)(1 + below(9));
     }
     draw_managers(managers, count);
-    size_t port_count = below(8) == 0 ? below(PORTS + 2) : PORTS;
+    ports_of_agent = below(2) == 0 ? FEW_PORTS : PORTS;
+    size_t port_count = below(8) == 0 ? below(PORTS + 2) : ports_of_agent;
     note(ptpm_clock_start(&agent, &settings, ports, port_count, managers, count));
     note_octets(settings.user_description, settings.user_description_size);
 }
@@ -110,7 +113,7 @@ static void exchange(uint64_t now) {
     static const struct ptpm_say nothing;
     struct ptpm_taken taken;
     size_t size = draw_message();
-    note(ptpm_clock_take(&agent, (uint16_t)below(PORTS + 2), message, size, &nothing, 0, sent, PTPM_MOST_SENT, &taken));
+    note(ptpm_clock_take(&agent, (uint16_t)below(PORTS + 2), message, size, &nothing, 0, sent, PLACES, &taken));
     note(taken.changed.clock);
     note_octets(taken.changed.ports, sizeof taken.changed.ports);
     for (size_t i = 0; i < taken.count; i++) {
@@ -154,7 +157,7 @@ static void use_session(void) {
     note(ptpm_session_begin(&session, action, id, port, value, below(5)));
     note(ptpm_session_send(&session, message, sizeof message, &size));
     note_octets(message, size);
-    if (below(2) == 0) note(ptpm_clock_handle(&agent, 1, message, size, sent, PTPM_MOST_SENT, &size));
+    if (below(2) == 0) note(ptpm_clock_handle(&agent, 1, message, size, sent, PLACES, &size));
     else size = 0;
     for (size_t i = 0; i < size; i++) note(ptpm_session_receive(&session, sent[i].octets, sent[i].size));
     note(ptpm_session_report(&session, message, sizeof message, &size, &error));
@@ -167,7 +170,7 @@ static void use_session(void) {
 
 static void use_images(void) {
     struct ptpm_manager_settings managers[MANAGERS];
-    size_t size = 0, gone = 0, count = below(MANAGERS + 1);
+    size_t size = 0, gone = 0, count = below(FEW_MANAGERS + 1);
     note(ptpm_session_image(&session, message, sizeof message, &size));
     note_octets(message, size);
     if (below(2) == 0 && size > 0) damage(message, size);
@@ -176,14 +179,14 @@ static void use_images(void) {
     note(ptpm_clock_image(&agent, image, sizeof image, &size));
     note_octets(image, size);
     if (below(2) == 0 && size > 0) damage(image, size);
-    note(ptpm_clock_restore(&agent, me, PORTS, managers, count, image, size, &gone));
+    note(ptpm_clock_restore(&agent, me, ports_of_agent, managers, count, image, size, &gone));
     note(gone);
 }
 
 static void observe(void) {
     struct ptpm_observed_clock observed = { 0 };
     struct ptpm_observed_port ports[PORTS] = { { 0 } };
-    uint8_t left = 0;
+    uint64_t left = 0;
     observed.mean_path_delay = (int64_t)(state * 3);
     observed.has_mean_path_delay = 1;
     observed.utc_offset = (int16_t)below(65536);

@@ -63,13 +63,13 @@ def _parser() -> argparse.ArgumentParser:
     add("-i", "--interface", action=_Once, metavar="NAME", help="over UDP port 320 at this interface")
     add("--ipv6", action="store_true", help="with IPv6")
     add("--udp", metavar="ADDRESS", help="over UDP to this address")
-    add("--any-source", action="store_true", help="over UDP, takes answers from addresses that are not on the link")
-    add("--ttl-security", action="store_true", help="of unicast over UDP, takes only what no router has passed on")
+    add("--any-source", action="store_true", help="over UDP, also accepts addresses that are not on the link")
+    add("--ttl-security", action="store_true", help="over UDP, ignores unicast that a router has forwarded")
     add("-u", "--unix", metavar="PATH", help="on a Unix socket of this machine, such as /var/run/ptp4l")
     add("-T", "--target", metavar="IDENTITY", help="the clock, such as aabbccfffeddee01 or aabbcc.fffe.ddee01-1 for its port 1")
     add("-p", "--port", type=_number(0, 65535), help="the clock's port, instead of one after IDENTITY")
     add("-d", "--domain", action=_Once, type=_number(0, 255), default=0)
-    add("-b", "--hops", type=_number(0, 255), default=1, help="boundary clocks that pass the request on")
+    add("-b", "--hops", type=_number(0, 255), default=1, help="how many boundary clocks forward the request")
     add("-m", "--manager", metavar="IDENTITY-PORT", help="the manager's own identity; by default the MAC of the interface with its local bit inverted")
     add("-k", "--numbers", metavar="FILE", help="the file of the manager's session with the clock")
     add("--give-up", action="store_true", help="abandons the unanswered request of an earlier run")
@@ -130,7 +130,7 @@ class Task:
             except ValueError as error:
                 raise ValueError(f"set {words.id} {' '.join(value)}: {error}") from None
         if len(value) > 1:
-            raise ValueError(f"{value[1]}: there is a word too many")
+            raise ValueError(f"{value[1]}: there are too many words")
         if words.text:
             return data_field(self.id, value[0])
         if not re.fullmatch("([0-9a-fA-F]{4})*", value[0]):
@@ -140,17 +140,17 @@ class Task:
     def _judge(self) -> None:
         words = self.words
         if words.unix is None and words.interface is None and words.udp is None:
-            raise ValueError("the way to the clock is missing: --interface NAME, --udp ADDRESS or --unix PATH")
+            raise ValueError("the transport is missing: --interface NAME, --udp ADDRESS or --unix PATH")
         if words.unix is not None and (words.interface is not None or words.udp is not None or words.ipv6):
-            raise ValueError("--unix is without --interface, --udp and --ipv6")
+            raise ValueError("--unix excludes --interface, --udp and --ipv6")
         if self.action is None and self.target is not None:
             raise ValueError("survey asks every clock: it takes no --target")
         if self.action is not None and self.target is None:
             raise ValueError("--target is missing: the clock that is asked; survey asks every clock")
         if words.numbers is not None and is_beyond_session(self.port):
-            raise ValueError(f"--numbers: no session is kept of a port above {SESSION_PORTS}, which no clock of ptpm has")
+            raise ValueError(f"--numbers: a request to a port above {SESSION_PORTS} has no session")
         if words.give_up and not self.is_numbered:
-            raise ValueError("--give-up: no session is kept of what is asked")
+            raise ValueError("--give-up: this request has no session")
 
     def way(self) -> Transport:
         """The socket that it uses."""
@@ -161,8 +161,7 @@ class Task:
 
     @property
     def is_numbered(self) -> bool:
-        """Whether who asks is the same in each run, so that a clock may have kept an answer of his. Nothing is kept of a port above 255,
-        which no clock of ptpm has."""
+        """Whether the same manager asks in each run, so that a clock may have cached an answer to it. No session has a port above 255."""
         words = self.words
         by_one_manager = words.manager is not None or words.numbers is not None
         may_be_kept = self.action is not None and not is_beyond_session(self.port)
@@ -224,7 +223,7 @@ class Task:
         return status
 
     def _finish_in(self, session: Session, way: Transport) -> Report:
-        """What became of the request of an earlier run. If it has no answer, it is said what can be done."""
+        """Reports the request of an earlier run. If that has no answer, it says what can be done."""
         domain = session.earlier_domain
         try:
             return session.finish(way, timeout=self.words.timeout / 1000)
@@ -283,7 +282,7 @@ def _print(reports: List[Report], is_hexadecimal: bool) -> int:
 
 
 def _why(error: Exception) -> str:
-    """What is wrong. Of a file, a socket or an interface it is said which one."""
+    """What is wrong, with the name of the file, socket or interface."""
     if not isinstance(error, OSError) or error.strerror is None:
         return str(error)
     return error.strerror if error.filename is None else f"{error.filename}: {error.strerror}"

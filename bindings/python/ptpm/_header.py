@@ -15,6 +15,7 @@ if sizeof(c_void_p) != 8 or sys.byteorder != "little":
 # tools/bindings -u writes all that follows from ptpm.h.
 
 PTPM_VERSION = "0.1.0"; PTPM_VERSION_NUMBER = 100
+PTPM_MOST_PORTS = 64; PTPM_MOST_MANAGERS = 64
 PTPM_DELAY_E2E = 1; PTPM_DELAY_P2P = 2; PTPM_DELAY_NONE = 0xFE
 PTPM_CLOCK_SET = 1; PTPM_PORT_SET = 2; PTPM_PORT_COMMAND = 4
 PTPM_AGREES = 0; PTPM_OBJECTS = 1; PTPM_GIVES = 2
@@ -94,8 +95,8 @@ PTPM_SURVEY_BAD_TLV_TYPE = 21; PTPM_SURVEY_BAD_TLV_LENGTH = 22; PTPM_SURVEY_BAD_
 PTPM_SURVEY_NO_MEMORY = 35; PTPM_SURVEY_NO_SURVEY = 46
 PTPM_VALUE = 0; PTPM_DONE = 25; PTPM_REFUSED = 26; PTPM_REPORT_NO_ROOM = 34; PTPM_REPORT_NO_SESSION = 37; PTPM_NO_REPORT = 45
 PTPM_REPORT_NO_SURVEY = 46; PTPM_REPORT_NO_ASKER = 120
-PTPM_SAVED = 0; PTPM_ACT_NOW = 31; PTPM_SAVE_NO_CLOCK = 32; PTPM_SAVE_NO_ROOM = 34; PTPM_SAVE_NO_SESSION = 37
-PTPM_OTHER_IMAGE = 119
+PTPM_SAVED = 0; PTPM_ACT_NOW = 31; PTPM_SAVE_NO_CLOCK = 32; PTPM_SAVE_NO_ROOM = 34; PTPM_SAVE_NO_MEMORY = 35
+PTPM_SAVE_NO_SESSION = 37; PTPM_OTHER_IMAGE = 119
 PTPM_RESTORED = 0; PTPM_RESTORE_NO_MEMORY = 35; PTPM_RESTORE_TOO_MANY_MANAGERS = 51; PTPM_RESTORE_MANAGER_TWICE = 52
 PTPM_RESTORE_IDENTITY_IS_ZERO = 56; PTPM_NOT_AN_IMAGE = 104; PTPM_OTHER_VERSION = 105; PTPM_OTHER_KIND = 106; PTPM_DAMAGED = 107
 PTPM_OTHER_CLOCK = 108; PTPM_OTHER_PORTS = 109; PTPM_OTHER_SESSION = 110
@@ -247,7 +248,7 @@ class ptpm_sent(Structure):
 
 
 class ptpm_changed(Structure):
-    _fields_ = [("clock", c_uint32), ("ports", c_uint8 * 8)]
+    _fields_ = [("clock", c_uint32), ("ports", c_uint8 * 64)]
 
 
 class ptpm_taken(Structure):
@@ -354,7 +355,7 @@ CALLS: Dict[str, Tuple[Any, List[Any]]] = {
     "ptpm_clock_set": (c_uint32, [POINTER(ptpm_clock), c_uint8, c_uint16, c_uint16, c_char_p, c_size_t, POINTER(ptpm_changed),
         POINTER(c_uint16)]),
     "ptpm_clock_observe": (c_uint32, [POINTER(ptpm_clock), POINTER(ptpm_observed_clock), POINTER(ptpm_observed_port), c_size_t,
-        POINTER(c_uint8)]),
+        POINTER(c_uint64)]),
     "ptpm_clock_read": (c_uint32, [POINTER(ptpm_clock), c_uint16, c_uint16, POINTER(c_uint8), c_size_t, POINTER(c_size_t)]),
     "ptpm_clock_image": (c_uint32, [POINTER(ptpm_clock), POINTER(c_uint8), c_size_t, POINTER(c_size_t)]),
     "ptpm_clock_transit": (c_size_t, [POINTER(ptpm_clock), c_uint16, c_char_p, c_size_t, POINTER(ptpm_sent), c_size_t]),

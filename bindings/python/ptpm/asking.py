@@ -81,9 +81,9 @@ class Answerer:
         """What is known if there is no answer, each after a semicolon."""
         why = [f"what came from {sender} is ignored, {reason}" for sender, reason in way.not_taken.items()]
         if self._guesses > _FEW:
-            why.append(f"{self._guesses} answers had numbers that were not asked: somebody guesses numbers, or asks by this manager too")
+            why.append(f"{self._guesses} answers had numbers that were not asked: someone guesses numbers, or also asks as this manager")
         if self._elsewhere is not None:
-            why.append(f"an answer from {self._elsewhere.sender} came by a different way than the first one, and is ignored")
+            why.append(f"an answer from {self._elsewhere.sender} came by a different path than the first one, and is ignored")
         return "".join(f"; {one}" for one in why)
 
 

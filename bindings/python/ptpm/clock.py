@@ -63,8 +63,14 @@ def came_in(port: int, octets: bytes) -> Tuple[Any, ...]:
     return port_number(port), datagram, len(datagram)
 
 
+def _image_bound(ports: int, managers: int) -> int:
+    """The most octets of an image: PTPM_CLOCK_IMAGE_BOUND of the header. Counts that no clock has make no room for them."""
+    ports, managers = (min(max(count, 0), most) for count, most in ((ports, header.PTPM_MOST_PORTS), (managers, header.PTPM_MOST_MANAGERS)))
+    return 417 + 15 * ports + managers * (1438 + 30 * max(ports, 8))
+
+
 class Clock(Handle):
-    """The data sets of one clock, and what becomes of each management message that comes in at its ports.
+    """The data sets of one clock of up to 64 ports, and what becomes of each management message that comes in at its ports.
 
     >>> with Clock(ClockSettings("aabbccfffeddee01", priority1=100), [PortSettings()]) as clock:
     ...     clock.read("PRIORITY1").hex()
@@ -72,15 +78,16 @@ class Clock(Handle):
     """
 
     def __init__(self, settings: ClockSettings, ports: Sequence[PortSettings], managers: Sequence[Manager] = ()) -> None:
-        self._begin()
+        self._begin(len(ports), len(managers))
         places = _array(header.ptpm_port_settings, [port.as_in_c() for port in ports])
         trusted = _trusted(settings.identity, managers)
         struct = settings.as_in_c()
         done(self._call(library.ptpm_clock_start, ctypes.byref(struct), places, len(ports), trusted, len(managers)))
 
-    def _begin(self) -> None:
-        """A handle that holds nothing, and room for what a turn sends."""
+    def _begin(self, ports: int, managers: int) -> None:
+        """A handle that holds nothing. It will have these ports and managers."""
         super().__init__(header.ptpm_clock, library.ptpm_clock_stop)
+        self._image_room = _image_bound(ports, managers)
         self._rooms: List[Any] = []  # for what a turn sends; a signal handler in a turn takes another one
 
     @classmethod
@@ -90,7 +97,7 @@ class Clock(Handle):
         all else comes from the image. What is refused is no reason to start a fresh clock. It would carry out requests again
         that were carried out before."""
         clock = cls.__new__(cls)
-        clock._begin()
+        clock._begin(ports, len(managers))
         gone = ctypes.c_size_t()
         trusted = _trusted(identity, managers)
         octets, own = octets_of(image), Identity.of(identity).octets
@@ -101,7 +108,7 @@ class Clock(Handle):
     def image(self) -> bytes:
         """The clock's image: what a host saves before it sends the messages of a turn that is ANSWERED_NEW. Managers and their rights
         are not in it."""
-        return written(self._call, library.ptpm_clock_image, header.PTPM_CLOCK_IMAGE_OCTETS)
+        return written(self._call, library.ptpm_clock_image, self._image_room)
 
     def __enter__(self) -> Clock:
         return self
@@ -150,16 +157,14 @@ class Clock(Handle):
         return Changed.of_library(changed)
 
     def most_sent(self) -> int:
-        """The most messages that one datagram makes. A copy goes out at each other port, and an
-        answer of each port. It is more only if a kept reply has more answers, which only an image that another program has made can
-        bring."""
+        """The most messages that one datagram makes: a copy for each other port, and an answer of each port."""
         return self._call(library.ptpm_clock_most_sent)
 
     @contextmanager
     def _room(self) -> Iterator[Any]:
         """Places for what a turn sends."""
         with self._turn:
-            room = self._rooms.pop() if self._rooms else (header.ptpm_sent * header.PTPM_MOST_SENT)()
+            room = self._rooms.pop() if self._rooms else (header.ptpm_sent * max(1, self.most_sent()))()
             try:
                 yield room
             finally:
@@ -174,11 +179,11 @@ class Clock(Handle):
     def observe(self, observed: ObservedClock, ports: Sequence[ObservedPort] = ()) -> Set[int]:
         """Sets what the host observes about its clock and its first ports. Returns the disabled ports for which a state was
         observed: they stay disabled, and the host stops them."""
-        left = ctypes.c_uint8()
+        left = ctypes.c_uint64()
         struct = observed.as_in_c()
         places = _array(header.ptpm_observed_port, [port.as_in_c() for port in ports])
         done(self._call(library.ptpm_clock_observe, ctypes.byref(struct), places, len(ports), ctypes.byref(left)))
-        return {port for port in range(1, 9) if left.value >> port - 1 & 1}
+        return {port for port in range(1, header.PTPM_MOST_PORTS + 1) if left.value >> port - 1 & 1}
 
     def read(self, named: IdLike, port: int = 0) -> bytes:
         """Reads the answer that a GET of a managementId would get: the dataField. The port matters only for an id of a port."""

@@ -23,7 +23,7 @@ def is_beyond_session(port: int) -> bool:
 
 def not_kept(port: int) -> ValueError:
     """Why a request is refused that would be kept."""
-    return ValueError(f"port {port}: no session is kept of a port above {SESSION_PORTS}, which no clock of ptpm has")
+    return ValueError(f"port {port}: a request to a port above {SESSION_PORTS} has no session")
 
 
 def _is_error_of(datagram: bytes, clock: bytes) -> bool:

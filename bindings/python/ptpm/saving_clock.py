@@ -105,7 +105,7 @@ class SavingClock:
     def image(self) -> Tuple[bytes, int]:
         """The clock's image, and its token. An earlier image can't be confirmed any more."""
         size, token = ctypes.c_size_t(), ctypes.c_uint64()
-        room = (ctypes.c_uint8 * header.PTPM_CLOCK_IMAGE_OCTETS)()
+        room = (ctypes.c_uint8 * self._clock._image_room)()
         done(self._clock._call(library.ptpm_clock_image_of, room, len(room), ctypes.byref(size), ctypes.byref(token)))
         return bytes(room[: size.value]), token.value
 

@@ -100,7 +100,7 @@ def site(
     """Looks at a whole site as `ptpm-manage status` does: asks every clock, and looks again while something is undecided, unless `once`
     is set.
 
-    The way is one or up to eight `interfaces` (UDP over IPv4, or `ipv6`, or `ethernet`), an address (`udp`), or a socket (`unix`).
+    The transport is one or up to eight `interfaces` (UDP over IPv4, or `ipv6`, or `ethernet`), an address (`udp`), or a socket (`unix`).
     Or `lines` are those that were collected before, a datagram in hexadecimal each, which `ptpm site` judges. `domains` is one, a range
     such as "0-7", or "all", and `sdo` their sdoId, such as 0x100, or "all". A DomainIdentity is one domain of its own sdoId. In seconds,
     `timeout` is how long a clock has for an answer, and `listen` how long clocks are listened for. `limit` is how long the program may
@@ -113,7 +113,7 @@ def site(
     )
     if lines is not None:
         if (interfaces or unix or udp) is not None:
-            raise ValueError("lines that were collected before take no way to the clocks")
+            raise ValueError("lines that were collected before take no transport")
         kept = tuple(line.strip() for line in lines)
         return replace(_shown([_program("ptpm", "ptpm"), "site", *judging], "".join(f"{line}\n" for line in kept), limit), lines=kept)
     if isinstance(domains, DomainIdentity):

@@ -132,7 +132,7 @@ class AnswersOfOthers(Folder):
         sent: List[bytes] = []
         path, settings = f"{self.folder}/numbers", ptpm.SessionSettings(MANAGER, CLOCK, 7)
         with ptpm.SessionFile(MANAGER, CLOCK, path) as file, ptpm.Session(settings, file, wait=0) as session:
-            with self.assertRaisesRegex(ValueError, "port 300: no session is kept of a port above 255"):
+            with self.assertRaisesRegex(ValueError, "port 300: a request to a port above 255 has no session"):
                 session.ask(Way(lambda request: sent.append(request) or request), ptpm.Action.SET, "LOG_SYNC_INTERVAL", 1, 300)
         self.assertEqual((sent, os.path.exists(path)), ([], False))
         requests = ptpm.Requests(settings)
@@ -163,8 +163,8 @@ class AnswersOfOthers(Folder):
         self.assertEqual([port for _, port in asked], [b"\1\x2c"] * 2)
         self.assertEqual(([who == manager for who, _ in asked], asked[1][0][8] >= 0xF0), ([True, False], True))
         self.assertFalse(os.path.exists(f"{self.folder}/state"))
-        for words, why in ((["-k", f"{self.folder}/numbers"], "--numbers: no session is kept of a port above 255, which no clock of ptpm has"),
-                           (["--give-up"], "--give-up: no session is kept of what is asked")):
+        for words, why in ((["-k", f"{self.folder}/numbers"], "--numbers: a request to a port above 255 has no session"),
+                           (["--give-up"], "--give-up: this request has no session")):
             words = [sys.executable, "-m", "ptpm", "-u", path, *words, "-T", CLOCK, "-p", "300", "get", "LOG_SYNC_INTERVAL"]
             ran = subprocess.run(words, capture_output=True, text=True, check=False)
             self.assertEqual((ran.returncode, ran.stdout, ran.stderr), (2, "", f"ptpm: {why}\n"))

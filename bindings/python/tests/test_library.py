@@ -172,14 +172,27 @@ class Clocks(unittest.TestCase):
         self.refused("OTHER_CLOCK", lambda: ptpm.Clock.restore("aabbccfffeddee02", 2, managers, image))
         self.refused("MANAGER_TWICE", lambda: ptpm.Clock.restore(CLOCK, 3, managers * 2, image))
 
+    def test_a_switch_has_64_ports(self) -> None:
+        with ptpm.Clock(ptpm.ClockSettings(CLOCK), [ptpm.PortSettings()] * 64, [ptpm.Manager(MANAGER)]) as switch:
+            self.assertEqual(switch.most_sent(), 127)
+            every = switch.handle(1, request(7, CLOCK + "ffff", 0, 1, "200bff00"))
+            self.assertEqual([octets[28:30].hex() for _, octets in every.messages], [f"{port:04x}" for port in range(1, 65)])
+            self.assertEqual(every.changed.ports, (PortMembers.LOG_SYNC,) * 64)
+            switch.handle(1, request(8, CLOCK + "0040", 0, 3, "200e"))
+            self.assertEqual(switch.observe(ptpm.ObservedClock(), [ptpm.ObservedPort(ptpm.PortState.SLAVE)] * 64), {64})
+            image = switch.image()
+        back, _ = ptpm.Clock.restore(CLOCK, 64, [ptpm.Manager(MANAGER)], image)
+        with back:
+            self.assertEqual(back.image(), image)
+
     def test_refusals_have_names(self) -> None:
         def start(ports: int, managers: int = 0, text: str = "") -> None:
             settings = ptpm.ClockSettings(CLOCK, user_description=text)
             ptpm.Clock(settings, [ptpm.PortSettings()] * ports, [ptpm.Manager(MANAGER)] * managers).close()
 
         self.refused("NO_PORTS", lambda: start(0))
-        self.refused("TOO_MANY_PORTS", lambda: start(9))
-        self.refused("TOO_MANY_MANAGERS", lambda: start(1, 17))
+        self.refused("TOO_MANY_PORTS", lambda: start(65))
+        self.refused("TOO_MANY_MANAGERS", lambda: start(1, 65))
         self.refused("MANAGER_TWICE", lambda: start(1, 2))
         for size in (129, 130, 255, 256, 300):
             self.refused("BAD_USER_DESCRIPTION", lambda: start(1, 0, "a" * size))

@@ -1,5 +1,6 @@
 //! Which members of the data sets have another value than before.
 
+use crate::clock::MOST_PORTS;
 use crate::sys;
 use core::ops::BitOr;
 
@@ -53,12 +54,19 @@ members! {
 }
 
 /// Which members have another value after a datagram than before it.
-#[derive(Clone, Copy, Debug, Default, PartialEq, Eq)]
+#[derive(Clone, Copy, Debug, PartialEq, Eq)]
 pub struct Changed {
     /// Those of the clock.
     pub clock: ClockMembers,
     /// Those of port 1, port 2 and so on.
-    pub ports: [PortMembers; 8],
+    pub ports: [PortMembers; MOST_PORTS],
+}
+
+impl Default for Changed {
+    /// Nothing changed.
+    fn default() -> Self {
+        Self { clock: ClockMembers::default(), ports: [PortMembers::default(); MOST_PORTS] }
+    }
 }
 
 impl Changed {

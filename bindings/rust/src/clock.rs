@@ -16,14 +16,24 @@ use core::ptr::null_mut;
 /// The most octets of a dataField that a clock reads.
 pub const MOST_READ: usize = sys::PTPM_MOST_READ;
 
-/// The most octets of a clock's image.
+/// The most ports that a clock has.
+pub const MOST_PORTS: usize = sys::PTPM_MOST_PORTS;
+
+/// The most octets of the image of a clock of up to eight ports and sixteen managers.
 pub const CLOCK_IMAGE_OCTETS: usize = sys::PTPM_CLOCK_IMAGE_OCTETS;
 
-/// More ports than a clock has.
-const MORE_PORTS: usize = 9;
+/// The most octets of the image of a clock with this number of ports, and this of managers.
+pub const fn clock_image_octets(ports: usize, managers: usize) -> usize {
+    417 + 15 * ports + managers * (1438 + 30 * if ports > 8 { ports } else { 8 })
+}
 
-/// The data sets of a clock, and what becomes of each management message that comes in at its ports. It has about 700 octets on
-/// the heap, and 2,136 for each manager, and is stopped when it is dropped.
+const _: () = assert!(clock_image_octets(8, 16) == CLOCK_IMAGE_OCTETS);
+
+/// More ports than a clock has.
+const MORE_PORTS: usize = MOST_PORTS + 1;
+
+/// The data sets of a clock, and what becomes of each management message that comes in at its ports. Up to eight ports have about
+/// 600 octets on the heap, and 2,144 for each manager. It is stopped when it is dropped.
 pub struct Clock {
     handle: sys::ptpm_clock,
 }
@@ -56,7 +66,7 @@ impl<'a> Turn<'a> {
 
 /// Some ports of a clock.
 #[derive(Clone, Copy, Debug, Default, PartialEq, Eq, Hash)]
-pub struct Ports(u8);
+pub struct Ports(u64);
 
 impl Ports {
     /// Whether there is none.
@@ -66,12 +76,12 @@ impl Ports {
 
     /// Their numbers.
     pub fn iter(self) -> impl Iterator<Item = u16> {
-        (1..=8).filter(move |port| self.0 >> (port - 1) & 1 == 1)
+        (1..=MOST_PORTS as u16).filter(move |port| self.0 >> (port - 1) & 1 == 1)
     }
 }
 
 impl Clock {
-    /// Starts a clock with one to eight ports and at most sixteen managers. The first port is port 1.
+    /// Starts a clock with 1 to 64 ports and at most 64 managers. The first port is port 1.
     ///
     /// # Errors
     ///
@@ -104,8 +114,8 @@ impl Clock {
     ///
     /// The first of [`Error::TooManyManagers`], [`Error::ManagerTwice`], [`Error::IdentityIsZero`], [`Error::NotAnImage`],
     /// [`Error::OtherVersion`], [`Error::OtherKind`], [`Error::Damaged`], [`Error::OtherClock`], [`Error::OtherPorts`] and
-    /// [`Error::NoMemory`] that holds. That is no reason to start a fresh clock: it would carry out requests again that were
-    /// carried out before.
+    /// [`Error::NoMemory`] that holds. The last comes earlier for a clock of over eight ports. That is no reason to start a fresh
+    /// clock: it would carry out requests again that were carried out before.
     pub fn restore(identity: Identity, ports: usize, managers: &[Manager], image: &[u8]) -> Result<(Self, usize), Error> {
         done(sys::ptpm_header_agrees())?;
         let mut clock = Self::none();
@@ -144,7 +154,11 @@ impl Clock {
 
     /// Makes the clock's image in the room that it is given. A host saves it before it sends the messages of a turn that is
     /// [`Handled::AnsweredNew`]. Managers and their rights are not in it.
-    pub fn image<'a>(&self, room: &'a mut [u8; CLOCK_IMAGE_OCTETS]) -> Result<&'a [u8], Error> {
+    ///
+    /// # Errors
+    ///
+    /// [`Error::NoRoom`]: there may be fewer octets than [`clock_image_octets`] says.
+    pub fn image<'a>(&self, room: &'a mut [u8]) -> Result<&'a [u8], Error> {
         let mut size = 0;
         // SAFETY: the octets and the size may be written; the octets are borrowed mutably, so they lie apart from the rest.
         done(unsafe { sys::ptpm_clock_image(&self.handle, room.as_mut_ptr(), room.len(), &mut size) })?;
@@ -210,9 +224,7 @@ impl Clock {
         Ok(&room[..size])
     }
 
-    /// The most messages that one datagram makes. A copy goes out at each other port, and an
-    /// answer of each port. It is more only if a kept reply has more answers, which only an image that another program has made
-    /// can bring.
+    /// The most messages that one datagram makes: a copy for each other port, and an answer of each port.
     pub fn most_sent(&self) -> usize {
         // SAFETY: the handle may be read.
         unsafe { sys::ptpm_clock_most_sent(&self.handle) }

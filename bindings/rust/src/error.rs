@@ -63,9 +63,9 @@ errors! {
     NoSurvey = PTPM_NO_SURVEY, "the handle holds no survey";
     OtherSizes = PTPM_OTHER_SIZES, "the library that is linked is of another version";
     NoPorts = PTPM_NO_PORTS, "a clock has a port or more";
-    TooManyPorts = PTPM_TOO_MANY_PORTS, "a clock has eight ports at most, and that of a session 255";
+    TooManyPorts = PTPM_TOO_MANY_PORTS, "a clock has 64 ports at most, and that of a session 255";
     GrandmasterDiffers = PTPM_GRANDMASTER_DIFFERS, "the clock is its own grandmaster, with another priority or quality";
-    TooManyManagers = PTPM_TOO_MANY_MANAGERS, "a clock has sixteen managers at most";
+    TooManyManagers = PTPM_TOO_MANY_MANAGERS, "a clock has 64 managers at most";
     ManagerTwice = PTPM_MANAGER_TWICE, "a manager is named twice, or nobody of an asker is its manager";
     ManagerIsEvery = PTPM_MANAGER_IS_EVERY, "the manager's identity is all ones, which means every clock";
     TargetIsEvery = PTPM_TARGET_IS_EVERY, "the managed clock's identity is all ones, which means every clock";

@@ -87,7 +87,7 @@ mod time_interval;
 pub use answers::{Handled, Received, Surveyed};
 pub use asker::{Asker, AskerSettings, Earlier, Handed, Request, DRAWN_OCTETS};
 pub use changed::{Changed, ClockMembers, PortMembers};
-pub use clock::{Clock, Ports, Turn, CLOCK_IMAGE_OCTETS, MOST_READ};
+pub use clock::{clock_image_octets, Clock, Ports, Turn, CLOCK_IMAGE_OCTETS, MOST_PORTS, MOST_READ};
 #[cfg(feature = "alloc")]
 pub use data_field::NoField;
 pub use data_sets::{ClockQuality, CurrentDataSet, DataSet, DefaultDataSet, ParentDataSet, PortDataSet, TimePropertiesDataSet};

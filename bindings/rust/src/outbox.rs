@@ -8,14 +8,15 @@ use core::iter::FusedIterator;
 use core::mem::MaybeUninit;
 use core::slice;
 
-/// Room for the messages that a clock makes for a datagram, 1,476 octets for each place. Fifteen places are enough for every clock, and
-/// one for a clock of one port ([`Clock::most_sent`](crate::Clock::most_sent)). It is used again and again.
+/// Room for the messages that a clock makes for a datagram, 1,476 octets for each place. Fifteen places are enough for a clock of up to
+/// eight ports, one for a clock of one port, and 127 for every clock ([`Clock::most_sent`](crate::Clock::most_sent)). It is used again
+/// and again.
 pub struct Outbox<const PLACES: usize = { sys::PTPM_MOST_SENT }> {
     places: [MaybeUninit<sys::ptpm_sent>; PLACES],
 }
 
 impl Outbox {
-    /// Room for every clock, in a place that the host provides; nothing is written.
+    /// Room for a clock of up to eight ports, in a place that the host provides; nothing is written.
     pub const fn new() -> Self {
         Self::with_places()
     }

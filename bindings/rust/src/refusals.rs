@@ -87,7 +87,7 @@ refusals! {
     /// Why nothing is reported (`enum ptpm_reported`).
     ReportError { NoRoom NoSession NoReport NoSurvey NoAsker }
     /// Why there is no image, or nothing is saved by one (`enum ptpm_saved`).
-    SaveError { NoClock NoRoom NoSession OtherImage }
+    SaveError { NoClock NoRoom NoMemory NoSession OtherImage }
     /// Why nothing is restored (`enum ptpm_restored`).
     RestoreError {
         NoMemory OtherSizes TooManyManagers ManagerTwice IdentityIsZero NotAnImage OtherVersion OtherKind Damaged OtherClock OtherPorts OtherSession

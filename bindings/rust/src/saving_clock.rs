@@ -1,7 +1,7 @@
 //! The agent of one clock that is saved while it takes datagrams.
 
 use crate::changed::Changed;
-use crate::clock::{Clock, Ports, CLOCK_IMAGE_OCTETS, MOST_READ};
+use crate::clock::{Clock, Ports, MOST_READ};
 use crate::device::{Asked, Say, Taken};
 use crate::error::{done, judged, Error};
 use crate::id::{ManagementErrorId, ManagementId};
@@ -26,7 +26,7 @@ use crate::sys;
 /// let manager = Manager::new("0011223344556677/1".parse()?, Rights::ALL);
 /// let mut clock = SavingClock::new(Clock::start(&settings, &[PortSettings::new()], &[manager])?, 4)?;
 /// let (mut outbox, mut room) = (Outbox::boxed(), Box::new([0; CLOCK_IMAGE_OCTETS]));
-/// let (image, token) = clock.image(&mut room)?; // a clock that was started is not saved yet
+/// let (image, token) = clock.image(&mut room[..])?; // a clock that was started is not saved yet
 /// store(image);
 /// clock.saved(token)?;
 /// # let datagram = b"\x0d\x12\0\x36\0\0\0\0\0\0\0\0\0\0\0\0\0\0\0\0\x00\x11\x22\x33\x44\x55\x66\x77\0\x01\0\x07\x04\x7f\
@@ -37,7 +37,7 @@ use crate::sys;
 /// }
 /// # assert_eq!(taken.waiting, 1);
 /// if clock.is_unsaved() {
-///     let (image, token) = clock.image(&mut room)?;
+///     let (image, token) = clock.image(&mut room[..])?;
 ///     store(image); // datagrams may come in meanwhile
 ///     clock.saved(token)?;
 ///     while let Some((port, octets)) = clock.next_message(&mut outbox) {
@@ -122,13 +122,13 @@ impl SavingClock {
     /// # let manager = Manager::new("0011223344556677/1".parse()?, Rights::ALL);
     /// # let mut clock = SavingClock::new(Clock::start(&settings, &[PortSettings::new()], &[manager])?, 4)?;
     /// # let (mut outbox, mut room) = (Outbox::boxed(), Box::new([0; CLOCK_IMAGE_OCTETS]));
-    /// # let (_, token) = clock.image(&mut room)?;
+    /// # let (_, token) = clock.image(&mut room[..])?;
     /// # clock.saved(token)?;
     /// # let datagram = b"\x0d\x12\0\x38\0\0\0\0\0\0\0\0\0\0\0\0\0\0\0\0\x00\x11\x22\x33\x44\x55\x66\x77\0\x01\0\x07\x04\x7f\
     /// #     \xaa\xbb\xcc\xff\xfe\xdd\xee\x01\xff\xff\x01\x01\x01\0\0\x01\0\x04\x20\x05\x64\0";
     /// # assert!(clock.under_way().is_none());
     /// if let Some(asked) = clock.undertake(1, datagram)? {
-    ///     let (image, token) = clock.image(&mut room)?;
+    ///     let (image, token) = clock.image(&mut room[..])?;
     ///     store(image);
     ///     if clock.saved(token)? == Saved::ActNow {
     ///         let said = write_to_device(&asked);
@@ -174,8 +174,8 @@ impl SavingClock {
     ///
     /// # Errors
     ///
-    /// None of a clock that is held.
-    pub fn image<'a>(&mut self, room: &'a mut [u8; CLOCK_IMAGE_OCTETS]) -> Result<(&'a [u8], ImageToken), Error> {
+    /// Those of [`Clock::image`], and [`Error::NoMemory`] of a clock of over eight ports.
+    pub fn image<'a>(&mut self, room: &'a mut [u8]) -> Result<(&'a [u8], ImageToken), Error> {
         let (mut size, mut token) = (0, 0);
         let (octets, most) = (room.as_mut_ptr(), room.len());
         // SAFETY: the octets, the size and the token may be written; the octets are borrowed mutably, so they lie apart.

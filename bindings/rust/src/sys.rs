@@ -31,6 +31,7 @@ pub const PTPM_ID_LOG_SYNC_INTERVAL: u16 = 0x200b; pub const PTPM_ID_VERSION_NUM
 pub const PTPM_ID_ENABLE_PORT: u16 = 0x200d; pub const PTPM_ID_DISABLE_PORT: u16 = 0x200e;
 pub const PTPM_ID_CLOCK_ACCURACY: u16 = 0x2010; pub const PTPM_ID_UTC_PROPERTIES: u16 = 0x2011;
 pub const PTPM_ID_DELAY_MECHANISM: u16 = 0x6000; pub const PTPM_ID_LOG_MIN_PDELAY_REQ_INTERVAL: u16 = 0x6001;
+pub const PTPM_MOST_PORTS: usize = 64; pub const PTPM_MOST_MANAGERS: usize = 64;
 pub const PTPM_STATE_INITIALIZING: u8 = 1; pub const PTPM_STATE_FAULTY: u8 = 2; pub const PTPM_STATE_DISABLED: u8 = 3;
 pub const PTPM_STATE_LISTENING: u8 = 4; pub const PTPM_STATE_PRE_MASTER: u8 = 5; pub const PTPM_STATE_MASTER: u8 = 6;
 pub const PTPM_STATE_PASSIVE: u8 = 7; pub const PTPM_STATE_UNCALIBRATED: u8 = 8; pub const PTPM_STATE_SLAVE: u8 = 9;
@@ -188,8 +189,8 @@ pub type ptpm_reported = u32; pub const PTPM_VALUE: u32 = 0; pub const PTPM_DONE
 pub const PTPM_REPORT_NO_ROOM: u32 = 34; pub const PTPM_REPORT_NO_SESSION: u32 = 37; pub const PTPM_NO_REPORT: u32 = 45;
 pub const PTPM_REPORT_NO_SURVEY: u32 = 46; pub const PTPM_REPORT_NO_ASKER: u32 = 120;
 pub type ptpm_saved = u32; pub const PTPM_SAVED: u32 = 0; pub const PTPM_ACT_NOW: u32 = 31;
-pub const PTPM_SAVE_NO_CLOCK: u32 = 32; pub const PTPM_SAVE_NO_ROOM: u32 = 34; pub const PTPM_SAVE_NO_SESSION: u32 = 37;
-pub const PTPM_OTHER_IMAGE: u32 = 119;
+pub const PTPM_SAVE_NO_CLOCK: u32 = 32; pub const PTPM_SAVE_NO_ROOM: u32 = 34; pub const PTPM_SAVE_NO_MEMORY: u32 = 35;
+pub const PTPM_SAVE_NO_SESSION: u32 = 37; pub const PTPM_OTHER_IMAGE: u32 = 119;
 pub type ptpm_restored = u32; pub const PTPM_RESTORED: u32 = 0; pub const PTPM_RESTORE_NO_MEMORY: u32 = 35;
 pub const PTPM_RESTORE_TOO_MANY_MANAGERS: u32 = 51; pub const PTPM_RESTORE_MANAGER_TWICE: u32 = 52;
 pub const PTPM_RESTORE_IDENTITY_IS_ZERO: u32 = 56; pub const PTPM_NOT_AN_IMAGE: u32 = 104;
@@ -262,7 +263,7 @@ pub struct ptpm_manager_settings { pub clock: [u8; 8], pub port: u16, pub rights
 #[repr(C)] #[derive(Clone, Copy)]
 pub struct ptpm_sent { pub port: u16, pub size: u16, pub octets: [u8; 1472] }
 #[repr(C)] #[derive(Clone, Copy)]
-pub struct ptpm_changed { pub clock: u32, pub ports: [u8; 8] }
+pub struct ptpm_changed { pub clock: u32, pub ports: [u8; 64] }
 #[repr(C)] #[derive(Clone, Copy)]
 pub struct ptpm_taken { pub count: u64, pub waiting: u64, pub changed: ptpm_changed }
 #[repr(C)] #[derive(Clone, Copy)]
@@ -367,7 +368,7 @@ extern "C" {
     pub fn ptpm_clock_set(clock: *mut ptpm_clock, action: u8, id: u16, port: u16, octets: *const u8, size: usize,
         changed: *mut ptpm_changed, error: *mut u16) -> ptpm_set_here;
     pub fn ptpm_clock_observe(clock: *mut ptpm_clock, observed: *const ptpm_observed_clock, ports: *const ptpm_observed_port,
-        port_count: usize, left: *mut u8) -> ptpm_observed;
+        port_count: usize, left: *mut u64) -> ptpm_observed;
     pub fn ptpm_clock_read(clock: *const ptpm_clock, id: u16, port: u16, octets: *mut u8, room: usize,
         size: *mut usize) -> ptpm_read;
     pub fn ptpm_clock_image(clock: *const ptpm_clock, octets: *mut u8, room: usize, size: *mut usize) -> ptpm_saved;

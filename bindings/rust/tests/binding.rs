@@ -2,10 +2,11 @@
 //! are those of IEEE 1588-2019, clauses 13.3, 15.4 and 15.5.
 
 use ptpm::{
-    Action, Clock, ClockMembers, ClockSettings, DelayMechanism, Error, Handled, Identity, Limit, ManagementErrorId, ManagementId,
-    Manager, Objection, ObservedClock, ObservedGrandmaster, ObservedPort, Outbox, PortDataSet, PortIdentity, PortMembers,
-    PortSettings, PortState, Received, Report, Rights, Saved, SavingClock, Say, Session, SessionSettings, Survey, SurveySettings,
-    Surveyed, Taken, TimeInterval, CLOCK_IMAGE_OCTETS, MOST_DATA, MOST_OCTETS, MOST_READ,
+    clock_image_octets, Action, Clock, ClockMembers, ClockSettings, DelayMechanism, Error, Handled, Identity, Limit,
+    ManagementErrorId, ManagementId, Manager, Objection, ObservedClock, ObservedGrandmaster, ObservedPort, Outbox, PortDataSet,
+    PortIdentity, PortMembers, PortSettings, PortState, Received, Report, Rights, Saved, SavingClock, Say, Session,
+    SessionSettings, Survey, SurveySettings, Surveyed, Taken, TimeInterval, CLOCK_IMAGE_OCTETS, MOST_DATA, MOST_OCTETS,
+    MOST_READ,
 };
 
 const CLOCK: &str = "aabbccfffeddee01";
@@ -82,7 +83,7 @@ fn a_saving_clock_shows_what_is_saved() {
     let mut get = request(7, "aabbccfffeddee010001", 0, 0, "2005");
     get[20..28].fill(9); // of a stranger
     assert_eq!(clock.take(1, &get, Say::Agrees, &mut outbox).map(|_| ()), Err(Error::Unsaved));
-    let (_, first) = clock.image(&mut room).expect("it has an image");
+    let (_, first) = clock.image(&mut room[..]).expect("it has an image");
     assert_eq!((clock.saved(first), clock.is_unsaved(), clock.free()), (Ok(Saved::Saved), false, 6));
     let asked = clock.ask(1, &set).expect("the clock has the port").expect("the device is asked");
     assert_eq!(asked.octets(), [100, 0]);
@@ -93,7 +94,7 @@ fn a_saving_clock_shows_what_is_saved() {
     assert_eq!(strangers.next().map(|(port, octets)| (port, &octets[52..])), Some((1, &[0x20, 5, 128, 0][..])));
     let owners = clock.take_of_owner(1, &get, Say::Agrees, &mut outbox).expect("it is judged");
     assert_eq!((owners.turn.messages.len(), owners.waiting), (0, 1));
-    let (image, token) = clock.image(&mut room).expect("it has an image");
+    let (image, token) = clock.image(&mut room[..]).expect("it has an image");
     assert_eq!((clock.saved(first), clock.free(), clock.is_unsaved()), (Err(Error::OtherImage), 4, true));
     assert_eq!(clock.read(ManagementId::PRIORITY1, 0, &mut value), Ok(&[128, 0][..]));
     let changed = clock.set(Action::Set, ManagementId::PRIORITY2, 0xffff, &[101, 0]).expect("it is judged").expect("it is set");
@@ -121,12 +122,34 @@ fn an_outbox_has_the_places_that_a_clock_can_use() {
 }
 
 #[test]
+fn a_switch_has_64_ports() {
+    let settings = ClockSettings::new(identity(CLOCK));
+    let mut switch = Clock::start(&settings, &[PortSettings::new(); 64], &[manager()]).expect("it starts");
+    let mut outbox = Box::new(Outbox::<127>::with_places());
+    let set = request(7, "aabbccfffeddee01ffff", 1, 1, "200bff00");
+    let Taken { turn, changed, .. } = switch.take(1, &set, Say::Agrees, &mut outbox).expect("it is judged");
+    assert_eq!(turn.messages.map(|(_, octets)| octets[29]).collect::<Vec<_>>(), (1..=64).collect::<Vec<_>>());
+    assert_eq!(changed.ports_with(PortMembers::LOG_SYNC).collect::<Vec<_>>(), (1..=64).collect::<Vec<_>>());
+    let disable = request(8, "aabbccfffeddee010040", 0, 3, "200e");
+    let _ = switch.take(1, &disable, Say::Agrees, &mut outbox).expect("it is judged");
+    let observed = [ObservedPort { state: Some(PortState::Slave), peer_delay: None }; 64];
+    let left = switch.observe(&ObservedClock::default(), &observed).expect("it is observed");
+    assert_eq!(left.iter().collect::<Vec<_>>(), [64]);
+    let mut room = vec![0; clock_image_octets(64, 1)];
+    let image = switch.image(&mut room).expect("there is room");
+    assert_eq!(
+        Clock::restore(identity(CLOCK), 64, &[manager()], image).map(|(back, gone)| (back.most_sent(), gone)),
+        Ok((127, 0))
+    );
+}
+
+#[test]
 fn a_change_is_under_way_until_the_device_says() {
     let mut clock = SavingClock::new(clock(), 6).expect("it saves");
     let (mut outbox, mut room) = (Outbox::boxed(), Box::new([0; CLOCK_IMAGE_OCTETS]));
     let set = request(7, "aabbccfffeddee010001", 0, 1, "20056400");
     assert_eq!(clock.undertake(1, &set).map(|_| ()), Err(Error::Unsaved));
-    let (_, token) = clock.image(&mut room).expect("it has an image");
+    let (_, token) = clock.image(&mut room[..]).expect("it has an image");
     assert_eq!(clock.saved(token), Ok(Saved::Saved));
     assert!(clock.undertake(1, &request(7, "aabbccfffeddee010001", 0, 0, "2005")).expect("it is judged").is_none());
     assert!(clock.under_way().is_none() && !clock.is_unsaved());
@@ -134,7 +157,7 @@ fn a_change_is_under_way_until_the_device_says() {
     assert_eq!((asked.number(), asked.action(), asked.octets()), (7, Action::Set, &[100, 0][..]));
     assert_eq!(clock.undertake(1, &set).map(|_| ()), Err(Error::UnderWay));
     assert_eq!(clock.take(1, &set, Say::Agrees, &mut outbox).map(|_| ()), Err(Error::UnderWay));
-    let (image, token) = clock.image(&mut room).expect("it has an image");
+    let (image, token) = clock.image(&mut room[..]).expect("it has an image");
     let (back, _) = Clock::restore(identity(CLOCK), 2, &[manager()], image).expect("it goes on");
     assert_eq!(clock.saved(token), Ok(Saved::ActNow));
     for (mut clock, say, answer) in [
@@ -142,13 +165,13 @@ fn a_change_is_under_way_until_the_device_says() {
         (SavingClock::new(back, 3).expect("it saves"), Say::Objects(Objection::GeneralError), &[0xff, 0xfe, 0x20, 5, 0, 0, 0, 0]),
     ] {
         assert_eq!(clock.under_way().expect("it is under way").octets(), [100, 0]);
-        let (_, token) = clock.image(&mut room).expect("it has an image");
+        let (_, token) = clock.image(&mut room[..]).expect("it has an image");
         assert_eq!(clock.saved(token), Ok(Saved::Saved));
         assert_eq!(clock.decide(Say::Gives(&[1]), &mut outbox).map(|_| ()), Err(Error::BadSay));
         let Taken { turn, waiting, .. } = clock.decide(say, &mut outbox).expect("it is decided");
         assert_eq!((turn.handled(), turn.messages.len(), waiting), (Handled::AnsweredNew, 0, 1));
         assert_eq!(clock.decide(say, &mut outbox).map(|_| ()), Err(Error::NothingUnderWay));
-        let (_, token) = clock.image(&mut room).expect("it has an image");
+        let (_, token) = clock.image(&mut room[..]).expect("it has an image");
         assert_eq!(clock.saved(token), Ok(Saved::Saved));
         assert_eq!(clock.next_message(&mut outbox).map(|(port, octets)| (port, &octets[52..])), Some((1, answer)));
     }
@@ -305,8 +328,8 @@ fn starts_are_refused_by_name() {
     };
     let settings = ClockSettings::new(identity(CLOCK));
     assert_eq!(start(&settings, 0, &[]), Err(Error::NoPorts));
-    assert_eq!(start(&settings, 9, &[]), Err(Error::TooManyPorts));
-    assert_eq!(start(&settings, 1, &[manager(); 17]), Err(Error::TooManyManagers));
+    assert_eq!(start(&settings, 65, &[]), Err(Error::TooManyPorts));
+    assert_eq!(start(&settings, 1, &[manager(); 65]), Err(Error::TooManyManagers));
     assert_eq!(start(&settings, 1, &[manager(); 2]), Err(Error::ManagerTwice));
     for size in [129, 130, 255, 256, 300] {
         let long = ClockSettings { user_description: "a".repeat(size), ..settings.clone() };

@@ -47,7 +47,7 @@ fn a_clock_goes_on_from_its_image() {
     let mut outbox = Outbox::boxed();
     assert_eq!(clock.handle(1, request, &mut outbox).expect("it is judged").handled(), Handled::AnsweredNew);
     let mut image = vec![0; CLOCK_IMAGE_OCTETS];
-    let image = clock.image(image.as_mut_slice().try_into().expect("there is room")).expect("it is made");
+    let image = clock.image(&mut image).expect("it is made");
 
     let (mut clock, gone) = Clock::restore(target, 1, &managers, image).expect("it goes on");
     assert_eq!(gone, 0);

@@ -40,7 +40,8 @@ use ptpm_table::{Heard, Look, Outbox, Outgoing, ReplyTable, Sender, SlotTable, S
 use std::mem;
 
 impl<T: ReplyTable + Drop> Agent<T> {
-    /// An agent of these data sets and this table, which are of one clock, and keeps replies of all its ports. It is made in the frame of whoever keeps it.
+    /// An agent of these data sets and this table, which are of one clock. The table keeps a reply of all ports. The agent is made in
+    /// the frame of whoever keeps it.
     #[inline(always)]
     pub fn new(sets: DataSets, table: T) -> Agent<T>
         requires identity { sets.default.identity ≡ (T.owner table).identity }

@@ -108,5 +108,3 @@ datagram-fails n line text e fault same u (inl is) at = inl (ap is_outside (at �
 datagram-fails n line text e fault same u (inr is) at = inr (datagram_err n line text same u is.1 ∙ ap Err (sym (at ∙ ap (at_line n) is.0)))
 
 pub ruleset datagram_laws = (datagram-ok, datagram-fails)
-
-pub ruleset row_laws = (row-ok, row-fails)

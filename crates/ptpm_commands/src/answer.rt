@@ -10,6 +10,7 @@ ghost use Rattle.ptpm_commands.specs.Faults.{IsAtSomeLine, is_outside};
 ghost use Rattle.ptpm_commands.specs.FreshClock.{fresh_sets, managers, shown};
 ghost use Rattle.ptpm_commands.specs.Lines.{left_in};
 ghost use Rattle.ptpm_commands.specs.Taken.{HasNumbers, HasTaken, line_datagram, taken};
+ghost use Rattle.ptpm_data.specs.declared.ports.TheConstants.{INLINE_PORTS};
 ghost use Rattle.ptpm_data.specs.Members.{HasPort};
 ghost use Rattle.ptpm_table.specs.Managers.{IsFresh, clock_with};
 ghost use Rattle.ptpm_text.specs.Lines.{whole_lines};
@@ -51,6 +52,7 @@ fn answer_once<O: Write>(mut clock: Agent<BoundTable>, datagram: &[u8], out: &mu
     requires table { IsFresh shown []
         (⟦<BoundTable as ReplyTable>⟧.owner clock.table)
         (⟦<BoundTable as ReplyTable>⟧.entries clock.table) }
+    requires most { ⟦<BoundTable as ReplyTable>⟧.most clock.table ≡ INLINE_PORTS }
     requires port { HasPort 1 clock.sets }
     ensures answered { OnOk result (Appends (O.contents out.old) (O.contents out.new) (answered_first datagram.now)) }
     ensures fault { IfErr result (λ e. e ≡ Fault.WriteFault) }
@@ -101,6 +103,7 @@ fn answer_each<R: Read + Drop, O: Write>(
     requires table { IsFresh shown []
         (⟦<BoundTable as ReplyTable>⟧.owner clock.table)
         (⟦<BoundTable as ReplyTable>⟧.entries clock.table) }
+    requires most { ⟦<BoundTable as ReplyTable>⟧.most clock.table ≡ INLINE_PORTS }
     requires port { HasPort 1 clock.sets }
     ensures lines { IfSome (left_in R.remaining lines.old)
         (λ octets.
@@ -127,6 +130,8 @@ fn answer_each<R: Read + Drop, O: Write>(
 #[inline(never)]
 fn answer_datagram<O: Write>(clock: &mut Agent<BoundTable>, datagram: &[u8], out: &mut O) -> Done
     requires port { HasPort 1 clock.old.sets }
+    requires most { ⟦<BoundTable as ReplyTable>⟧.most clock.old.table ≡ INLINE_PORTS }
+    ensures most { ⟦<BoundTable as ReplyTable>⟧.most clock.new.table ≡ INLINE_PORTS }
     ensures clock { clock_shown clock.new ≡ clock_shown clock.old }
     ensures state { state_shown clock.new ≡ (turn (clock_shown clock.old) (state_shown clock.old) 1 datagram.now).next }
     ensures port { HasPort 1 clock.new.sets }

@@ -2,6 +2,7 @@
 
 ghost use Rattle.std.specs.Prelude.{◌≡◌, []};
 ghost use Rattle.ptpm_commands.specs.FreshClock.{fresh_sets, managers, shown};
+ghost use Rattle.ptpm_data.specs.declared.ports.TheConstants.{INLINE_PORTS};
 ghost use Rattle.ptpm_data.specs.Members.{HasPort};
 ghost use Rattle.ptpm_table.specs.Managers.{IsFresh};
 
@@ -25,6 +26,7 @@ pub(crate) fn fresh_clock() -> Agent<BoundTable>
     ensures table { IsFresh shown []
         (⟦<BoundTable as ReplyTable>⟧.owner result.table)
         (⟦<BoundTable as ReplyTable>⟧.entries result.table) }
+    ensures most { ⟦<BoundTable as ReplyTable>⟧.most result.table ≡ INLINE_PORTS }
     ensures port { HasPort 1 result.sets }
 {
     Agent::without_managers(first_sets())
@@ -35,10 +37,12 @@ pub(crate) fn admit_manager(clock: &mut Agent<BoundTable>)
     requires table { IsFresh shown []
         (⟦<BoundTable as ReplyTable>⟧.owner clock.old.table)
         (⟦<BoundTable as ReplyTable>⟧.entries clock.old.table) }
+    requires most { ⟦<BoundTable as ReplyTable>⟧.most clock.old.table ≡ INLINE_PORTS }
     ensures sets { clock.new.sets ≡ clock.old.sets }
     ensures table { IsFresh shown managers
         (⟦<BoundTable as ReplyTable>⟧.owner clock.new.table)
         (⟦<BoundTable as ReplyTable>⟧.entries clock.new.table) }
+    ensures most { ⟦<BoundTable as ReplyTable>⟧.most clock.new.table ≡ INLINE_PORTS }
 {
     clock.admit(&[(MANAGER, Rights::ALL)]);
 }

@@ -41,7 +41,6 @@ fn cells<'a>(alloc: Global, line: &'a str) -> Result<(Vec<&'a str>, &'a str), Al
 }
 
 /// The text before the first tab, and what is after it; none if there is no tab.
-#[tactic(auto, using(crate::proofs::CellLemmas::no_tab, crate::proofs::CellLemmas::first_tab))]
 fn first_cell(line: &str) -> Option<(&str, &str)>
     ensures none { IfNone result (cells line.now ≡ line.now ∷ []) }
     ensures some { IfSome result (λ r. cells line.now ≡ r.0.now ∷ cells r.1.now) }

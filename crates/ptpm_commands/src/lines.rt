@@ -62,7 +62,6 @@ impl<R: Read + Drop> Lines<R> {
     }
 
     /// The columns and the datagram of the line that was read last, which has this number.
-    #[tactic(auto, using(crate::proofs::CellLemmas::row_laws))]
     pub(crate) fn row(&self, alloc: Global, number: u64) -> Result<Row<'_>, Fault>
         ensures row { IfOk result (λ row. row_in number (latest_line self.now) ≡ Ok (row_value row)) }
         ensures line { IfErr result (λ e. IsAtLine number e) }

@@ -35,8 +35,8 @@ use Rattle.ptpm_agent.specs.Turn.{Clock, NumberedRequest, State, Turned, judged,
 use Rattle.ptpm_agent.proofs.Entries.{get-insert_same}
 use Rattle.ptpm_agent.proofs.Fitting.{may_judge_action, may_judge_port}
 use Rattle.ptpm_agent.proofs.Turns.{CopyParts, forwarded-copy, judged-copy, new_parts, turn-message}
-use Rattle.ptpm_device.specs.Asking.{asked, is_lacked, is_new, is_permitted, is_unnumbered, is_wanted_once, wanted_new, wanted_once}
-use Rattle.ptpm_device.specs.Saying.{Gives, Objects, Say, after_reply, given, given_by, objected_by, reply_given, reply_said, turn_said}
+use Rattle.ptpm_device.specs.Asking.{is_asked, is_lacked, is_new, is_permitted, is_unnumbered, is_wanted_once, wanted_new, wanted_once}
+use Rattle.ptpm_device.specs.Saying.{Gives, Objects, Say, after_reply, given, given_by, reply_given, reply_said, turn_said}
 use Rattle.ptpm_device.proofs.WhenAsked.{AskedParts, WantedParts, asked_parts, not_wanted_new, wanted_once-read, wanted_parts}
 use Rattle.ptpm_device.proofs.Judged.{asked-parts, given_told, is_get-true, judged-asked, lacked_row, objection_not_asked}
 use Rattle.ptpm_device.proofs.New.{look_at-kept}

@@ -52,7 +52,6 @@ fn two_octets(number: i16) -> Octets
 }
 
 /// The number that decimal digits, and nothing else, write, if it is at most this.
-#[tactic(auto, using(crate::proofs::Numerals::with_plus, crate::proofs::Numerals::number_read, crate::proofs::Numerals::number_unread, crate::proofs::Numerals::small_if_some))]
 pub(crate) fn number_up_to(most: u64, text: &str) -> Option<u64>
     ensures value { result ≡ number_up_to most text.now }
     ensures small { IfSome result (λ n. n ≤ most) }
@@ -119,7 +118,6 @@ fn signed_number(most: u16, text: &str) -> Option<i16>
 }
 
 /// What follows a minus, if one comes first.
-#[tactic(auto, using(crate::proofs::Numerals::stripped, std::proofs::lemmas::Str::Pattern::strip_prefix_char))]
 fn without_minus(text: &str) -> Option<&str>
     ensures { option_map (λ s. s.now) result ≡ without_minus text.now }
 {

@@ -123,7 +123,6 @@ fn error_value(alloc: Global, number: u16) -> Result<Value, AllocError>
 }
 
 /// The error that the standard gives a number, if it is one (15.5.4.3).
-#[tactic(auto, using(crate::proofs::Naming::is_named))]
 fn named_error(number: u16) -> Option<ErrorId>
     ensures { result ≡ named_error number }
 {

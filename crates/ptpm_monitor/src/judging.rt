@@ -99,7 +99,12 @@ fn judged_beside(
     };
     let mut text = Vec::new(alloc);
     let lines = shown.lines.as_bytes();
-    let came = report(alloc, options, &expectations, viewing, lines, &mut text)?;
+    let came = match report(alloc, options, &expectations, viewing, lines, &mut text) {
+        Ok(came) => came,
+        // It is written into memory.
+        Err(Fault::WriteFault) => return Err(Fault::OutOfMemory),
+        Err(fault) => return Err(fault),
+    };
     let status = status_of(shown.form, &came);
     Ok(Judged {
         text,

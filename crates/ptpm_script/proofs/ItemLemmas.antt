@@ -16,9 +16,3 @@ pub first-views : (most : ℕ) (items first : List Value) (ds : List Data)
     → first ≡ take most items
     → map view first ≡ take most ds
 first-views most items first ds seen cut = ap (map view) cut ∙ sym (take-map view most items) ∙ ap (take most) seen
-
-pub ruleset clocks_of_laws = (first-views)
-
-pub ruleset ends_of_laws = (first-views)
-
-pub ruleset sessions_of_laws = (first-views)

@@ -71,7 +71,7 @@ impl<'a> Heads<'a> {
     }
 }
 
-#[tactic(auto, using(crate::proofs::ItemLemmas::clocks_of_laws), unfolding(crate::specs::Heads::clock_head, crate::specs::Heads::clocks_of))]
+#[tactic(auto, unfolding(crate::specs::Heads::clock_head))]
 fn clocks_of<'a>(alloc: Global, file: &'a Table) -> Result<Vec<ClockHead<'a>>, AllocError>
     ensures { IfOk result (λ v. map clock_value v.items ≡ clocks_of (table_view file.now)) }
 {
@@ -93,7 +93,7 @@ fn clocks_of<'a>(alloc: Global, file: &'a Table) -> Result<Vec<ClockHead<'a>>, A
     Ok(clocks)
 }
 
-#[tactic(auto, using(crate::proofs::ItemLemmas::sessions_of_laws), unfolding(crate::specs::Heads::session_head, crate::specs::Heads::sessions_of))]
+#[tactic(auto, unfolding(crate::specs::Heads::session_head))]
 fn sessions_of<'a>(alloc: Global, file: &'a Table) -> Result<Vec<SessionHead<'a>>, AllocError>
     ensures { IfOk result (λ v. map session_value v.items ≡ sessions_of (table_view file.now)) }
 {
@@ -114,7 +114,6 @@ fn sessions_of<'a>(alloc: Global, file: &'a Table) -> Result<Vec<SessionHead<'a>
     Ok(sessions)
 }
 
-#[tactic(auto, using(crate::proofs::ItemLemmas::ends_of_laws), unfolding(crate::specs::Heads::ends_of))]
 fn ends_of<'a>(alloc: Global, file: &'a Table) -> Result<Vec<EndHead<'a>>, AllocError>
     ensures { IfOk result (λ v. map end_value v.items ≡ ends_of (table_view file.now)) }
 {

@@ -57,6 +57,6 @@ pub use Rattle.ptpm_world.specs.declared.frames.Frames.{Frames}
 pub use Rattle.ptpm_world.specs.declared.frames.Stored.{Stored}
 pub use Rattle.ptpm_world.specs.declared.took.StepError.{StepError}
 pub use Rattle.ptpm_world.specs.declared.took.Took.{Took}
-pub use Rattle.ptpm_world.specs.declared.world.RunningClock.{RunningClock}
+pub use Rattle.ptpm_world.specs.declared.running_clock.RunningClock.{RunningClock}
 pub use Rattle.ptpm_world.specs.declared.world.RunningSession.{RunningSession}
 pub use Rattle.ptpm_world.specs.declared.world.World.{World}

@@ -10,7 +10,7 @@ use Rattle.ptpm_script.specs.declared.network.NetworkLink.{NetworkLink}
 use Rattle.ptpm_world.specs.declared.frames.Origin.{Origin}
 use Rattle.ptpm_world.specs.declared.frames.Origin.TheVariants as origins
 use Rattle.ptpm_world.specs.declared.frames.Stored.{Stored}
-use Rattle.ptpm_world.specs.declared.world.RunningClock.{RunningClock}
+use Rattle.ptpm_world.specs.declared.running_clock.RunningClock.{RunningClock}
 
 -- how many ports each clock has
 abbrev pub port_counts : List RunningClock → List ℕ

@@ -18,7 +18,7 @@ use Rattle.ptpm_network.specs.State as state
 use Rattle.ptpm_network.specs.State.{is_late_at}
 use Rattle.ptpm_script.specs.NetworkValue.{first_sets}
 use Rattle.ptpm_world.specs.declared.world.World.{World}
-use Rattle.ptpm_world.specs.declared.world.RunningClock.{RunningClock}
+use Rattle.ptpm_world.specs.declared.running_clock.RunningClock.{RunningClock}
 use Rattle.ptpm_world.specs.declared.world.RunningSession.{RunningSession}
 use Rattle.ptpm_world.specs.Described as described
 use Rattle.ptpm_world.specs.Frames.{held_in, link_ends}

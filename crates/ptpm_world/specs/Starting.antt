@@ -3,7 +3,7 @@ use Rattle.std.specs.Prelude.{◌≡◌, ℕ, List, [], Some, length, slice_get}
 use Rattle.ptpm_agent.specs.Laws.{initial_clock_state}
 use Rattle.ptpm_manager.specs.Session as manager
 use Rattle.ptpm_script.specs.NetworkValue.{NetworkValue, first_sets}
-use Rattle.ptpm_world.specs.declared.world.RunningClock.{RunningClock}
+use Rattle.ptpm_world.specs.declared.running_clock.RunningClock.{RunningClock}
 use Rattle.ptpm_world.specs.declared.world.RunningSession.{RunningSession}
 use Rattle.ptpm_world.specs.Described.{clock_at, described_clock, described_session, session_at}
 use Rattle.ptpm_world.specs.Running.{agent_clock, agent_state}

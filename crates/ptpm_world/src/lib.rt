@@ -6,6 +6,7 @@ mod findings;
 mod frames;
 mod lines;
 mod network_laws;
+mod running_clock;
 mod script;
 mod script_error;
 mod starting;

@@ -15,7 +15,8 @@ ghost use Rattle.ptpm_world.specs.Running.{IsOf, running};
 ghost use Rattle.ptpm_world.specs.Starting.{AreStartedClocks, AreStartedSessions, IsStartedClock, IsStartedSession};
 
 use crate::frames::Frames;
-use crate::world::{RunningClock, RunningSession, World};
+use crate::running_clock::RunningClock;
+use crate::world::{RunningSession, World};
 use ptpm_agent::Agent;
 use ptpm_codec::{Buffer, OutOfMemory, PortIdentity};
 use ptpm_data::{DataSets, Rights};

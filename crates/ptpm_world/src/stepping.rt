@@ -28,8 +28,9 @@ ghost use Rattle.ptpm_world.specs.Took.{heard, reports_in};
 
 use crate::frames::{Frames, Origin};
 use crate::network_laws::placed_event;
+use crate::running_clock::RunningClock;
 use crate::took::{StepError, Took};
-use crate::world::{RunningClock, RunningSession, World};
+use crate::world::{RunningSession, World};
 use ptpm_agent::Verdict;
 use ptpm_codec::{Buffer, PortIdentity, source_port_identity};
 use ptpm_manager::{Ask, Received};

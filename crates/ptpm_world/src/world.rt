@@ -4,19 +4,12 @@ ghost use Rattle.std.specs.Prelude.{◌≡◌, ◌↔◌, ◌+◌, ◌≤◌, �
 ghost use Rattle.ptpm_world.specs.Ends.{AreLinks, AreLinks-prop, AreStored-prop, IsStoredFrame, port_counts};
 
 use crate::frames::{Frame, Frames, Origin};
-use ptpm_agent::Agent;
+use crate::running_clock::RunningClock;
 use ptpm_codec::{Buffer, PortIdentity};
 use ptpm_data::DataSets;
 use ptpm_manager::{Report, Session};
 use ptpm_script::{Event, Name, NetworkLink};
-use ptpm_table::{BoundTable, Outbox};
-
-/// A clock at its place.
-#[derive(Drop)]
-pub(crate) struct RunningClock {
-    pub(crate) name: Name,
-    pub(crate) agent: Agent<BoundTable>,
-}
+use ptpm_table::Outbox;
 
 /// A session at its place, with the reports of its answers.
 #[derive(Drop)]

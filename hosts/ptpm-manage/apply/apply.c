@@ -31,7 +31,7 @@ static int status_of(enum ending ending) {
 static void judge_ports(const struct step *steps, size_t count) {
     for (size_t i = 0; i < count; i++) {
         if (!is_beyond_session(steps[i].port)) continue;
-        refuse_usage("nothing was sent: change %zu: no session is kept of a port above %d", i + 1, SESSION_PORTS);
+        refuse_usage("nothing was sent: change %zu: a request to a port above %d has no session", i + 1, SESSION_PORTS);
     }
 }
 
@@ -158,7 +158,7 @@ static const struct task *as_manager(const struct task *task, const struct journ
         refuse_usage("nothing was sent: %s was begun on a Unix socket: --unix names it", journal->name);
     }
     bool is_other = memcmp(journal->manager, task->settings.clock, 8) != 0 || journal->manager_port != task->settings.port;
-    if (task->has_manager && is_other) refuse_usage("nothing was sent: %s is by another manager than --manager says", journal->name);
+    if (task->has_manager && is_other) refuse_usage("nothing was sent: %s was begun by a different manager than that of --manager", journal->name);
     memcpy(own.settings.clock, journal->manager, 8);
     own.settings.port = journal->manager_port;
     return &own;
@@ -199,9 +199,8 @@ static int resume(const struct task *task) {
     }
     task = as_manager(task, &journal);
     take_up(task, &journal);
-    bool is_ending = task->is_letting_go || is_given_up(&journal);
-    if (!is_ending) open_transport(task);
-    int status = is_ending ? give_up_apply(task, &journal) : carry_out(task, &journal);
+    if (!task->is_letting_go) open_transport(task);
+    int status = task->is_letting_go ? give_up_apply(task, &journal) : carry_out(task, &journal);
     leave_journal(&journal);
     return status;
 }

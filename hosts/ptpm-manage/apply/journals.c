@@ -100,7 +100,8 @@ static bool goes_on(const struct journal *one, const struct journal *other) {
     if (*other->name == '\0' || rolls_back(one, other)) return true;
     if (rolls_back(other, one)) return false;
     const char *earlier = strcmp(one->name, other->name) < 0 ? one->path : other->path;
-    refuse_storage("nothing was sent: %s and %s are both open, and no run leaves that: move %s away, and then resume", one->name, other->name, earlier);
+    refuse_storage("nothing was sent: %s and %s are both open, though no run leaves two open: move %s away, and then resume", one->name, other->name,
+                   earlier);
 }
 
 bool find_open_journal(struct journal *journal) {

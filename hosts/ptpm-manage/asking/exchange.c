@@ -69,7 +69,7 @@ bool may_answer(const uint8_t *copy, size_t size) {
 
 void tell_guesses(void) {
     if (guesses <= FEW) return;
-    complain("%ld answers had numbers that were not asked: somebody guesses numbers, or asks by this manager too, and each answer is ignored", guesses);
+    complain("%ld answers had numbers that were not asked: someone guesses numbers, or also asks as this manager; all answers are ignored", guesses);
 }
 
 void name_target(uint8_t *message) {

@@ -317,7 +317,7 @@ static void take_option(struct task *task, struct words *words, int option, cons
 }
 
 static void take_word(struct words *words, const char *word) {
-    if (words->count == MOST_WORDS) refuse("%s: there is a word too many; see ptpm-manage --help", word);
+    if (words->count == MOST_WORDS) refuse("%s: there are too many words; see ptpm-manage --help", word);
     words->at[words->count++] = word;
 }
 
@@ -382,7 +382,7 @@ static void read_every_port(struct task *task, const struct words *words) {
     if (!words->is_every_port) return;
     if (task->is_survey || task->action != PTPM_GET) refuse("--port all: only get takes it");
     if (task->has_manager || task->numbers != NULL) {
-        refuse("--port all asks by no manager: it takes no --manager and no --numbers");
+        refuse("--port all asks anonymously: it excludes --manager and --numbers");
     }
     task->is_survey = task->is_of_clock = true;
 }
@@ -406,7 +406,7 @@ static void read_octets_of(struct task *task, const char *text) {
     if (strlen(text) > 2 * MOST_FIELD) refuse("the dataField has over %d octets", MOST_FIELD);
     task->size = read_octets(&rest, task->octets, sizeof task->octets);
     if (*rest == '\0' && task->size % 2 == 0) return;
-    if (task->action == PTPM_GET && read_id_named(text) >= 0) refuse("get takes one managementId: %s is asked for by a run of its own", text);
+    if (task->action == PTPM_GET && read_id_named(text) >= 0) refuse("get takes one managementId: ask for %s in a run of its own", text);
     refuse("%s: not an even number of octets in hexadecimal%s", text, hint(task));
 }
 
@@ -418,7 +418,7 @@ static bool are_members(const struct task *task, const char *const *value, size_
 
 static void judge_count(const struct task *task, const char *const *value, size_t count, bool is_text) {
     size_t most = is_text || are_members(task, value, count) ? most_words(task->id, value[0]) : 1;
-    if (count > most) refuse("%s: there is a word too many; see ptpm-manage --help", value[most]);
+    if (count > most) refuse("%s: there are too many words; see ptpm-manage --help", value[most]);
 }
 
 static void read_value(struct task *task, const struct words *words) {
@@ -445,11 +445,11 @@ static void part_own_socket(struct task *task) {
     task->path = NULL;
 }
 
-/* Whether what is said about the clock and the way to it is complete, and said once. */
+/* Whether what is said about the clock and its transport is complete, and said once. */
 static void judge(const struct task *task, const struct words *words) {
     bool is_sent = task->plan.verb != APPLIES && !(task->plan.verb == RESUME && task->is_letting_go);
     if (is_sent && task->path == NULL && task->interface_count == 0 && task->address == NULL) {
-        refuse("the way to the clock is missing: --interface NAME, --udp ADDRESS or --unix PATH");
+        refuse("the transport is missing: --interface NAME, --udp ADDRESS or --unix PATH");
     }
     if (task->path != NULL && (task->interface_count > 0 || task->address != NULL || task->is_six || task->is_ethernet)) {
         refuse("--unix excludes --interface, --udp, --ipv6 and --ethernet");
@@ -460,8 +460,8 @@ static void judge(const struct task *task, const struct words *words) {
     if (!asks_one && words->target != NULL) refuse("%s asks every clock: it takes no --target", words->at[0]);
     if (asks_one && words->target == NULL) refuse("--target is missing: the clock that is asked; survey asks every clock");
     if (words->has_names && !asks_one && !task->site.is_shown) refuse("--names: only status and --target take it");
-    if (task->is_survey && task->numbers != NULL) refuse("--numbers: no session is kept of what every port is asked");
-    if (task->is_survey && task->times > 1) refuse("--times: what every port is asked is asked once");
+    if (task->is_survey && task->numbers != NULL) refuse("--numbers: a request to every port has no session");
+    if (task->is_survey && task->times > 1) refuse("--times: a request to every port is made once");
     if (words->is_every_port && words->target_port >= 0) refuse("--port all names every port, and --target names one");
     if (words->port >= 0 && words->target_port >= 0 && words->port != words->target_port) {
         refuse("--port %ld and --target name two ports", words->port);
@@ -488,7 +488,7 @@ static bool is_by_one_manager(const struct task *task) {
 static void read_plan(struct task *task, const struct words *words) {
     const char *verb = words->at[0];
     int most = task->plan.verb == RESUME ? 1 : 2, least = task->plan.verb == APPLIES ? 1 : most;
-    if (words->count > most) refuse("%s: there is a word too many; see ptpm-manage --help", words->at[most]);
+    if (words->count > most) refuse("%s: there are too many words; see ptpm-manage --help", words->at[most]);
     bool lacks_word = words->count < least || (words->count == 2 && *words->at[1] == '\0');
     if (lacks_word) refuse("%s: it takes %s", verb, task->plan.verb >= ROLLBACK ? "the name of an apply" : "a file");
     task->plan.word = words->at[1];
@@ -508,7 +508,7 @@ static void read_asked(struct task *task, const struct words *words) {
     }
     if (task->site.is_collected) {
         if (words->count > 1) refuse("%s %s: %s takes no managementId", verb, words->at[1], verb);
-        if (task->has_manager) refuse("--manager: %s asks by no manager", verb);
+        if (task->has_manager) refuse("--manager: %s asks anonymously", verb);
         if (words->port >= 0 || words->is_text || task->is_in_octets || task->numbers != NULL) {
             refuse("%s takes none of --port, --text, --hexadecimal and --numbers", verb);
         }
@@ -590,11 +590,11 @@ void read_task(struct task *task, int argc, char **argv) {
     long port = words.port >= 0 ? words.port : words.target_port;
     task->port = port < 0 ? 0 : (uint16_t)port;
     bool is_beyond = is_beyond_session(task->port);
-    if (is_beyond && task->numbers != NULL) refuse("--numbers: no session is kept of a port above %d, which no clock of ptpm has", SESSION_PORTS);
+    if (is_beyond && task->numbers != NULL) refuse("--numbers: a request to a port above %d has no session", SESSION_PORTS);
     task->is_kept = is_by_one_manager(task) && !is_beyond;
     bool is_asked = task->plan.verb == NO_PLAN;
     if (task->is_letting_go && !is_asked && task->plan.verb != RESUME) refuse("--give-up: of these only resume takes it");
-    if (task->is_letting_go && is_asked && !task->is_kept) refuse("--give-up: no session is kept of what is asked");
+    if (task->is_letting_go && is_asked && !task->is_kept) refuse("--give-up: this request has no session");
 }
 
 const char *task_words(const struct task *task) {

@@ -103,7 +103,7 @@ static void wait_for_copies(struct driver *driver) {
 static bool is_by_way(struct driver *driver, const uint8_t *copy, size_t size) {
     if (!driver->has_way || came_by(&driver->way)) return true;
     if (!driver->is_elsewhere_said && is_response_of_clock(copy, size)) {
-        complain("an answer from %s came by a different way than the first one, and is ignored", sender_text());
+        complain("an answer from %s came by a different path than the first one, and is ignored", sender_text());
         driver->is_elsewhere_said = true;
     }
     return false;

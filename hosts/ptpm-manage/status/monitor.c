@@ -85,7 +85,7 @@ static void add_looking(char **arguments, size_t count, const struct task *task)
 static void judge_inventory(const char *inventory) {
     struct stat found;
     if (inventory == NULL || stat(inventory, &found) != 0 || S_ISREG(found.st_mode)) return;
-    refuse("--expect %s: it is read at each look, so it has to be a file, and no pipe", inventory);
+    refuse("--expect %s: it is read at each poll, so it has to be a file, not a pipe", inventory);
 }
 
 void start_monitor(const struct task *task) {

@@ -1,5 +1,5 @@
 /* The process `ptpm monitor`, which decides when a site is looked at, judged and printed. It writes what is to be done, a line each, and reads
-   what came of it (docs/architecture.md, "A look loop, line by line"). */
+   what came of it (docs/architecture.md, "A poll loop, line by line"). */
 #ifndef MONITOR_H
 #define MONITOR_H
 

@@ -5,11 +5,14 @@
 #include "words.h"
 #include <string.h>
 
+/* The places of the sender's identity and of a dataField in a message. How many messages that are alike have a line each. */
+enum { SENDER = 20, FIELD = 54, FEW = 8 };
+
 struct ptpm_clock clock_of_page;
 struct start start_of_page;
 
 /* What came of a datagram. */
-struct turn { uint32_t answer; struct ptpm_taken taken; struct ptpm_sent sent[PTPM_MOST_SENT]; };
+struct turn { uint32_t answer; struct ptpm_taken taken; struct ptpm_sent sent[PLACES]; };
 
 static struct turn turn;
 static struct ptpm_changed changed;
@@ -68,7 +71,7 @@ static bool is_same_clock(const struct ptpm_clock *other) {
 /* Says if a call has written to a place that has no message. If `waiting` messages wait, as many places have zeros. */
 static void check_places(size_t written, size_t waiting) {
     const uint8_t *octets = (const uint8_t *)&turn.sent[written], *blank = (const uint8_t *)&turn.sent[written + waiting],
-                  *end = (const uint8_t *)&turn.sent[PTPM_MOST_SENT];
+                  *end = (const uint8_t *)&turn.sent[PLACES];
     while (octets < end && *octets == (octets < blank ? 0 : 0xee)) octets++;
     if (octets < end) say("it writes to a place that has no message\n");
 }
@@ -115,10 +118,50 @@ static void say_sent(const struct ptpm_sent *sent) {
     note_message(sent->octets, sent->size);
 }
 
-/* What came of it: what is sent, a line each, and how many messages wait. */
+/* Whether a message is the one before it, and goes out at the next port. */
+static bool is_next_copy(const struct ptpm_sent *sent) {
+    const struct ptpm_sent *before = sent - 1;
+    return sent->port == before->port + 1 && sent->size == before->size && memcmp(sent->octets, before->octets, sent->size) == 0;
+}
+
+/* Puts the next port in a portNumber if the identity before it is the sender's. */
+static void count_port(uint8_t *message, size_t place) {
+    if (memcmp(message + place - 8, message + SENDER, 8) == 0 && ++message[place + 1] == 0) message[place]++;
+}
+
+/* Whether a message is the one before it, as the next port of the clock answers at the same port. */
+static bool is_next_answer(const struct ptpm_sent *sent) {
+    struct ptpm_sent next = sent[-1];
+    count_port(next.octets, SENDER + 8);
+    if (next.size >= FIELD + 10) count_port(next.octets, FIELD + 8);
+    return sent->port == next.port && sent->size == next.size && memcmp(sent->octets, next.octets, next.size) == 0;
+}
+
+/* How many messages after this one are like it. */
+static size_t alike(const struct ptpm_sent *sent, size_t count, bool (*is_next)(const struct ptpm_sent *sent)) {
+    size_t found = 0;
+    while (found + 1 < count && is_next(sent + found + 1)) found++;
+    return found;
+}
+
+/* What is sent, a line each. Of more than eight that are alike the first has one, and all others together. */
+static void say_all_sent(const struct ptpm_sent *sent, size_t count) {
+    while (count > 0) {
+        size_t copies = alike(sent, count, is_next_copy), answers = alike(sent, count, is_next_answer), done = 1;
+        unsigned from = 256u * sent->octets[SENDER + 8] + sent->octets[SENDER + 9];
+        say_sent(sent);
+        if (copies >= FEW) say("%u to %zu: the same\n", sent->port + 1, sent->port + copies);
+        else if (answers >= FEW) say("%u: the same of ports %u to %zu\n", sent->port, from + 1, from + answers);
+        if (copies >= FEW || answers >= FEW) done += copies > answers ? copies : answers;
+        sent += done;
+        count -= done;
+    }
+}
+
+/* What came of it: what is sent, and how many messages wait. */
 static void say_turn(void) {
     say_outcome(turn.answer, "0");
-    for (size_t i = 0; i < turn.taken.count; i++) say_sent(&turn.sent[i]);
+    say_all_sent(turn.sent, (size_t)turn.taken.count);
     if (turn.taken.waiting > 0) say("waiting: %llu\n", (unsigned long long)turn.taken.waiting);
 }
 
@@ -132,7 +175,7 @@ static void run_datagram(char *words, struct coming *in, size_t places) {
 
 static void run_in(char *words) {
     static struct coming in;
-    size_t places = next_room(&words, PTPM_MOST_SENT);
+    size_t places = next_room(&words, PLACES);
     in.port = (uint16_t)next_number(&words, 0);
     run_datagram(words, &in, places);
 }
@@ -140,20 +183,20 @@ static void run_in(char *words) {
 /* `transit PORT OCTETS`: the copies that are passed on of what the library does not read, or `nothing`. */
 static void run_transit(char *words) {
     static struct octets datagram;
-    size_t places = next_room(&words, PTPM_MOST_SENT);
+    size_t places = next_room(&words, PLACES);
     uint16_t port = (uint16_t)next_number(&words, 0);
     read_octets(&words, &datagram);
     memset(&turn, 0xee, sizeof turn);
     size_t count = ptpm_clock_transit(&clock_of_page, port, datagram.at, datagram.size, turn.sent, places);
     check_places(count, 0);
     if (count == 0) say("nothing\n");
-    for (size_t i = 0; i < count; i++) say_sent(&turn.sent[i]);
+    say_all_sent(turn.sent, count);
 }
 
 /* `in-owner PORT OCTETS`. */
 static void run_in_owner(char *words) {
     static struct coming in = { .is_of_owner = true };
-    size_t places = next_room(&words, PTPM_MOST_SENT);
+    size_t places = next_room(&words, PLACES);
     in.port = (uint16_t)next_number(&words, 0);
     run_datagram(words, &in, places);
 }
@@ -161,7 +204,7 @@ static void run_in_owner(char *words) {
 /* `in-said PORT KIND ERROR OCTETS`. */
 static void run_in_said(char *words) {
     static struct coming in;
-    size_t places = next_room(&words, PTPM_MOST_SENT);
+    size_t places = next_room(&words, PLACES);
     in.port = (uint16_t)next_number(&words, 0);
     in.said.kind = (uint8_t)next_number(&words, 0);
     in.said.error = (uint16_t)next_number(&words, 0);
@@ -178,7 +221,7 @@ static void read_given(char **words, struct ptpm_say *said) {
 /* `in-given PORT VALUE, OCTETS`: the device gives the octets of a value. */
 static void run_in_given(char *words) {
     static struct coming in;
-    size_t places = next_room(&words, PTPM_MOST_SENT);
+    size_t places = next_room(&words, PLACES);
     in.port = (uint16_t)next_number(&words, 0);
     char *given = strsep(&words, ",");
     read_given(&given, &in.said);
@@ -189,7 +232,7 @@ static void run_in_given(char *words) {
 /* `decide KIND ERROR`. */
 static void run_decide(char *words) {
     static struct coming in = { .is_under_way = true };
-    size_t places = next_room(&words, PTPM_MOST_SENT);
+    size_t places = next_room(&words, PLACES);
     in.said.kind = (uint8_t)next_number(&words, 0);
     in.said.error = (uint16_t)next_number(&words, 0);
     handle(&in, places);
@@ -200,7 +243,7 @@ static void run_decide(char *words) {
 static void run_decide_given(char *words) {
     static struct coming in = { .is_under_way = true };
     read_given(&words, &in.said);
-    handle(&in, PTPM_MOST_SENT);
+    handle(&in, PLACES);
     say_turn();
 }
 
@@ -241,11 +284,11 @@ static void run_set_here(char *words) {
 
 static void run_observe(char *words) {
     struct observation seen;
-    uint8_t left = 0xee;
+    uint64_t left = 0xee;
     read_observation(&words, &seen);
     uint32_t answer = ptpm_clock_observe(&clock_of_page, &seen.clock, seen.ports, seen.port_count, &left);
     say_outcome(answer, "OBSERVED");
-    if (left != 0) say("left: %u\n", left);
+    if (left != 0) say("left: %llu\n", (unsigned long long)left);
 }
 
 static void run_read(char *words) {
@@ -256,12 +299,32 @@ static void run_read(char *words) {
     say_written(answer, "READ", size, say_octets);
 }
 
+/* The most octets of an image of the page's clock. */
+static size_t image_bound(void) {
+    size_t bound = PTPM_CLOCK_IMAGE_BOUND(start_of_page.port_count, start_of_page.managers.count);
+    return bound < MOST_OCTETS ? bound : MOST_OCTETS;
+}
+
 static void run_image(char *words) {
-    size_t size = 1, octets = next_room(&words, PTPM_CLOCK_IMAGE_OCTETS);
+    size_t size = 1, octets = next_room(&words, image_bound());
     clear_room();
     uint32_t answer = ptpm_clock_image(&clock_of_page, room, octets, &size);
     put_name("IMAGE", room, size);
     say_written(answer, "SAVED", size, say_octets);
+}
+
+/* `image-is OCTETS`: what `image` does, with nothing shown of octets that are these. */
+static void run_image_is(char *words) {
+    static struct octets wanted;
+    size_t size = 1, place = 0;
+    read_octets(&words, &wanted);
+    clear_room();
+    uint32_t answer = ptpm_clock_image(&clock_of_page, room, image_bound(), &size);
+    put_name("IMAGE", room, size);
+    while (place < size && place < wanted.size && room[place] == wanted.at[place]) place++;
+    if (!wrote_alone(size)) say("it writes more than that\n");
+    if (size == wanted.size && place == size) say("%s\n", answer_name(answer, "SAVED"));
+    else say("%s: of %zu octets, and not of %zu: at %zu is %02x\n", answer_name(answer, "SAVED"), size, wanted.size, place, room[place]);
 }
 
 static uint32_t begin_saving(void *given) {
@@ -280,7 +343,7 @@ static void run_saving(char *words) {
 /* The image is what `image` shows, so only its token is shown, and whether it is another. */
 static void run_image_of(char *words) {
     static uint8_t image[MOST_OCTETS];
-    size_t size = 1, octets = next_room(&words, PTPM_CLOCK_IMAGE_OCTETS);
+    size_t size = 1, octets = next_room(&words, image_bound());
     uint64_t token = 0xee;
     clear_room();
     uint32_t answer = ptpm_clock_image_of(&clock_of_page, room, octets, &size, &token);
@@ -359,6 +422,6 @@ static void run_stop(char *words) {
 
 const struct command clock_commands[] = {
     { "clock", run_start }, { "in", run_in }, { "transit", run_transit }, { "in-owner", run_in_owner }, { "in-said", run_in_said }, { "in-given", run_in_given }, { "decide", run_decide }, { "decide-given", run_decide_given }, { "changed", run_changed }, { "observe", run_observe },
-    { "set-here", run_set_here }, { "read", run_read }, { "image", run_image }, { "restore", run_restore }, { "saving", run_saving }, { "image-of", run_image_of },
+    { "set-here", run_set_here }, { "read", run_read }, { "image", run_image }, { "image-is", run_image_is }, { "restore", run_restore }, { "saving", run_saving }, { "image-of", run_image_of },
     { "saved", run_saved }, { "next", run_next }, { "free", run_free }, { "unsaved", run_unsaved }, { "most-sent", run_most_sent }, { "stop", run_stop }, { NULL, NULL },
 };

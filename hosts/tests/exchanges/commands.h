@@ -11,6 +11,9 @@ struct command { const char *name; void (*run)(char *words); };
 extern const struct command clock_commands[], device_commands[], damage_commands[], session_commands[], survey_commands[],
     asker_commands[], seal_commands[], journal_commands[], rollout_commands[], text_commands[];
 
+/* Places for the messages of any clock. */
+enum { PLACES = PTPM_MOST_SENT_OF(PTPM_MOST_PORTS) };
+
 /* The clock of the page, and how it started. */
 extern struct ptpm_clock clock_of_page;
 extern struct start start_of_page;

@@ -6,7 +6,7 @@
 #include <stdbool.h>
 
 /* More than a clock may have, so that a page can give too many. */
-enum { MOST_PORTS = 9, MOST_MANAGERS = 17 };
+enum { MOST_PORTS = PTPM_MOST_PORTS + 1, MOST_MANAGERS = PTPM_MOST_MANAGERS + 1 };
 
 struct managers { size_t count; struct ptpm_manager_settings of[MOST_MANAGERS]; };
 

@@ -7,7 +7,7 @@
 #include <stdint.h>
 
 /* An image of a clock, with room for octets that are too many. */
-enum { MOST_OCTETS = 32768 };
+enum { MOST_OCTETS = 65536 };
 
 struct octets { size_t size; uint8_t at[MOST_OCTETS]; };
 

@@ -15,6 +15,11 @@ ports_stranger 9 15 1018
 forward 3 1 54
 forward_seven 3 7 378
 forward_long 3 7 10304
+switch_get 5 1 56
+switch_ports_get 5 64 5120
+switch_ports_set 5 64 3584
+switch_ports_repeat 6 64 5120
+switch_forward 3 63 3402
 other_clock 3 0 0
 old 7 0 0
 send 0 1 54

@@ -85,7 +85,7 @@ offset_from_master 9223372036854775808|line 2: offset_from_master 92233720368547
 clock_class 0x100|line 2: clock_class 0x100: it takes a number from 0 to 255$
 leap61 yes|line 2: leap61 yes: it takes true or false$
 port 1 state|line 2: it takes port PORT MEMBER VALUE$
-port 9 state 1|line 2: port 9: it takes a number from 1 to 8$
+port 65 state 1|line 2: port 65: it takes a number from 1 to 64$
 port 1 sate 9|line 2: sate: no such member of a port is observed$
 port 1 state 10|line 2: state 10: it takes a number from 1 to 9, or a name such as SLAVE$
 port 1 state MASTERS|line 2: state MASTERS: it takes a number from 1 to 9, or a name such as SLAVE$
@@ -93,7 +93,7 @@ timeSource GPS|line 2: timeSource GPS: it takes a number from 0 to 255, or a nam
 offset_from_master 1.5|line 2: offset_from_master 1.5: it takes a number from .*, or nanoseconds such as 1.5ns$
 offsetFromMaster 140737488355328|line 2: offsetFromMaster 140737488355328: it takes nanoseconds, such as 1.5$
 portState SLAVE|line 2: portState: it takes a portIdentity before it, or port PORT$
-portIdentity aabbccfffeddee01/9|line 2: portIdentity aabbccfffeddee01/9: it takes that of a port from 1 to 8$
+portIdentity aabbccfffeddee01/65|line 2: portIdentity aabbccfffeddee01/65: it takes that of a port from 1 to 64$
 parentPortIdentity aabbccfffeddee01|line 2: parentPortIdentity aabbccfffeddee01: it takes a clockIdentity and a port
 grandmaster 00112233445566|line 2: grandmaster 00112233445566: it takes a clockIdentity
 grandmaster 0011223344556677|a grandmaster is given whole: grandmaster_priority1 is missing$

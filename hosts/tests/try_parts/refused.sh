@@ -11,7 +11,7 @@ done << END
 -i near0 --target $to set PRIORITY1 -1|set PRIORITY1 -1: it takes a number
 -i near0 --target $to set LOG_SYNC_INTERVAL 128|it takes a number from -128 to 127
 -i near0 --target $to set PRIORITY1|set PRIORITY1: it takes a value
--i near0 --target $to set PRIORITY1 100 7|7: there is a word too many
+-i near0 --target $to set PRIORITY1 100 7|7: there are too many words
 -i near0 --target $to set UTC_PROPERTIES 37|not an even number of octets in hexadecimal; each of its members takes its name and its value
 -i near0 --target $to set UTC_PROPERTIES leap61 1|set UTC_PROPERTIES: it takes currentUtcOffset VALUE leap61 VALUE leap59 VALUE
 $to_utc 37 leap59 0 leap61 0 currentUtcOffsetValid 1|set UTC_PROPERTIES leap59: the member that comes next is leap61
@@ -36,14 +36,14 @@ $to_utc -32769 leap61 0 leap59 0 currentUtcOffsetValid 1|currentUtcOffset -32769
 -i near0 --names $work/names collect|--names: only status and --target take it
 -i near0 --names $work/names plan $work/names|--names: only status and --target take it
 -i near0 --target $to --text get USER_DESCRIPTION|--text: only set takes it
--i near0 -k $work/number survey PRIORITY1|--numbers: no session is kept of what every port is asked
+-i near0 -k $work/number survey PRIORITY1|--numbers: a request to every port has no session
 -i near0 --target $to-1 -p 2 get PRIORITY1|name two ports
 -i near0 get PRIORITY1|--target is missing
 -i near0 --target $to survey PRIORITY1|survey asks every clock
--i near0 -n 2 survey PRIORITY1|--times: what every port is asked is asked once
--i near0 -n 2 status|--times: what every port is asked is asked once
+-i near0 -n 2 survey PRIORITY1|--times: a request to every port is made once
+-i near0 -n 2 status|--times: a request to every port is made once
 -i near0 -d 0 -d 4 status|--domain 4: --domain 0 is there already
---target $to get PRIORITY1|the way to the clock is missing
+--target $to get PRIORITY1|the transport is missing
 -i near0 -u $work/socket --target $to get PRIORITY1|--unix excludes
 -i near0 -a 0 --target $to get PRIORITY1|--attempts 0: it takes a number from 1 to 255
 -i near0 -m 0011223344556677 --target $to get PRIORITY1|--manager 0011223344556677: it takes
@@ -58,15 +58,15 @@ $to_utc -32769 leap61 0 leap59 0 currentUtcOffsetValid 1|currentUtcOffset -32769
 -2 --udp 10.9.9.2 --target $to get PRIORITY1|--ethernet excludes --udp and --ipv6
 -u $work/nowhere --target $to set PRIORITY1 1|nothing was sent: $work/nowhere: No such file or directory
 -i near0 --target ffffffffffffffff get PRIORITY1|nothing was asked: TARGET_IS_EVERY
--i near0 --give-up --target $to get PRIORITY1|--give-up: no session is kept of what is asked
+-i near0 --give-up --target $to get PRIORITY1|--give-up: this request has no session
 -i near0 --give-up apply $work/site.toml|--give-up: of these only resume takes it
 -i near0 --target $to get PORT_DATA_SET|nothing was asked: NEEDS_PORT
--i near0 --target $to -p 256 -k $work/other get PRIORITY1|no session is kept of a port above 255
--i near0 --target $to get PRIORITY1 PRIORITY2|get takes one managementId: PRIORITY2 is asked for by a run of its own
+-i near0 --target $to -p 256 -k $work/other get PRIORITY1|a request to a port above 255 has no session
+-i near0 --target $to get PRIORITY1 PRIORITY2|get takes one managementId: ask for PRIORITY2 in a run of its own
 -i near0 --target $to -p all set PRIORITY1 1|--port all: only get takes it
 -i near0 -p all survey PRIORITY1|--port all: only get takes it
 -i near0 --target $to-1 -p all get PRIORITY1|--port all names every port, and --target names one
--i near0 --target $to -m $other/1 -p all get PRIORITY1|--port all asks by no manager
+-i near0 --target $to -m $other/1 -p all get PRIORITY1|--port all asks anonymously
 -i near0 --target ffffffffffffffff -p all get PRIORITY1|nothing was asked: TARGET_IS_EVERY
 END
 for words in "4 resume|XDG_STATE_HOME names another folder" "2 set PRIORITY1 1 --target $to|--numbers FILE keeps the session elsewhere"; do

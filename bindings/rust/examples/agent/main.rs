@@ -92,7 +92,7 @@ fn clock_of(
     let Some(image) = store.load()? else {
         let mut clock = SavingClock::new(Clock::start(settings, ports, managers)?, MOST_WAITING)?;
         let mut room = Box::new([0; CLOCK_IMAGE_OCTETS]);
-        let (image, token) = clock.image(&mut room)?;
+        let (image, token) = clock.image(&mut room[..])?;
         store.save(image)?;
         clock.saved(token)?;
         return Ok(Kept::Saved(clock, store));
@@ -157,7 +157,7 @@ impl Agent {
         }
         if let Kept::Saved(clock, store) = &mut self.clock {
             if clock.is_unsaved() {
-                let (image, token) = clock.image(&mut self.room)?;
+                let (image, token) = clock.image(&mut self.room[..])?;
                 store.save(image)?;
                 clock.saved(token)?;
                 while let Some((egress, octets)) = clock.next_message(&mut self.outbox) {

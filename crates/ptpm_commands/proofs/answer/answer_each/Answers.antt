@@ -8,6 +8,7 @@ use Rattle.ptpm_commands.specs.Lines.{datagram_in, latest_line, left_in}
 use Rattle.ptpm_commands.specs.Taken.{line_datagram}
 use Rattle.ptpm_commands.proofs.TakenLemmas.{all-taken, datagram-fault, first-fault, handed-on, known-itself, next-has, next-last}
 use Rattle.ptpm_commands.proofs.Telling.{answers-kept, answers-pass, answers-turn}
+use Rattle.ptpm_commands.proofs.answer.answer_each.Goals.{else-loop-number-test, then-loop-number-test+in_ok-read+then-not-branch}
 use Rattle.ptpm_commands.proofs.answer.answer_each.Goals as goal
 use Rattle.ptpm_commands.proofs.answer.answer_each.Goals.{in-Some+in_ok-answer_datagram, in_default}
 
@@ -33,6 +34,7 @@ loop-number-preserved g c =
           record {
             clock = ap clock_shown w.clock-is ∙ turned.clock ∙ was.clock;
             port = rw w.clock-is turned.port;
+            few = rw w.clock-is turned.most;
             told = answers-kept fresh first (state_shown c.match-branch-3.clock) (n + 1) known others (W c.args.out.now) (W c.match-branch-3.out) (W c.flush_before_wait.new.out)
                 (rw (w.clock-is, w.out-is)
                 (answers-turn fresh (clock_shown c.loop-number.clock) first (state_shown c.loop-number.clock) (state_shown w.answer_datagram.new.clock) n known left others
@@ -45,6 +47,7 @@ loop-number-preserved g c =
           record {
             clock = ap clock_shown w.clock-is ∙ was.clock;
             port = rw w.clock-is was.port;
+            few = rw w.clock-is was.few;
             told = answers-kept fresh first (state_shown c.match-branch-3.clock) (n + 1) known others (W c.args.out.now) (W c.match-branch-3.out) (W c.flush_before_wait.new.out)
                 (rw (w.clock-is, w.out-is)
                 (answers-pass fresh first (state_shown c.loop-number.clock) n known left others (W c.args.out.now) (W c.loop-number.out) was.told at)) kept;
@@ -67,27 +70,22 @@ returns-in_err-datagram-clause-lines g c =
     (first-fault line_datagram text told.datagrams n known known left others (W c.args.out.now) (W c.loop-number.out) (W c.loop-number.out) _ (known-itself known) told.reaches
     (datagram-fault n left others line _ read c.in_err-datagram.ensures.fault) c.in_err-datagram.ensures.line told.printed (λ of_line. refl))
 
-pub returns-after-loop-number-clause-lines : goal.returns-after-loop-number-clause-lines
-returns-after-loop-number-clause-lines g c =
+pub returns-clause-lines : goal.returns-clause-lines
+returns-clause-lines g c =
     let R = g.R.Read.remaining in
     let W = g.O.Write.contents in
     let told = c.loop-number.invariant.told in
     let text = answered_each (clock_with shown managers) (initial_clock_state fresh_sets) in
     let known = left_in R c.args.lines.now in
     let left = left_in R c.loop-number.lines in
-    all-taken line_datagram text told.datagrams c.loop-number.number known known left left (W c.args.out.now) (W c.loop-number.out) (known-itself known) told.reaches
-    (inr c.loop-number-test.false) told.printed
-
-pub returns-then-not-branch-clause-lines : goal.returns-then-not-branch-clause-lines
-returns-then-not-branch-clause-lines g c =
-    let R = g.R.Read.remaining in
-    let W = g.O.Write.contents in
-    let told = c.loop-number.invariant.told in
-    let text = answered_each (clock_with shown managers) (initial_clock_state fresh_sets) in
-    let known = left_in R c.args.lines.now in
-    let left = left_in R c.loop-number.lines in
-    let others = left_in R c.read.new.self in
-    let line = latest_line c.read.new.self in
-    let read = subst (λ more. ReadsNext left more line others) c.if-not-branch.true c.in_ok-read.ensures.next in
-    all-taken line_datagram text told.datagrams c.loop-number.number known known left others (W c.args.out.now) (W c.loop-number.out) (known-itself known) told.reaches
-    (inl (next-last left others line read)) told.printed
+    elim c.loop-number-test.branch [
+      | else-loop-number-test w ↦
+          all-taken line_datagram text told.datagrams c.loop-number.number known known left left (W c.args.out.now) (W c.loop-number.out) (known-itself known) told.reaches
+          (inr w.loop-number-test.false) told.printed
+      | then-loop-number-test+in_ok-read+then-not-branch w ↦
+          let others = left_in R w.read.new.self in
+          let line = latest_line w.read.new.self in
+          let read = subst (λ more. ReadsNext left more line others) w.if-not-branch.true w.in_ok-read.ensures.next in
+          all-taken line_datagram text told.datagrams c.loop-number.number known known left others (W c.args.out.now) (W c.loop-number.out) (known-itself known) told.reaches
+          (inl (next-last left others line read)) told.printed
+    ]

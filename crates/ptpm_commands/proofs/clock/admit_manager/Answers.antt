@@ -4,7 +4,7 @@ use Rattle.ptpm_commands.specs.FreshClock.{managers}
 use Rattle.ptpm_commands.proofs.clock.admit_manager.Goals as goal
 
 pub admit-requires : goal.admit-requires
-admit-requires c = (search rules, (ap (λ (k : Clock). k.managers) c.requires.table.owner_is, (search rules, search rules)))
+admit-requires c = (search rules, (ap (λ (k : Clock). k.managers) c.requires.table.owner_is, (search rules, (search rules, search rules))))
 
 pub returns-clause-table : goal.returns-clause-table
 returns-clause-table c =

@@ -7,7 +7,7 @@ use Rattle.ptpm_data.specs.declared.start.StartError.{StartError}
 use Rattle.ptpm_data.specs.ManagementId.{set_of}
 use Rattle.ptpm_data.specs.Members.{DataSetsValue}
 use Rattle.ptpm_data.specs.Ranges.{is_description}
-use Rattle.ptpm_data.specs.Start.{default_clock, default_port, start_of, count_fault, clock_fault, port_fault, ports_fault, grandmaster_fault}
+use Rattle.ptpm_data.specs.Start.{default_clock, default_port, start_of, start_within, count_fault, clock_fault, port_fault, ports_fault, grandmaster_fault}
 use Rattle.ptpm_commands.specs.FreshClock.{shown, two_ports, fresh_sets}
 use Rattle.ptpm_commands.proofs.clock.first_sets.Goals as goal
 
@@ -15,7 +15,7 @@ abbrev made : Result DataSetsValue StartError
 made = Ok fresh_sets
 
 faultless : start_of (default_clock shown 0) two_ports ≡ made
-unfolding start_of count_fault clock_fault port_fault ports_fault grandmaster_fault is_description set_of is_utf8 chars
+unfolding start_within count_fault clock_fault port_fault ports_fault grandmaster_fault is_description set_of is_utf8 chars
 faultless = refl
 
 -- whatever values are the defaults

@@ -17,7 +17,7 @@ keep_again-requires-clause-fits g c =
     let q = c.get.inside.request in
     let given = reply_given 130 q c.args.octets.now in
     let is : map answer_of c.as_slice-answers.result.now ≡ given.answers =
-    ap (λ xs. map answer_of xs) c.as_slice-answers.ensures ∙ ap (λ (r : ReplyValue). r.answers) c.reply_given-reply.ensures in
+    ap (λ xs. map answer_of xs) c.as_slice-answers.ensures.value ∙ ap (λ (r : ReplyValue). r.answers) (c.reply.view_is ∙ c.reply_given-reply.ensures) in
     reply_given-fits q c.args.octets.now _
     (subst (λ (r : NumberedRequest). is_lacked r.request ≡ true) (sym c.get.view_is) c.requires.lacked)
     c.requires.octets (ap (λ (xs : List Answer). record { action = given.action; id = given.id; answers = xs }) is)

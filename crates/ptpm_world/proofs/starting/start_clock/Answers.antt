@@ -27,7 +27,10 @@ admit-requires c =
         ap (λ (r : RunningClock). (agent_clock r.agent).managers) is ∙ ap (λ (k : Clock). k.managers) c.without_managers.ensures.table.owner_is,
         (
           subst (λ ms. length ms ≤ 16) (sym managers_are) (few_managers n facts c.args.place),
-          subst (λ ms. has_twice (identities ms) ≡ false) (sym managers_are) (none_twice n.sessions c.args.place facts.session_identities),
+          (
+            subst (λ ms. has_twice (identities ms) ≡ false) (sym managers_are) (none_twice n.sessions c.args.place facts.session_identities),
+            c.index_mut-clock.result.now.few_answers,
+          ),
         ),
       ),
     )

@@ -1,0 +1,110 @@
+/* An agent of a switch: its clock has a port at each interface that its words name, 1 to 64 of them (UDP over IPv4, annex C). Its places
+   for messages are twice as many as its ports, less one. What a manager changes is not acted on here, and nothing is kept across a
+   restart. It is C, and C++ too:
+       cc switch_host.c $(pkg-config --cflags --libs ptpm) && sudo ./a.out swp1 swp2 swp3 */
+#define _DEFAULT_SOURCE
+#include <arpa/inet.h>
+#include <net/if.h>
+#include <ptpm.h>
+#include <stdlib.h>
+#include <string.h>
+#include <sys/epoll.h>
+#include <sys/random.h>
+#include <sys/socket.h>
+#include <time.h>
+#include <unistd.h>
+
+enum { NOTED = 1000, RATE = 100, EVENTS = 16 };     /* milliseconds in which a message is forwarded once, and messages a second */
+
+static const uint8_t identity[8] = { 0xaa, 0xbb, 0xcc, 0xff, 0xfe, 0xdd, 0xee, 0x01 };
+static const struct ptpm_manager_settings manager = {
+    { 0x02, 0x00, 0x00, 0xff, 0xfe, 0x00, 0x00, 0x10 }, 1, PTPM_CLOCK_SET | PTPM_PORT_SET | PTPM_PORT_COMMAND
+};
+static struct ptpm_clock device;                    /* all zeros: no clock is held yet */
+static size_t port_count, places;
+static struct ptpm_sent *sent;                      /* as many places: they are used again for each datagram */
+static int sockets[PTPM_MOST_PORTS];
+static struct ptpm_rate rates[PTPM_MOST_PORTS];     /* what each port still forwards */
+static struct ptpm_passed_on passed_on;             /* what was forwarded last */
+static uint8_t datagram[65536];
+static struct sockaddr_in group;
+
+static int open_port(const char *interface) {
+    const int one = 1, none = 0;
+    struct ip_mreqn join;
+    int at = socket(AF_INET, SOCK_DGRAM, 0);
+    memset(&join, 0, sizeof join);
+    join.imr_multiaddr = group.sin_addr;
+    join.imr_ifindex = (int)if_nametoindex(interface);
+    return at >= 0 && setsockopt(at, SOL_SOCKET, SO_REUSEADDR, &one, sizeof one) == 0
+           && setsockopt(at, SOL_SOCKET, SO_BINDTODEVICE, interface, (socklen_t)strlen(interface) + 1) == 0
+           && bind(at, (const struct sockaddr *)&group, sizeof group) == 0
+           && setsockopt(at, IPPROTO_IP, IP_ADD_MEMBERSHIP, &join, sizeof join) == 0
+           && setsockopt(at, IPPROTO_IP, IP_MULTICAST_IF, &join, sizeof join) == 0
+           && setsockopt(at, IPPROTO_IP, IP_MULTICAST_LOOP, &none, sizeof none) == 0 ? at : -1;
+}
+
+/* The start takes all memory that the clock ever has, and the host all its places. */
+static bool start(void) {
+    struct ptpm_clock_settings settings;
+    struct ptpm_port_settings ports[PTPM_MOST_PORTS];
+    places = PTPM_MOST_SENT_OF(port_count);
+    sent = (struct ptpm_sent *)calloc(places, sizeof *sent);
+    ptpm_clock_defaults(&settings);
+    memcpy(settings.identity, identity, sizeof identity);
+    for (size_t i = 0; i < port_count; i++) ptpm_port_defaults(&ports[i]);
+    return sent != NULL && ptpm_clock_start_sized(&device, &settings, ports, port_count, &manager, 1) == PTPM_STARTED;
+}
+
+/* Milliseconds, of a clock that nobody sets. */
+static uint64_t time_now(void) {
+    struct timespec now;
+    clock_gettime(CLOCK_MONOTONIC, &now);
+    return (uint64_t)now.tv_sec * 1000 + (uint64_t)now.tv_nsec / 1000000;
+}
+
+/* Sends what the clock made of a datagram, each message at the socket of its port. What is for the port that it came in at answers it,
+   and all else forwards it: once in a while, and not too much. */
+static void send_messages(uint16_t port, size_t size, size_t count) {
+    bool is_asked = false, is_first = false;
+    uint64_t now = time_now();
+    for (size_t i = 0; i < count; i++) {
+        int at = sent[i].port - 1;
+        if (sent[i].port != port) {
+            if (!is_asked) is_first = ptpm_passed_on_is_first(&passed_on, datagram, size, now, NOTED);
+            is_asked = true;
+            if (!is_first || !ptpm_rate_take(&rates[at], now)) continue;
+        }
+        sendto(sockets[at], sent[i].octets, sent[i].size, MSG_DONTWAIT, (const struct sockaddr *)&group, sizeof group);
+    }
+}
+
+static void come_in(uint16_t port) {
+    size_t count;
+    ssize_t size = recv(sockets[port - 1], datagram, sizeof datagram, MSG_DONTWAIT);
+    if (size < 0) return;
+    ptpm_clock_handle(&device, port, datagram, (size_t)size, sent, places, &count);
+    send_messages(port, (size_t)size, count);
+}
+
+int main(int count_of_words, char **words) {
+    struct epoll_event events[EVENTS];
+    int polled = epoll_create1(0);
+    port_count = (size_t)(count_of_words - 1);
+    if (port_count < 1 || port_count > PTPM_MOST_PORTS) return 2;
+    group.sin_family = AF_INET;
+    group.sin_port = htons(320);
+    group.sin_addr.s_addr = inet_addr("224.0.1.129");
+    if (!start() || getrandom(&passed_on.seed, sizeof passed_on.seed, 0) != sizeof passed_on.seed) return 1;
+    for (size_t i = 0; i < port_count; i++) {
+        ptpm_rate_start(&rates[i], RATE, time_now());
+        sockets[i] = open_port(words[i + 1]);
+        memset(&events[0], 0, sizeof events[0]);
+        events[0].events = EPOLLIN;
+        events[0].data.u32 = (uint32_t)(i + 1);
+        if (sockets[i] < 0 || epoll_ctl(polled, EPOLL_CTL_ADD, sockets[i], &events[0])) return 1;
+    }
+    for (int found; (found = epoll_wait(polled, events, EVENTS, -1)) > 0;)
+        for (int i = 0; i < found; i++) come_in((uint16_t)events[i].data.u32);
+    return 1;
+}
