@@ -38,7 +38,7 @@ pub struct HostedClock {
     pub(crate) under_way: Option<UnderWay>,
 }
 
-const _: () = prove!(size_of::<HostedClock>() == 600);
+const _: () = prove!(size_of::<HostedClock>() == 616);
 
 /// What became of a datagram.
 #[derive(Clone, Copy, Debug)]
