@@ -21,9 +21,9 @@ use std::alloc::Global;
 pub(crate) struct JudgedStart {
     pub sets: DataSets,
     pub managers: ConfiguredManagers,
-    /// What its ports start with. It goes after the clock is made: so what a clock takes lies in one piece where a host gives memory
-    /// from one end.
-    starts: Vec<PortStart>,
+    /// What its ports start with, if they lie in a block. It goes after the clock is made: so what a clock takes lies in one piece
+    /// where a host gives memory from one end.
+    starts: Option<Vec<PortStart>>,
 }
 
 impl JudgedStart {
@@ -57,6 +57,11 @@ impl JudgedStart {
         if ClockIdentity(settings.identity) == NO_IDENTITY {
             return Err(StartRefusal::IdentityIsZero);
         }
+        let starts = if starts.len() <= INLINE_PORTS {
+            None
+        } else {
+            Some(starts)
+        };
         Ok(JudgedStart {
             sets,
             managers,
