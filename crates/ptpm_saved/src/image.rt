@@ -35,8 +35,7 @@ const ENTRY_OCTETS: usize = FRONT_OCTETS + DATA_FIELD_OCTETS + 1 + ANSWERS_OCTET
 
 /// How many octets the image of a clock has at most. They are 12 of the head, those of the data sets, one that counts the
 /// entries, and an entry of each manager.
-pub const CLOCK_OCTETS: usize =
-    HEAD_OCTETS + DATA_SETS_OCTETS + 1 + MOST_MANAGERS * ENTRY_OCTETS;
+pub const CLOCK_OCTETS: usize = HEAD_OCTETS + DATA_SETS_OCTETS + 1 + MOST_MANAGERS * ENTRY_OCTETS;
 
 /// Room for what comes before the dataField.
 type Front = ArrayVec<u8, FRONT_OCTETS>;

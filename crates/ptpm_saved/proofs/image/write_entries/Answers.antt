@@ -84,10 +84,6 @@ returns-clause-end g c =
 
 pub returns-clause-small : goal.returns-clause-small
 returns-clause-small g c =
-    omega (arith, c.loop-index.invariant.small, c.loop-index.auto.index-end, c.count-index-end.ensures.few)
-
-pub returns-clause-small : goal.returns-clause-small
-returns-clause-small g c =
     let es = entries (g.T.ReplyTable.entries c.args.table.now) in
     let end : c.loop-index.index ≡ length es =
     omega (arith, c.loop-index-test.false, c.loop-index.auto.index-end, c.count-index-end.ensures.count, ap length c.in_order-entries.ensures) in

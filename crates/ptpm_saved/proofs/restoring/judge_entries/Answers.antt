@@ -39,7 +39,7 @@ loop-place-preserved c =
 pub returns-clause-sound : goal.returns-clause-sound
 returns-clause-sound c = λ empty.
     let w = read_whole c.args.room.most c.args.entries.now.octets.now c.args.entries.now.count c.loop-place._place c.loop-place.octets.now c.loop-place.after
-    c.loop-place.invariant.so_far (omega (arith, c.loop-place-test.false, c.loop-place.auto._place-end)) (omega (arith, c.if-MOST_MANAGERS-count.false))
+    c.loop-place.invariant.so_far (omega (arith, c.loop-place-test.false, c.loop-place.auto._place-end)) (omega (arith, c.if-count-gt-MOST_MANAGERS.false))
     (empty_of c.loop-place.octets.now c.is_empty.result c.is_empty.ensures empty) in
     (w.es, w.entries, w.size, w.octets_are)
 

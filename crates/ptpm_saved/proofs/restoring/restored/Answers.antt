@@ -3,6 +3,7 @@ use Rattle.std.specs.FinMap.{entries}
 use Rattle.ptpm_data.specs.Members.{DataSetsValue}
 use Rattle.ptpm_saved.specs.Image.{saved_of}
 use Rattle.ptpm_saved.specs.Restoring.{IsImageOf, kept_of, let_go}
+use Rattle.ptpm_saved.proofs.BodyLemmas.{image_taken}
 use Rattle.ptpm_saved.proofs.KeptAll.{kept_all, none_gone}
 use Rattle.ptpm_saved.proofs.restoring.restored.Goals as goal
 
@@ -10,6 +11,9 @@ pub put_back_judged-requires-clause-judged : goal.put_back_judged-requires-claus
 put_back_judged-requires-clause-judged g c =
     let r = c.in_ok-judge_into.ensures.judged in
     (r.0, r.1, ap (λ (d : DataSetsValue). length d.ports) (sym r.2 ∙ sym c.new-agent.ensures.sets))
+
+pub returns-in-Err-clause-refused : goal.returns-in-Err-clause-refused
+returns-in-Err-clause-refused g c = let r = c.in_ok-judge_into.ensures.judged in image_taken r.0 c.args.image.now r.1
 
 pub returns-in-Ok-clause-back : goal.returns-in-Ok-clause-back
 returns-in-Ok-clause-back g c = λ s saved image own ports known.
