@@ -1,22 +1,20 @@
 -- The image of an entry, part by part.
-use Rattle.std.proofs.Common.{◌≡◌, ◌+◌, ◌<◌, ℕ, Bool, arith, subst, sym, ◌∙◌, ap, refl, List, [], ◌∷◌, ◌++◌, length, append_assoc, append-nil, map, take, drop, true, false, All, length-append}
+use Rattle.std.proofs.Common.{◌≡◌, ◌+◌, ◌<◌, ℕ, Bool, arith, subst, sym, ◌∙◌, ap, refl, List, [], ◌∷◌, ◌++◌, length, append_assoc, append-nil, take, drop, true, false, All, length-append}
 use Rattle.std.specs.List.{flat_map}
-use Rattle.std.proofs.lemmas.List.{length-map, map-append, take-append-drop, take_all}
+use Rattle.std.proofs.lemmas.List.{take-append-drop, take_all}
 use Rattle.std.proofs.Math.Seq.{drop-append_seam, take-append_seam}
-use Rattle.std.proofs.lemmas.List.Elements.{All-head, All-map, All-nil, All-push, All-tail, All-weaker}
+use Rattle.std.proofs.lemmas.List.Elements.{All-head, All-nil, All-push, All-tail, All-weaker}
 use Rattle.byteorder.specs.Endian.{big_bytes}
 use Rattle.ptpm_codec.specs.declared.identity.ClockIdentity.{ClockIdentity}
 use Rattle.ptpm_codec.specs.declared.identity.PortIdentity.{PortIdentity}
 use Rattle.ptpm_codec.specs.Canonical.{port_identity_octets}
 use Rattle.ptpm_codec.specs.Layout.{clock_identity_at}
-use Rattle.ptpm_codec.specs.Message.{IsDataField, IsRequestAction, PortIdentityFits, action_code, reply_action}
-use Rattle.ptpm_data.specs.Reply.{Answer, ReplyValue, answer_of}
+use Rattle.ptpm_codec.specs.Message.{IsDataField, IsRequestAction, PortIdentityFits, action_code}
+use Rattle.ptpm_data.specs.Reply.{Answer, ReplyValue}
 use Rattle.ptpm_data.specs.Request.{RequestValue}
 use Rattle.ptpm_data.specs.ManagementId.{is_of_port}
-use Rattle.ptpm_data.specs.declared.reply.PortAnswer.{PortAnswer}
 use Rattle.ptpm_codec.specs.declared.message.Action.{Action}
 use Rattle.ptpm_table.specs.Entries.{FitsAnswer, FitsCount, reply_with}
-use Rattle.ptpm_table.proofs.ListLemmas.{All-unmap}
 use Rattle.ptpm_manager.specs.Image.{request_image}
 use Rattle.ptpm_table.specs.Lending.{AnswerFits, EntryFits, IsKeepable}
 use Rattle.ptpm_saved.specs.Image.{answer_image, answers_image, entry_image, front_image, reply_image}

@@ -1,4 +1,4 @@
-use Rattle.std.proofs.Common.{◌∙◌, List, All, ap, arith, length, subst, sym}
+use Rattle.std.proofs.Common.{◌∙◌, List, All, ap, subst, sym}
 use Rattle.ptpm_codec.specs.Message.{IsDataField}
 use Rattle.ptpm_codec.specs.declared.message.Action.{Action}
 use Rattle.ptpm_data.specs.ManagementId.{is_of_port}
@@ -7,7 +7,7 @@ use Rattle.ptpm_data.specs.Request.{RequestValue}
 use Rattle.ptpm_table.specs.Entries.{FitsAnswer}
 use Rattle.ptpm_table.proofs.ListLemmas.{All-unmap}
 use Rattle.std.proofs.lemmas.List.Elements.{All-map}
-use Rattle.ptpm_saved.proofs.ReadingLemmas.{count_there, keepable_reply, not_fitting, reply_there}
+use Rattle.ptpm_saved.proofs.ReadingLemmas.{keepable_reply, not_fitting, reply_there}
 use Rattle.ptpm_saved.proofs.entry_reading.read_reply.Goals as goal
 
 pub returns-then-not-fit_answers-clause-found : goal.returns-then-not-fit_answers-clause-found

@@ -1,4 +1,4 @@
-use Rattle.std.proofs.Common.{◌∙◌, ap, arith, length, subst, sym}
+use Rattle.std.proofs.Common.{◌∙◌, ap, length, sym}
 use Rattle.std.specs.FinMap.{entries}
 use Rattle.ptpm_data.specs.Members.{DataSetsValue}
 use Rattle.ptpm_saved.specs.Image.{saved_of}
