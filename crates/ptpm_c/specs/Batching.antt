@@ -1,6 +1,7 @@
 -- What a call of C does to a clock that is saved while it takes datagrams, and which a handle holds.
-use Rattle.std.specs.Prelude.{◌≡◌, ◌≤◌, ◌<◌, ◌||◌, ◌+◌, ◌++◌, ◌∷◌, ℕ, Bool, false, true, IsSomeAnd, List, None, Ok, Option, Some, [], drop, if◌then◌else◌, is_some, length, take}
+use Rattle.std.specs.Prelude.{◌≡◌, ◌≢◌, ◌≤◌, ◌<◌, ◌||◌, ◌+◌, ◌++◌, ◌∷◌, ℕ, Bool, false, true, IsSomeAnd, List, None, Ok, Option, Some, [], drop, if◌then◌else◌, is_some, length, take}
 use Rattle.ptpm_data.specs.Changed.{changed}
+use Rattle.ptpm_data.specs.declared.ports.TheConstants.{INLINE_PORTS}
 use Rattle.ptpm_data.specs.declared.observation.ObservationError.{ObservationError}
 use Rattle.ptpm_agent.specs.Turn.{Turned}
 use Rattle.ptpm_device.specs.Asking.{asked}
@@ -24,7 +25,7 @@ use Rattle.ptpm_host.specs.declared.sent.Sent.{Sent}
 use Rattle.ptpm_host.specs.Clock.{clock_in, message_in, messages_in, state_in}
 use Rattle.ptpm_host.specs.Coming.{ClockBatch, Decides, Undertakes, datagram_in, turn_of, undertaken}
 use Rattle.ptpm_host.specs.Device.{AsksNothing, say_in}
-use Rattle.ptpm_host.specs.Numbers.{act_now, decide_number, no_room, observe_number, take_number, undertake_number, verdict_number}
+use Rattle.ptpm_host.specs.Numbers.{act_now, decide_number, no_memory, no_room, observe_number, take_number, undertake_number, verdict_number}
 use Rattle.ptpm_host.specs.Observing.{IsObserved, clock_observation, left_number, observe_refusal, port_observations, ports_left}
 use Rattle.ptpm_host.specs.SavingClock.{IsAsBatch, IsCalled, IsCalledAt, acts_once_saved, called_at, clock_state_in, decide_refusal, free_places, request_under_way, state_asked, take_refusal, undertake_refusal}
 use Rattle.ptpm_host.specs.Undertaking.{asked_once_saved}
@@ -156,6 +157,7 @@ pub record IsImagedAs (w : SavingClock) (token : ℕ) (x : SavingClock) : Type 0
 abbrev pub MakesImage : SavingClock → List ℕ → ℕ → ℕ → ℕ → List ℕ → Option SavingClock → Type 0
 MakesImage w before number size token after left =
     length (image_of w.clock.value) ≤ length before
+    → number ≢ no_memory
     → (number ≡ 0)
     × ((size ≡ length (image_of w.clock.value))
     × ((after ≡ image_of w.clock.value ++ drop size before) × IsSomeAnd left (IsImagedAs w token)))
@@ -163,7 +165,13 @@ MakesImage w before number size token after left =
 abbrev pub RefusesImage : SavingClock → List ℕ → ℕ → ℕ → ℕ → List ℕ → Option SavingClock → Type 0
 RefusesImage w before number size token after left =
     length before < length (image_of w.clock.value)
+    → number ≢ no_memory
     → (number ≡ no_room) × ((size ≡ 0) × ((token ≡ 0) × ((after ≡ before) × (left ≡ Some w))))
+
+-- memory lacks, for the copy of more than INLINE_PORTS ports alone
+pub record ForgoesImage (w : SavingClock) (before : List ℕ) (number size token : ℕ) (after : List ℕ) (left : Option SavingClock) : Type 0 where
+  pub few : length w.clock.value.agent.sets.ports ≤ INLINE_PORTS → number ≢ no_memory
+  pub nothing : number ≡ no_memory → (size ≡ 0) × ((token ≡ 0) × ((after ≡ before) × (left ≡ Some w)))
 
 -- the number of what the host does then
 abbrev pub done_number : Saved → ℕ

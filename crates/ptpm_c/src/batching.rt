@@ -10,7 +10,7 @@ ghost use Rattle.ptpm_host.specs.Clock.{IsWhole, KeepsBehind, state_in};
 ghost use Rattle.ptpm_host.specs.MostSent.{most_sent};
 ghost use Rattle.ptpm_host.specs.Numbers.{no_clock, no_memory, no_room, saved_number, verdict_number};
 ghost use Rattle.ptpm_host.specs.SavingClock.{free_places, is_unsaved};
-ghost use Rattle.ptpm_c.specs.Batching.{BeginsSaved, DecidesCall, GivesMessage, IsSaved, MakesImage, RefusesCall, RefusesDecision, RefusesImage, ReportsCall, TakesCall, done_number};
+ghost use Rattle.ptpm_c.specs.Batching.{BeginsSaved, DecidesCall, ForgoesImage, GivesMessage, IsSaved, MakesImage, RefusesCall, RefusesDecision, RefusesImage, ReportsCall, TakesCall, done_number};
 ghost use Rattle.ptpm_c.specs.Held.{any_clock_held, clock_held, clock_of, held, saving_clock_held, saving_clock_of};
 ghost use Rattle.ptpm_c.specs.Said.{ArePlaced};
 
@@ -18,7 +18,7 @@ use crate::device::Taken;
 use crate::handle::{Handle, held};
 use crate::kept::Hosted;
 use ptpm_host::{
-    ACT_NOW, HostedClock, NO_CLOCK, NO_MEMORY, NO_ROOM, Saved, SavingClock, SavingRefusal, Say,
+    ACT_NOW, HostedClock, ImageRefusal, NO_CLOCK, NO_MEMORY, NO_ROOM, Saved, SavingClock, SavingRefusal, Say,
     Sent, decide_number, saved_number, take_number, verdict_number,
 };
 use std::alloc::Global;
@@ -169,9 +169,10 @@ pub(crate) fn decide(
 }
 
 /// Does what `ptpm_clock_image` does, for such a clock. Also leaves in `token` how many images were made of it; 0 if it is refused.
-/// No earlier image can be said to be saved then. Takes no memory.
+/// No earlier image can be said to be saved then. Takes memory for a clock of more than `ptpm_data::INLINE_PORTS` ports alone.
 #[unsafe(no_mangle)]
 pub extern "C" fn ptpm_clock_image_of(
+    alloc: Global,
     handle: &mut Handle,
     octets: &mut [u8],
     size: &mut usize,
@@ -186,6 +187,10 @@ pub extern "C" fn ptpm_clock_image_of(
         → saving_clock_held handle.old.keeping ≡ Some w
         → RefusesImage w octets.old result size.new token.new octets.new
         (saving_clock_held handle.new.keeping) }
+    ensures memory { (w : SavingClock)
+        → saving_clock_held handle.old.keeping ≡ Some w
+        → ForgoesImage w octets.old result size.new token.new octets.new
+        (saving_clock_held handle.new.keeping) }
     ensures empty { saving_clock_held handle.old.keeping ≡ None
         → (result ≡ no_clock)
         × ((size.new ≡ 0)
@@ -195,27 +200,34 @@ pub extern "C" fn ptpm_clock_image_of(
     *size = 0;
     *token = 0;
     held!(handle, Hosted::SavingClock(clock), NO_CLOCK);
-    make_image(clock, octets, size, token)
+    make_image(alloc, clock, octets, size, token)
 }
 
-/// Makes an image of such a clock, or says that there is no room for it.
-fn make_image(clock: &mut SavingClock, octets: &mut [u8], size: &mut usize, token: &mut u64) -> u32
+/// Makes an image of such a clock, or says why there is none.
+fn make_image(
+    alloc: Global,
+    clock: &mut SavingClock,
+    octets: &mut [u8],
+    size: &mut usize,
+    token: &mut u64,
+) -> u32
     ensures image { MakesImage clock.old octets.old result size.new token.new octets.new
         (Some clock.new) }
     ensures room { RefusesImage clock.old octets.old result size.new token.new octets.new
         (Some clock.new) }
+    ensures memory { ForgoesImage clock.old octets.old result size.new token.new octets.new
+        (Some clock.new) }
 {
-    match clock.image(octets) {
-        Some((count, of)) => {
+    *size = 0;
+    *token = 0;
+    match clock.image(alloc, octets) {
+        Ok((count, of)) => {
             *size = count;
             *token = of;
             0
         }
-        None => {
-            *size = 0;
-            *token = 0;
-            NO_ROOM
-        }
+        Err(ImageRefusal::NoRoom) => NO_ROOM,
+        Err(ImageRefusal::OutOfMemory) => NO_MEMORY,
     }
 }
 

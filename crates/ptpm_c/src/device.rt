@@ -35,7 +35,7 @@ pub struct Taken {
     pub changed: ChangedMembers,
 }
 
-const _: () = prove!(size_of::<Taken>() == 32);
+const _: () = prove!(size_of::<Taken>() == 88);
 
 impl Taken {
     /// Nothing.

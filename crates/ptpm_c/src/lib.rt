@@ -169,7 +169,7 @@ pub extern "C" fn ptpm_clock_observe(
     handle: &mut Handle,
     observed: &ObservedClock,
     ports: &[ObservedPort],
-    left: &mut u8,
+    left: &mut u64,
 ) -> u32
     ensures observed { (c : HostedClock)
         → clock_held handle.old.keeping ≡ Some c
@@ -209,7 +209,7 @@ pub extern "C" fn ptpm_clock_observe(
 }
 
 /// The number of what became of an observation. `left` gets the ports that stay disabled; 0 if it was refused.
-fn say_left(outcome: Result<PortsLeftDisabled, ObservationError>, left: &mut u8) -> u32
+fn say_left(outcome: Result<PortsLeftDisabled, ObservationError>, left: &mut u64) -> u32
     ensures { MatchResult outcome
         (λ ports. (result ≡ 0) × (left.new ≡ left_number ports))
         (λ e. (result ≡ observe_number e) × (left.new ≡ 0)) }

@@ -16,7 +16,7 @@ use crate::kept::Hosted;
 use ptpm_host::{HostedClock, ManagerSettings, NO_CLOCK, NO_MEMORY, NO_ROOM, clock_restore_number};
 use std::alloc::Global;
 
-/// Leaves the clock's image at the head of `octets`: `size` octets, 104 to 27,385. Answers 0, or the number of the refusal, and
+/// Leaves the clock's image at the head of `octets`: `size` octets, 104 to 216,289. Answers 0, or the number of the refusal, and
 /// then nothing is written. What comes after the image stays. Takes no memory.
 #[unsafe(no_mangle)]
 pub extern "C" fn ptpm_clock_image(handle: &mut Handle, octets: &mut [u8], size: &mut usize) -> u32

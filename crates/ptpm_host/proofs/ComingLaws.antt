@@ -46,14 +46,14 @@ module _ (P : Turned → Type 0) (c : Clock) (s : State) (port : ℕ) (datagram 
   each_owner : (o : Option Message)
       → P (turn c s port datagram)
       → ((v : Message) → o ≡ Some v
-      → P (owner_turned v s.entries (turn (owner_clock s.sets v.source) (record { sets = s.sets; entries = empty }) port datagram)))
+      → P (owner_turned v s.entries (turn (owner_clock c.identity v.source) (record { sets = s.sets; entries = empty }) port datagram)))
       → P (owner_by c s port datagram o)
   each_owner None own owned = own
   each_owner (Some v) own owned = owned v refl
 
   pub owner_turn-each : P (turn c s port datagram)
       → ((v : Message) → message_of datagram ≡ Some v
-      → P (owner_turned v s.entries (turn (owner_clock s.sets v.source) (record { sets = s.sets; entries = empty }) port datagram)))
+      → P (owner_turned v s.entries (turn (owner_clock c.identity v.source) (record { sets = s.sets; entries = empty }) port datagram)))
       → P (owner_turn c s port datagram)
   unfolding owner_turn
   owner_turn-each own owned = each_owner (message_of datagram) own owned
@@ -112,7 +112,7 @@ module _ (c : Clock) where
   owner_can_be : (s : State) (port : ℕ) (datagram : List ℕ) → CanBe s → CanBe (owner_turn c s port datagram).next
   owner_can_be s port datagram can =
       owner_turn-each (λ t. CanBe t.next) c s port datagram ((clock_sound c).after_can_be s (port, datagram) can)
-      (λ v read. (clock_sound (owner_clock s.sets v.source)).after_can_be (record { sets = s.sets; entries = empty }) (port, datagram) can)
+      (λ v read. (clock_sound (owner_clock c.identity v.source)).after_can_be (record { sets = s.sets; entries = empty }) (port, datagram) can)
 
   owner_unchanged : (s : State) (port : ℕ) (datagram : List ℕ)
       → is_new (owner_turn c s port datagram).verdict ≡ false
@@ -121,7 +121,7 @@ module _ (c : Clock) where
       owner_turn-each (λ t. is_new t.verdict ≡ false → t.next ≡ s) c s port datagram
       ((clock_sound c).unchanged s (port, datagram))
       (λ v read.
-      let k = owner_clock s.sets v.source in
+      let k = owner_clock c.identity v.source in
       let s0 : State = record { sets = s.sets; entries = empty } in
       subst (λ t. is_new (owner_turned v s.entries t).verdict ≡ false → (owner_turned v s.entries t).next ≡ s)
       (sym (turn-message k s0 port datagram v read))
@@ -282,7 +282,7 @@ module _ (c : Clock) where
       → length (turn_of c s port datagram say of_owner).next.sets.ports ≡ length s.sets.ports
   turn_of-ports s port datagram say true =
       owner_turn-each (λ t. length t.next.sets.ports ≡ length s.sets.ports) c s port datagram (turn-ports c s port datagram)
-      (λ v read. turn-ports (owner_clock s.sets v.source) (record { sets = s.sets; entries = empty }) port datagram)
+      (λ v read. turn-ports (owner_clock c.identity v.source) (record { sets = s.sets; entries = empty }) port datagram)
   turn_of-ports s port datagram say false =
       turn_said-each (λ t. length t.next.sets.ports ≡ length s.sets.ports) c s say port datagram (turn-ports c s port datagram)
       (λ v reply read new is. refl) (λ v reply read unnumbered is. refl)

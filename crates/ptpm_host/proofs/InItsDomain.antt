@@ -258,7 +258,7 @@ owner_stays c s port datagram moves = by_message (message_of datagram) refl
         turn-next (λ t. t.sets.default.domain ≡ s.sets.default.domain) c s port datagram refl
         (λ v is. owned_domain c s v (judged c s v) (moved v is))
     by_message (Some w) read =
-        let k = owner_clock s.sets w.source in
+        let k = owner_clock c.identity w.source in
         let s0 : State = record { sets = s.sets; entries = empty } in
         turn-next (λ t. t.sets.default.domain ≡ s.sets.default.domain) k s0 port datagram refl
         (λ v is. owned_domain k s0 v (judged k s0 v) (moved v is))

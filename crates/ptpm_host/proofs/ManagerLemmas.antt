@@ -8,17 +8,18 @@ use Rattle.ptpm_data.proofs.StartLemmas.{passes}
 use Rattle.ptpm_host.specs.declared.settings.ManagerSettings.{ManagerSettings}
 use Rattle.ptpm_host.specs.Settings.{configured, manager_of}
 use Rattle.ptpm_table.specs.declared.error.TableError.TheVariants.{TooMany, Twice}
-use Rattle.ptpm_table.specs.Managers.{has_twice, identities, table_refusal}
+use Rattle.ptpm_table.specs.declared.managers.TheConstants.{MOST_MANAGERS}
+use Rattle.ptpm_table.specs.Managers.{has_twice, identities, block_refusal}
 
 pub too_many : (ms : List ManagerSettings)
-    → 16 < length ms
-    → table_refusal (identities (configured ms)) ≡ Some TooMany
+    → MOST_MANAGERS < length ms
+    → block_refusal (identities (configured ms)) ≡ Some TooMany
 too_many ms h =
     let size = length-map (configured ms) (λ (m : _ × Rights). m.0) ∙ length-map ms manager_of in
-    let many : nat_lt 16 (length (identities (configured ms))) ≡ true = grind (arith, nat_tests) in
+    let many : nat_lt MOST_MANAGERS (length (identities (configured ms))) ≡ true = grind (arith, nat_tests) in
     ap (λ b. if b then Some TooMany else if has_twice (identities (configured ms)) then Some Twice else None) many
 
 pub none_twice : (ms : List (PortIdentity × Rights))
-    → table_refusal (identities ms) ≡ None
+    → block_refusal (identities ms) ≡ None
     → has_twice (identities ms) ≡ false
 none_twice ms h = (passes _ _ _ (passes _ _ _ h).1).0

@@ -8,7 +8,6 @@ use Rattle.ptpm_codec.specs.declared.identity.PortIdentity.{PortIdentity}
 use Rattle.ptpm_codec.specs.declared.message.Message.{Message}
 use Rattle.ptpm_codec.specs.Identity.{identity_cmp}
 use Rattle.ptpm_codec.specs.Reading.{message_of, reading}
-use Rattle.ptpm_data.specs.declared.ports.TheConstants.{PORTS}
 use Rattle.ptpm_data.specs.Members.{HasPort}
 use Rattle.ptpm_data.specs.Replies.{reply_of}
 use Rattle.ptpm_data.specs.Reply.{ReplyValue}
@@ -26,7 +25,6 @@ use Rattle.ptpm_agent.proofs.Turns.{reading-message_of}
 use Rattle.ptpm_device.specs.Asking.{is_lacked, is_permitted}
 use Rattle.ptpm_device.specs.Saying as says
 use Rattle.ptpm_device.specs.Saying.{Say, new_said, reply_given, reply_said, reply_told, said_at, said_by, turn_said, unnumbered_said}
-use Rattle.ptpm_host.specs.declared.clock.TheConstants.{MOST_SENT}
 use Rattle.ptpm_host.specs.Changing.{owner_clock}
 use Rattle.ptpm_host.specs.MostSent.{SendsNoMore, SendsNoMoreAlone, SendsNoMoreHere, most_answers, most_sent}
 use Rattle.ptpm_host.proofs.ComingLaws.{owner_turn-each}
@@ -61,9 +59,9 @@ most_at es place e is =
     let here : get_or es place e ≡ e = cc in
     ap most_answers (take_more es place e inside ∙ ap (λ (x : PortIdentity × Entry). take place es ++ x ∷ []) here) ∙ most_more (take place es) e
 
--- a clock none of whose kept replies has more than PORTS answers
-pub most_few : (s : State) → IsSized s.sets → HaveAnswers PORTS (entries s.entries) → most_sent s ≤ MOST_SENT
-most_few s sized kept = omega (arith, sized.few_ports, kept_most (entries s.entries) PORTS kept)
+-- a clock none of whose kept replies has more answers than this
+pub most_few : (s : State) (kept : ℕ) → HaveAnswers kept (entries s.entries) → most_sent s ≤ max (2 * length s.sets.ports - 1) kept
+most_few s kept few = omega (arith, kept_most (entries s.entries) kept few)
 
 module _ (c : Clock) (s : State) (ingress : ℕ) (datagram : List ℕ) (most : ℕ) (sized : IsSized s.sets) (port : HasPort ingress s.sets) (ports : 2 * length s.sets.ports - 1 ≤ most) (kept : HaveAnswers most (entries s.entries)) where
   turn_here : length (outbox_of (turn c s ingress datagram)) ≤ most
@@ -162,4 +160,4 @@ sends_no_more_owned k s port datagram sized has =
 pub sends_no_more_here : SendsNoMoreHere
 sends_no_more_here c s port datagram sized has =
     owner_turn-each (λ t. length (outbox_of t) ≤ most_sent s) c s port datagram (sends_no_more_alone c s port datagram sized has)
-    (λ v read. sends_no_more_owned (owner_clock s.sets v.source) s port datagram sized has)
+    (λ v read. sends_no_more_owned (owner_clock c.identity v.source) s port datagram sized has)

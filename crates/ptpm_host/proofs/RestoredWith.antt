@@ -58,7 +58,7 @@ module _ (identity : ClockIdentity) (ports : ℕ) (managers : List ManagerSettin
     pub refused_inside : (e : ClockRestoreRefusal) → IsRestoreRefused identity ports managers image e → IsUnderWayRefused identity ports managers octets (inside e)
     refused_inside (refusals.Managers fault) is = is
     refused_inside refusals.IdentityIsZero is = is
-    refused_inside refusals.OutOfMemory is = (is.0, x, (image, there, is.1))
+    refused_inside refusals.OutOfMemory is = record { managers_fit = is.0; not_zero = is.1 }
     refused_inside (refusals.Image images.NotAnImage) is = (
       record { managers_fit = is.0; not_zero = is.1 },
       λ y other here. (images.NotAnImage, tt, subst (λ o. IsRefused identity ports o images.NotAnImage) (alone y other here) is.2),

@@ -2,6 +2,7 @@
 use Rattle.std.specs.Prelude.{◌≡◌, ◌==◌, ◌||◌, ◌&&◌, ℕ, Bool, true, false, is_some, not, List, [], ◌∷◌, Option, Some, None, if◌then◌else◌}
 use Rattle.std.specs.FinMap.{empty}
 use Rattle.std.specs.Option.{option_map, option_or}
+use Rattle.ptpm_codec.specs.declared.identity.ClockIdentity.{ClockIdentity}
 use Rattle.ptpm_codec.specs.declared.identity.PortIdentity.{PortIdentity}
 use Rattle.ptpm_codec.specs.declared.message.Action.{Action}
 use Rattle.ptpm_codec.specs.declared.message.Action.TheVariants as actions
@@ -67,9 +68,20 @@ pub record IsChangedHere (q : RequestValue) (before after : HostedClock) : Type 
 
 -- ---- a datagram of the owner
 
--- the clock of these data sets whose one manager is its owner, with every right
-abbrev pub owner_clock : DataSetsValue → PortIdentity → Clock
-owner_clock d owner = clock_with d.default.identity ((owner, all_rights) ∷ [])
+-- the clock of this identity whose one manager is its owner, with every right
+abbrev pub owner_clock : ClockIdentity → PortIdentity → Clock
+owner_clock me owner = clock_with me ((owner, all_rights) ∷ [])
+
+-- The verdict on a message of the owner: in the clock's domain, from the clock itself, addressed to it, a request, for it
+-- alone. It is never a repeat, since nothing of it is kept.
+abbrev pub owned_at : Bool → Bool → Bool → Bool → Bool → Verdict
+owned_at domain own addressed request here =
+    if not domain then verdicts.OtherDomain
+    else if own then verdicts.OwnMessage
+    else if not addressed then verdicts.NotAddressed
+    else if not request then verdicts.NotARequest
+    else if here then verdicts.AnsweredNew
+    else verdicts.AnsweredUnnumbered
 
 -- what changes nothing is as a request without a number
 abbrev pub owner_verdict : Message → Verdict → Verdict
@@ -89,7 +101,7 @@ owner_turned v kept t = record {
 abbrev pub owner_by : Clock → State → ℕ → List ℕ → Option Message → Turned
 owner_by c s port datagram None = turn c s port datagram
 owner_by c s port datagram (Some v) =
-    owner_turned v s.entries (turn (owner_clock s.sets v.source) (record { sets = s.sets; entries = empty }) port datagram)
+    owner_turned v s.entries (turn (owner_clock c.identity v.source) (record { sets = s.sets; entries = empty }) port datagram)
 
 unfoldable pub owner_turn : Clock → State → ℕ → List ℕ → Turned
 owner_turn c s port datagram = owner_by c s port datagram (message_of datagram)

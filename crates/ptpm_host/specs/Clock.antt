@@ -3,9 +3,10 @@ use Rattle.std.specs.Prelude.{◌≡◌, ◌≤◌, ℕ, Bool, not, nat_lt, List
 use Rattle.ptpm_codec.specs.Ordered.{first_of}
 use Rattle.ptpm_data.specs.declared.start.StartError.{StartError}
 use Rattle.ptpm_data.specs.Members.{DataSetsValue}
-use Rattle.ptpm_data.specs.Start.{start_of}
+use Rattle.ptpm_data.specs.declared.ports.TheConstants.{PORTS}
+use Rattle.ptpm_data.specs.Start.{start_within}
 use Rattle.ptpm_table.specs.declared.error.TableError.{TableError}
-use Rattle.ptpm_table.specs.Managers.{IsFresh, identities, table_refusal}
+use Rattle.ptpm_table.specs.Managers.{IsFresh, identities, block_refusal}
 use Rattle.ptpm_table.specs.Tables.{entries_of_block, owner_of_block}
 use Rattle.ptpm_agent.specs.Agent.{clock_of, state_of}
 use Rattle.ptpm_agent.specs.Turn.{Clock, State}
@@ -43,14 +44,14 @@ refusal_by (Ok d) (Some e) zero = Some (refusals.Managers e)
 refusal_by (Ok d) None zero = first_of ((zero, refusals.IdentityIsZero) ∷ [])
 
 abbrev pub start_by : ClockSettings → List PortSettings → Result DataSetsValue StartError
-start_by clock ports = start_of (settings.clock_start clock) (map settings.port_start ports)
+start_by clock ports = start_within PORTS (settings.clock_start clock) (map settings.port_start ports)
 
 abbrev pub start_refusal : ClockSettings
     → List PortSettings
     → List ManagerSettings
     → Option StartRefusal
 start_refusal clock ports managers =
-    refusal_by (start_by clock ports) (table_refusal (identities (settings.configured managers)))
+    refusal_by (start_by clock ports) (block_refusal (identities (settings.configured managers)))
     (settings.is_zero (record { 0 = clock.identity }))
 
 -- ---- why a datagram is not handled: no such port, or less room than the clock's most messages

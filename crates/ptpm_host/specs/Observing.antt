@@ -1,5 +1,5 @@
 -- What a host lays out of an observation, and a clock after it.
-use Rattle.std.specs.Prelude.{◌≡◌, ◌==◌, ◌+◌, ℕ, Bool, true, false, if◌then◌else◌, List, map, Option, Some, unwrap_or}
+use Rattle.std.specs.Prelude.{◌≡◌, ◌==◌, ◌+◌, ◌*◌, zero, suc, ℕ, Bool, true, false, if◌then◌else◌, List, map, Option, Some, unwrap_or}
 use Rattle.ptpm_data.specs.declared.observation.AnnouncedGrandmaster.{AnnouncedGrandmaster}
 use Rattle.ptpm_data.specs.declared.observation.ClockObservation.{ClockObservation}
 use Rattle.ptpm_data.specs.declared.observation.ObservationError.{ObservationError}
@@ -7,6 +7,8 @@ use Rattle.ptpm_data.specs.declared.observation.ObservedGrandmaster.{ObservedGra
 use Rattle.ptpm_data.specs.declared.observation.ObservedGrandmaster.TheVariants.{Itself, Announced}
 use Rattle.ptpm_data.specs.declared.observation.PortObservation.{PortObservation}
 use Rattle.ptpm_data.specs.declared.port_state.PortState.TheVariants.{Disabled}
+use Rattle.std.specs.Int.{from_bool}
+use Rattle.ptpm_data.specs.declared.ports.TheConstants.{PORTS}
 use Rattle.ptpm_data.specs.Observation.{is_left, left_disabled, observation_refusal, observed}
 use Rattle.ptpm_data.specs.PortState.{state_of}
 use Rattle.ptpm_host.specs.declared.clock.HostedClock.{HostedClock}
@@ -79,11 +81,10 @@ pub record IsObserved (o : ObservedClock) (ports : List ObservedPort) (before af
 
 -- ---- the ports that stayed disabled as a number: 1 for port 1, 2 for port 2, 4 for port 3, and so on, summed up
 
-abbrev pub worth : Bool → ℕ → ℕ
-worth true n = n
-worth false n = 0
+-- this number of ports from one on, with 1 for the first
+abbrev pub left_from : ℕ → ℕ → List Bool → ℕ
+left_from port zero left = 0
+left_from port (suc n) left = from_bool (is_left port left) + 2 * left_from (port + 1) n left
 
-abbrev pub left_number : List Bool → ℕ
-left_number left =
-    worth (is_left 1 left) 1 + worth (is_left 2 left) 2 + worth (is_left 3 left) 4 + worth (is_left 4 left) 8
-    + worth (is_left 5 left) 16 + worth (is_left 6 left) 32 + worth (is_left 7 left) 64 + worth (is_left 8 left) 128
+unfoldable pub left_number : List Bool → ℕ
+left_number left = left_from 1 PORTS left

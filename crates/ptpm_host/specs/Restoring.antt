@@ -1,9 +1,9 @@
 -- Which clock goes on from an image, and why none does.
-use Rattle.std.specs.Prelude.{◌≡◌, ℕ, Bool, true, false, List, length, Option, Some, None}
+use Rattle.std.specs.Prelude.{◌≡◌, ◌≤◌, ℕ, Bool, true, false, List, length, Option, Some, None}
 use Rattle.std.specs.FinMap.{empty}
 use Rattle.ptpm_codec.specs.declared.identity.ClockIdentity.{ClockIdentity}
-use Rattle.ptpm_table.specs.Managers.{clock_with, identities, table_refusal}
-use Rattle.ptpm_saved.specs.Image.{SavedClock}
+use Rattle.ptpm_table.specs.Managers.{clock_with, identities, block_refusal}
+use Rattle.ptpm_saved.specs.Image.{SavedClock, answers_kept}
 use Rattle.ptpm_saved.specs.declared.error.RestoreError.{RestoreError}
 use Rattle.ptpm_saved.specs.declared.error.RestoreError.TheVariants as images
 use Rattle.ptpm_saved.specs.Restoring.{IsImageOf, IsRefused, IsRestored}
@@ -19,12 +19,12 @@ use Rattle.ptpm_host.specs.declared.settings.ManagerSettings.{ManagerSettings}
 
 -- the managers can be a clock's, and its identity can be one
 pub record HasOwner (identity : ClockIdentity) (managers : List ManagerSettings) : Type 0 where
-  pub managers_fit : table_refusal (identities (configured managers)) ≡ None
+  pub managers_fit : block_refusal (identities (configured managers)) ≡ None
   pub not_zero : is_zero identity ≡ false
 
 -- the image is of what was saved of a clock of this identity with this many ports, and the managers can be its managers
 pub record CanRestore (identity : ClockIdentity) (ports : ℕ) (managers : List ManagerSettings) (image : List ℕ) (c : SavedClock) : Type 0 where
-  pub managers_fit : table_refusal (identities (configured managers)) ≡ None
+  pub managers_fit : block_refusal (identities (configured managers)) ≡ None
   pub not_zero : is_zero identity ≡ false
   pub image_of : IsImageOf c image
   pub own : c.sets.default.identity ≡ identity
@@ -41,23 +41,25 @@ pub record IsBack (c : SavedClock) (managers : List ManagerSettings) (d : Hosted
 pub record IsBegunAs (c : SavedClock) (managers : List ManagerSettings) (d : HostedClock) : Type 0 where
   pub sets_are : (state_in d).sets ≡ c.sets
   pub nothing_kept : (state_in d).entries ≡ empty
+  pub room : answers_kept c.sets ≤ d.agent.table.answers
   pub clock_is : clock_in d ≡ clock_with c.sets.default.identity (configured managers)
 
--- ---- why a clock does not go on from an image: its managers first, then its identity, then the image, and last want of memory
+-- ---- why a clock does not go on from an image: its managers first, then its identity, then the image. Want of memory can come in
+-- place of a reason that the image gives.
 
 abbrev pub IsRestoreRefused : ClockIdentity → ℕ → List ManagerSettings → List ℕ → ClockRestoreRefusal → Type 0
-IsRestoreRefused identity ports managers image (refusals.Managers e) = table_refusal (identities (configured managers)) ≡ Some e
+IsRestoreRefused identity ports managers image (refusals.Managers e) = block_refusal (identities (configured managers)) ≡ Some e
 IsRestoreRefused identity ports managers image refusals.IdentityIsZero =
-    (table_refusal (identities (configured managers)) ≡ None) × (is_zero identity ≡ true)
+    (block_refusal (identities (configured managers)) ≡ None) × (is_zero identity ≡ true)
 IsRestoreRefused identity ports managers image (refusals.Image e) =
-    (table_refusal (identities (configured managers)) ≡ None) × (is_zero identity ≡ false) × IsRefused identity ports image e
+    (block_refusal (identities (configured managers)) ≡ None) × (is_zero identity ≡ false) × IsRefused identity ports image e
 IsRestoreRefused identity ports managers image refusals.OutOfMemory =
-    (c : SavedClock) × CanRestore identity ports managers image c
+    (block_refusal (identities (configured managers)) ≡ None) × (is_zero identity ≡ false)
 
 abbrev pub IsOwnerRefused : ClockIdentity → List ManagerSettings → ClockRestoreRefusal → Type 0
-IsOwnerRefused identity managers (refusals.Managers e) = table_refusal (identities (configured managers)) ≡ Some e
+IsOwnerRefused identity managers (refusals.Managers e) = block_refusal (identities (configured managers)) ≡ Some e
 IsOwnerRefused identity managers refusals.IdentityIsZero =
-    (table_refusal (identities (configured managers)) ≡ None) × (is_zero identity ≡ true)
+    (block_refusal (identities (configured managers)) ≡ None) × (is_zero identity ≡ true)
 IsOwnerRefused identity managers _ = ⊥
 
 -- ---- an image that may have what is under way
@@ -109,8 +111,7 @@ IsImageRefused identity ports octets _ = ⊥
 
 abbrev pub IsUnderWayRefused : ClockIdentity → ℕ → List ManagerSettings → List ℕ → ClockRestoreRefusal → Type 0
 IsUnderWayRefused identity ports managers octets (refusals.Image e) = HasOwner identity managers × IsImageRefused identity ports octets e
-IsUnderWayRefused identity ports managers octets refusals.OutOfMemory =
-    (c : SavedClock) × (x : Datagram) × CanRestoreWith identity ports managers octets c (Some x)
+IsUnderWayRefused identity ports managers octets refusals.OutOfMemory = HasOwner identity managers
 IsUnderWayRefused identity ports managers octets e = IsOwnerRefused identity managers e
 
 -- by what the image says that it has

@@ -24,15 +24,13 @@ use crate::taken::Taken;
 use crate::under_way::UnderWay;
 use ptpm_agent::{Agent, Verdict};
 use ptpm_codec::OutOfMemory;
-use ptpm_data::{DataSets, ObservationError, PORTS, PortsLeftDisabled};
+use ptpm_data::{DataSets, ObservationError, PortsLeftDisabled};
 use ptpm_table::{HeapTable, Outgoing, ReplyTable};
 use std::alloc::Global;
 
-/// How many messages a clock sends at most for a datagram: a copy at each port but one, and a reply of each.
-pub const MOST_SENT: usize = 2 * PORTS - 1;
-
-/// A clock. It has a block of memory with a slot of 2,136 octets for each of its managers, from its start or its restore on.
-/// What it sends is written right into places of its host.
+/// A clock. From its start or its restore on it has a block of memory with a slot of 2,144 octets for each of its managers. With more
+/// than `ptpm_data::INLINE_PORTS` ports it has more blocks: one for its ports, and two for each manager. What it sends is written right
+/// into places of its host.
 #[derive(Drop)]
 pub struct HostedClock {
     pub(crate) agent: Agent<HeapTable>,
@@ -40,7 +38,7 @@ pub struct HostedClock {
     pub(crate) under_way: Option<UnderWay>,
 }
 
-const _: () = prove!(size_of::<HostedClock>() == 664);
+const _: () = prove!(size_of::<HostedClock>() == 616);
 
 /// What became of a datagram.
 #[derive(Clone, Copy, Debug)]
@@ -54,8 +52,8 @@ impl HostedClock {
     ghost use Rattle.ptpm_host.specs.SavingClock.{request_under_way};
     ghost use Rattle.ptpm_host.specs.UnderWay.{AnswersAsked, asked_of};
 
-    /// A clock that has heard nothing yet, with these values and these managers. It keeps the block of its managers' slots; other
-    /// memory is taken only for the call.
+    /// A clock that has heard nothing yet, with these values and these managers. Memory that it does not keep is taken only for the
+    /// call.
     pub fn start(
         alloc: Global,
         settings: &ClockSettings,
@@ -74,12 +72,12 @@ impl HostedClock {
     {
         let judged = JudgedStart::new(alloc, settings, ports, managers)?;
         match judged.table(alloc) {
-            Ok(table) => Ok(HostedClock::over(&judged.sets, table)),
+            Ok(table) => Ok(HostedClock::over(judged.sets, table)),
             Err(_) => Err(StartRefusal::OutOfMemory),
         }
     }
 
-    /// What `start` does, with the clock in a block of its own, beside that of the slots.
+    /// What `start` does, with the clock in a block of its own.
     pub fn start_boxed(
         alloc: Global,
         settings: &ClockSettings,
@@ -97,7 +95,7 @@ impl HostedClock {
         let Ok(table) = judged.table(alloc) else {
             return Err(StartRefusal::OutOfMemory);
         };
-        match HostedClock::boxed(alloc, &judged.sets, table) {
+        match HostedClock::boxed(alloc, judged.sets, table) {
             Ok(clock) => Ok(clock),
             Err(_) => Err(StartRefusal::OutOfMemory),
         }
@@ -105,14 +103,15 @@ impl HostedClock {
 
     /// A clock of these data sets over this table, which are of one clock.
     #[inline(always)]
-    pub(crate) fn over(sets: &DataSets, table: HeapTable) -> HostedClock
-        requires { sets.now.default.identity ≡ (⟦<HeapTable as ReplyTable>⟧.owner table).identity }
-        ensures sets { result.agent.sets ≡ sets.now }
+    pub(crate) fn over(sets: DataSets, table: HeapTable) -> HostedClock
+        requires identity { sets.default.identity ≡ (⟦<HeapTable as ReplyTable>⟧.owner table).identity }
+        requires room { length sets.ports ≤ ⟦<HeapTable as ReplyTable>⟧.most table }
+        ensures sets { result.agent.sets ≡ sets }
         ensures table { result.agent.table ≡ table }
         ensures nothing { result.under_way ≡ None }
     {
         HostedClock {
-            agent: Agent::new(sets.copy(), table),
+            agent: Agent::new(sets, table),
             under_way: None,
         }
     }
@@ -121,11 +120,12 @@ impl HostedClock {
     #[inline(never)]
     pub(crate) fn boxed(
         alloc: Global,
-        sets: &DataSets,
+        sets: DataSets,
         table: HeapTable,
     ) -> Result<Box<HostedClock>, OutOfMemory>
-        requires { sets.now.default.identity ≡ (⟦<HeapTable as ReplyTable>⟧.owner table).identity }
-        ensures sets { IfOk result (λ c. c.value.agent.sets ≡ sets.now) }
+        requires identity { sets.default.identity ≡ (⟦<HeapTable as ReplyTable>⟧.owner table).identity }
+        requires room { length sets.ports ≤ ⟦<HeapTable as ReplyTable>⟧.most table }
+        ensures sets { IfOk result (λ c. c.value.agent.sets ≡ sets) }
         ensures table { IfOk result (λ c. c.value.agent.table ≡ table) }
         ensures nothing { IfOk result (λ c. c.value.under_way ≡ None) }
     {

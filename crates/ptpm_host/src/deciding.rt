@@ -6,7 +6,7 @@ ghost use Rattle.ptpm_codec.specs.Message.{IsDataField};
 ghost use Rattle.ptpm_data.specs.Changed.{changed, no_members};
 ghost use Rattle.ptpm_data.specs.Members.{HasPort, has_port};
 ghost use Rattle.ptpm_agent.specs.Agent.{IsTurned};
-ghost use Rattle.ptpm_agent.specs.Turn.{outbox_of};
+ghost use Rattle.ptpm_agent.specs.Turn.{outbox_of, turn};
 ghost use Rattle.ptpm_device.specs.Asking.{asked, wanted, wanted_once};
 ghost use Rattle.ptpm_device.specs.Saying as says;
 ghost use Rattle.ptpm_device.specs.Saying.{turn_said};
@@ -220,17 +220,50 @@ impl HostedClock {
         ensures clock { clock_in self.new ≡ clock_in self.old }
         ensures under_way { self.new.under_way ≡ self.old.under_way }
     {
-        let objected = object(&mut self.agent, datagram, error);
-        let handled = self.take_turn(port, datagram, room);
-        if objected {
+        if let Some(count) = self.object(port, datagram, error, room) {
             return Taken {
                 verdict: Verdict::AnsweredNew,
-                count: handled.count,
+                count,
                 waiting: 0,
-                changed: handled.changed,
+                changed: ChangedMembers::NONE,
             };
         }
-        handled
+        self.take_turn(port, datagram, room)
+    }
+
+    /// Refuses a datagram with the device's error, and keeps that, if the device is asked. Returns how many messages are sent. For any
+    /// other datagram it is none, and nothing is sent.
+    #[tactic(auto, using(crate::specs::OutboxLaws::kept_by_none))]
+    fn object(
+        &mut self,
+        port: u16,
+        datagram: &[u8],
+        error: ErrorId,
+        room: &mut [Sent],
+    ) -> Option<usize>
+        requires room { length (outbox_of (turn_said
+            (clock_in self.old) (state_in self.old) (says.Objects error) port datagram.now)) ≤ length room.old }
+        ensures turned { IfSome result (λ count. IsTurned (turn_said
+            (clock_in self.old) (state_in self.old) (says.Objects error) port datagram.now)
+            Verdict.AnsweredNew (messages_in (take count room.new)) (state_in self.new)) }
+        ensures own { result ≡ None → turn_said
+            (clock_in self.old) (state_in self.old) (says.Objects error) port datagram.now
+            ≡ turn (clock_in self.old) (state_in self.old) port datagram.now }
+        ensures count { IfSome result (λ count. count ≤ length room.new) }
+        ensures whole { IfSome result (λ count. All IsWhole (take count room.new)) }
+        ensures places { IfSome result (λ count. drop count room.new ≡ drop count room.old) }
+        ensures behind { IfSome result (λ count. AllZip KeepsBehind room.old room.new) }
+        ensures sets { self.new.agent.sets ≡ self.old.agent.sets }
+        ensures unchanged { result ≡ None → self.new ≡ self.old }
+        ensures unsent { result ≡ None → room.new ≡ room.old }
+        ensures clock { clock_in self.new ≡ clock_in self.old }
+        ensures under_way { self.new.under_way ≡ self.old.under_way }
+    {
+        let mut places = Outbox::new(room);
+        if object(&mut self.agent, port, datagram, error, &mut places) {
+            return Some(places.count());
+        }
+        None
     }
 
     /// One turn with a value that the device gives.

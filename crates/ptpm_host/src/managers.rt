@@ -1,16 +1,14 @@
 //! The managers that a host configures.
 
 ghost use Rattle.std.specs.Prelude.{◌≡◌, ◌≤◌, false, length, take};
+ghost use Rattle.ptpm_table.specs.declared.managers.TheConstants.{MOST_MANAGERS};
 ghost use Rattle.ptpm_table.specs.Managers.{has_twice, identities};
 ghost use Rattle.ptpm_host.specs.Settings.{configured};
 
 use crate::settings::{ManagerSettings, NO_IDENTITY};
 use ptpm_codec::PortIdentity;
 use ptpm_data::Rights;
-use ptpm_table::{TableError, managers_refusal};
-
-/// How many managers a clock has at most.
-const MANAGERS: usize = 16;
+use ptpm_table::{MOST_MANAGERS, TableError, managers_refusal};
 
 /// What is in a place that no manager has.
 const NOBODY: (PortIdentity, Rights) = (
@@ -21,18 +19,18 @@ const NOBODY: (PortIdentity, Rights) = (
     Rights::NONE,
 );
 
-/// The managers of a clock with their rights, in the first places: at most sixteen, each identity once.
+/// The managers of a clock with their rights, in the first places: `MOST_MANAGERS` at most, each identity once.
 #[derive(Drop)]
 pub(crate) struct ConfiguredManagers {
-    places: [(PortIdentity, Rights); MANAGERS],
+    places: [(PortIdentity, Rights); MOST_MANAGERS],
     count: usize,
-    ghost few: { count ≤ 16 },
+    ghost few: { count ≤ MOST_MANAGERS },
     ghost distinct: { has_twice (identities (take count places)) ≡ false },
 }
 
 impl ConfiguredManagers {
     ghost use Rattle.std.specs.Prelude.{IfOk, MatchResult, None, Some};
-    ghost use Rattle.ptpm_table.specs.Managers.{table_refusal};
+    ghost use Rattle.ptpm_table.specs.Managers.{block_refusal};
 
     /// These managers, or why they can't be a clock's. Takes no memory. It is never inlined, so a start has no room for its work on
     /// the stack when it makes data sets.
@@ -41,11 +39,11 @@ impl ConfiguredManagers {
     pub fn new(managers: &[ManagerSettings]) -> Result<ConfiguredManagers, TableError>
         ensures managers { IfOk result (λ m. take m.count m.places ≡ configured managers.now) }
         ensures refusal { MatchResult result
-            (λ _. table_refusal (identities (configured managers.now)) ≡ None)
-            (λ e. table_refusal (identities (configured managers.now)) ≡ Some e) }
+            (λ _. block_refusal (identities (configured managers.now)) ≡ None)
+            (λ e. block_refusal (identities (configured managers.now)) ≡ Some e) }
     {
         let count = managers.len();
-        if count > MANAGERS {
+        if count > MOST_MANAGERS {
             return Err(TableError::TooMany);
         }
         let places = placed(managers);
@@ -57,7 +55,7 @@ impl ConfiguredManagers {
 
     pub fn as_slice(&self) -> &[(PortIdentity, Rights)]
         ensures managers { result.now ≡ take self.now.count self.now.places }
-        ensures few { length result.now ≤ 16 }
+        ensures few { length result.now ≤ MOST_MANAGERS }
         ensures distinct { has_twice (identities result.now) ≡ false }
     {
         &self.places[..self.count]
@@ -65,11 +63,11 @@ impl ConfiguredManagers {
 }
 
 /// These managers with their rights, in the first places.
-fn placed(managers: &[ManagerSettings]) -> [(PortIdentity, Rights); MANAGERS]
-    requires { length managers.now ≤ 16 }
+fn placed(managers: &[ManagerSettings]) -> [(PortIdentity, Rights); MOST_MANAGERS]
+    requires { length managers.now ≤ MOST_MANAGERS }
     ensures { take (length managers.now) result ≡ configured managers.now }
 {
-    let mut places = [NOBODY; MANAGERS];
+    let mut places = [NOBODY; MOST_MANAGERS];
     for place in 0..managers.len() {
         places[place] = managers[place].manager();
     }

@@ -1,11 +1,13 @@
 //! How many messages a clock sends for a datagram at most.
 
-ghost use Rattle.std.specs.Prelude.{◌≡◌, ◌≤◌, nat_le};
+ghost use Rattle.std.specs.Prelude.{◌≡◌, ◌-◌, ◌*◌, length, max, nat_le};
+ghost use Rattle.std.specs.FinMap as fin;
 ghost use Rattle.ptpm_data.specs.RequestLaws.{IsSized};
+ghost use Rattle.ptpm_table.specs.Entries.{HaveAnswers};
 ghost use Rattle.ptpm_host.specs.Clock.{state_in};
 ghost use Rattle.ptpm_host.specs.MostSent.{most_sent};
 
-use crate::clock::{HostedClock, MOST_SENT};
+use crate::clock::HostedClock;
 use ptpm_data::data_sets_law;
 use ptpm_table::{LendingTable, SureTable};
 
@@ -29,19 +31,33 @@ impl HostedClock {
         most
     }
 
-    /// Whether this many places are enough for what the clock sends for a datagram, or after a save. `MOST_SENT` always are.
+    /// Whether this many places are enough for what the clock sends for a datagram, or after a save. No entry is looked at if they are
+    /// enough for as many answers as the table keeps.
+    #[inline(always)]
+    #[tactic(auto, using(crate::proofs::MostSent::most_few, std::proofs::lemmas::Bool::Decides::nat_tests))]
     pub(crate) fn has_room(&self, places: usize) -> bool
         ensures { result ≡ nat_le (most_sent (state_in self.now)) places }
     {
         self.sent_law();
-        places >= MOST_SENT || places >= self.most_sent()
+        places >= self.most_kept() || places >= self.most_sent()
     }
 
-    /// Its data sets have their sizes, and it sends no more than `MOST_SENT` messages: a law, and nothing is done.
+    /// The most messages that a clock with these ports and this table sends.
+    #[inline(always)]
+    fn most_kept(&self) -> usize
+        ensures { result ≡ max (2 * length self.now.agent.sets.ports - 1) self.now.agent.table.answers }
+    {
+        let sets = self.agent.sets();
+        data_sets_law(sets);
+        let alone = 2 * sets.port_count() as usize - 1;
+        alone.max(self.agent.table().answers_kept())
+    }
+
+    /// Its data sets have their sizes, and no kept reply has more answers than its table keeps: a law, and nothing is done.
     #[inline(always)]
     pub(crate) fn sent_law(&self)
         ensures sized { IsSized self.now.agent.sets }
-        ensures most { most_sent (state_in self.now) ≤ MOST_SENT }
+        ensures few { HaveAnswers self.now.agent.table.answers (fin.entries (state_in self.now).entries) }
     {
         data_sets_law(self.agent.sets());
         self.agent.table().few_answers();

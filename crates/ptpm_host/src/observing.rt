@@ -1,9 +1,8 @@
 //! What a host observes of its clock, as a host in C lays it out (clause 8.2). Which members it may observe is this
 //! project's profile.
 
-ghost use Rattle.std.specs.Prelude.{◌≡◌, ◌≤◌, length};
-ghost use Rattle.ptpm_data.specs.Observation.{is_left};
-ghost use Rattle.ptpm_host.specs.Observing.{announced, clock_observation, grandmaster_of, left_number, port_observation, port_observations, worth};
+ghost use Rattle.std.specs.Prelude.{◌≡◌, ◌≤◌, ◌<◌, ◌+◌, ◌^◌, length};
+ghost use Rattle.ptpm_host.specs.Observing.{announced, clock_observation, grandmaster_of, left_from, left_number, port_observation, port_observations};
 
 use crate::settings::given;
 use arrayvec::ArrayVec;
@@ -177,22 +176,22 @@ pub(crate) fn port_observations(ports: &[ObservedPort]) -> ArrayVec<PortObservat
 }
 
 /// The ports that stayed disabled: 1 for port 1, 2 for port 2, 4 for port 3, and so on, summed up.
-pub fn left_number(left: &PortsLeftDisabled) -> u8
+#[tactic(auto, unfolding(crate::specs::Observing::left_number))]
+pub fn left_number(left: &PortsLeftDisabled) -> u64
     ensures { result ≡ left_number left.now }
 {
-    worth(left, 1, 1)
-        + worth(left, 2, 2)
-        + worth(left, 3, 4)
-        + worth(left, 4, 8)
-        + worth(left, 5, 16)
-        + worth(left, 6, 32)
-        + worth(left, 7, 64)
-        + worth(left, 8, 128)
+    left_from(left, 1, PORTS)
 }
 
-fn worth(left: &PortsLeftDisabled, port: u16, number: u8) -> u8
-    ensures exact { result ≡ worth (is_left port left.now) number }
-    ensures most { result ≤ number }
+/// This number of ports from one on, with 1 for the first.
+#[tactic(auto, using(crate::proofs::LeftNumbers::left_step, crate::proofs::LeftNumbers::twice_fits, crate::proofs::LeftNumbers::in_word))]
+fn left_from(left: &PortsLeftDisabled, port: u16, count: usize) -> u64
+    requires ports { port + count ≤ PORTS + 1 }
+    ensures exact { result ≡ left_from port count left.now }
+    ensures small { result < 2 ^ count }
 {
-    if left.contains(port) { number } else { 0 }
+    if count == 0 {
+        return 0;
+    }
+    left.contains(port) as u64 + 2 * left_from(left, port + 1, count - 1)
 }

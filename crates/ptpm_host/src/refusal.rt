@@ -102,6 +102,14 @@ pub enum SavingRefusal {
     OutOfMemory(Box<HostedClock>),
 }
 
+/// Why no image is made of a clock that is saved while it goes on.
+#[derive(Clone, Copy, Debug, PartialEq, Eq)]
+pub enum ImageRefusal {
+    /// There is room for fewer octets than the image has.
+    NoRoom,
+    OutOfMemory,
+}
+
 /// Why a clock does not count as saved.
 #[derive(Clone, Copy, Debug, PartialEq, Eq)]
 pub enum SavedRefusal {

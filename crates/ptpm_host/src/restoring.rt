@@ -41,7 +41,7 @@ struct ImageParts<'a> {
 }
 
 impl HostedClock {
-    /// Leaves the clock's image at the head of `octets`, and answers how many octets it has: 104 to 27,385. What comes after
+    /// Leaves the clock's image at the head of `octets`, and answers how many octets it has: 104 to 216,289. What comes after
     /// them stays. `None`, and nothing is written, if there is room for fewer. Managers and rights are not in it. If something is
     /// under way, the image is of a kind of its own. Takes no memory.
     pub fn image(&self, octets: &mut [u8]) -> Option<usize>
@@ -85,8 +85,8 @@ impl HostedClock {
 
     /// The clock of an image, if it is of this identity and has this many ports. Also how many of its entries were let go, since
     /// their managers are not among these. Managers and rights are these; all else is as it was saved, also what is under way. An
-    /// image is refused for the first reason that holds. Memory is asked for last, for the slots of its managers and for the block
-    /// that the clock is made in.
+    /// image is refused for the first reason that holds. Memory is asked for once managers and identity were judged. For a clock of up
+    /// to `ptpm_data::INLINE_PORTS` ports it is asked for last.
     pub fn restored_boxed(
         alloc: Global,
         identity: &[u8; 8],
@@ -170,8 +170,10 @@ impl HostedClock {
         ensures nothing { IfOk result (λ r. r.0.value.under_way ≡ None) }
     {
         let mut clock = HostedClock::without_entries(alloc, identity, ports, managers, image)?;
-        let gone = put_back_judged(image, &mut clock.agent);
-        Ok((clock, gone))
+        match put_back_judged(alloc, image, &mut clock.agent) {
+            Ok(gone) => Ok((clock, gone)),
+            Err(_) => Err(ClockRestoreRefusal::OutOfMemory),
+        }
     }
 
     /// The clock of an image without its entries. It is never inlined: so the stack has no data sets while entries are put back.
@@ -195,11 +197,11 @@ impl HostedClock {
         ensures nothing { IfOk result (λ r. r.value.under_way ≡ None) }
     {
         let mut sets = DataSets::blank();
-        judge_image(identity, ports, managers, image, &mut sets)?;
-        let Ok(table) = judged_table(alloc, sets.identity(), managers) else {
+        judge_image(alloc, identity, ports, managers, image, &mut sets)?;
+        let Ok(table) = judged_table(alloc, sets.identity(), sets.port_count(), managers) else {
             return Err(ClockRestoreRefusal::OutOfMemory);
         };
-        match HostedClock::boxed(alloc, &sets, table) {
+        match HostedClock::boxed(alloc, sets, table) {
             Ok(clock) => Ok(clock),
             Err(_) => Err(ClockRestoreRefusal::OutOfMemory),
         }

@@ -4,22 +4,24 @@ ghost use Rattle.std.specs.Prelude.{◌≡◌, ◌+◌, ◌≤◌, length};
 ghost use Rattle.ptpm_host.specs.Queue.{queued};
 
 use crate::clock::HostedClock;
+use crate::copying::copied;
 use crate::device::{Asking, Question, Said, Say};
 use crate::observing::{ObservedClock, ObservedPort, port_observations};
 use crate::owner_change::asks_to_move;
 use crate::queue::Queue;
 use crate::refusal::{
-    ChangeRefusal, DecideRefusal, HandleRefusal, SavedRefusal, SavingRefusal, TakeRefusal,
-    UndertakeRefusal,
+    ChangeRefusal, DecideRefusal, HandleRefusal, ImageRefusal, SavedRefusal, SavingRefusal,
+    TakeRefusal, UndertakeRefusal,
 };
 use crate::sent::Sent;
 use crate::taken::Taken;
 use crate::under_way::{UnderWay, first_message};
 use ptpm_agent::Verdict;
 use ptpm_codec::view;
-use ptpm_data::{ChangedMembers, DataSets, ObservationError, PortsLeftDisabled};
+use ptpm_data::{ChangedMembers, DataSets, INLINE_PORTS, ObservationError, PortsLeftDisabled};
 use ptpm_table::ReplyTable;
 use std::alloc::Global;
+use std::mem;
 
 /// A clock that takes datagrams while it is saved. What a manager asks of it alone, and what the device's owner asks, is carried
 /// out at once. If that changes it, or if something waits already, the messages for it wait until a save has it. Anybody else is
@@ -31,8 +33,7 @@ pub struct SavingClock {
     /// The data sets that others are shown: those of the clock while nothing waits. It is a copy, since the clock goes on changing
     /// while it is saved.
     shown: DataSets,
-    /// Those of the latest image, with what was observed since. They are shown once it is saved. `image` makes this copy, and `saved`
-    /// copies it, since the next image may come before the next save.
+    /// Those of the latest image, with what was observed since. `image` makes this copy, and `saved` shows it.
     copied: DataSets,
     queue: Queue,
     /// How many messages were released, and not taken out yet. They come first.
@@ -77,7 +78,7 @@ pub enum Saved {
 }
 
 impl SavingClock {
-    ghost use Rattle.std.specs.Prelude.{◌≢◌, ◌==◌, ◌++◌, ◌∷◌, ◌↔◌, ◌||◌, ◌&&◌, if◌then◌else◌, ℕ, All, IfErr, IfNone, IfOk, IfSome, IsSome, IsTrue, MatchResult, None, Ok, OnErr, OnOk, Some, [], drop, false, is_ok, is_some, not, take, true};
+    ghost use Rattle.std.specs.Prelude.{◌≢◌, ◌==◌, ◌<◌, ◌++◌, ◌∷◌, ◌||◌, ◌&&◌, if◌then◌else◌, ℕ, All, IfErr, IfOk, IsTrue, MatchResult, None, Ok, OnErr, OnOk, Some, [], drop, false, is_ok, is_some, not, take, true};
     ghost use Rattle.std.specs.List.{AllZip};
     ghost use Rattle.ptpm_codec.specs.Layout.{message_octets};
     ghost use Rattle.ptpm_data.specs.Changed.{changed, no_members};
@@ -124,8 +125,12 @@ impl SavingClock {
         let Ok(queue) = Queue::new(alloc, places) else {
             return Err(SavingRefusal::OutOfMemory(clock));
         };
-        let shown = clock.sets().copy();
-        let copied = clock.sets().copy();
+        let Ok(shown) = copied(alloc, clock.sets()) else {
+            return Err(SavingRefusal::OutOfMemory(clock));
+        };
+        let Ok(copied) = copied(alloc, clock.sets()) else {
+            return Err(SavingRefusal::OutOfMemory(clock));
+        };
         Ok(SavingClock {
             clock,
             shown,
@@ -672,13 +677,21 @@ impl SavingClock {
     }
 
     /// Leaves the clock's image at the head of `octets`, as `HostedClock::image` does. Answers how many octets it has, and its
-    /// token, by which `saved` knows it. No earlier image counts from then on. Takes no memory.
-    pub fn image(&mut self, octets: &mut [u8]) -> Option<(usize, u64)>
-        ensures called { IfSome result (λ _. (b : ClockBatch) (count : ℕ)
+    /// token, by which `saved` knows it. No earlier image counts from then on. Takes memory for more than `INLINE_PORTS` ports alone,
+    /// for the copy of the data sets. If it is refused, nothing changes.
+    pub fn image(
+        &mut self,
+        alloc: Global,
+        octets: &mut [u8],
+    ) -> Result<(usize, u64), ImageRefusal>
+        ensures called { IfOk result (λ _. (b : ClockBatch) (count : ℕ)
             → IsAsBatch self.old b count → IsAsBatch self.new b (length b.since)) }
-        ensures room { IsSome result
-            ↔ (length (image_with (request_under_way self.old.clock.value.under_way) (clock_image (state_in self.old.clock.value))) ≤ length octets.old) }
-        ensures size { IfSome result (λ r. r.0 ≡ length (image_with (request_under_way self.old.clock.value.under_way) (clock_image (state_in self.old.clock.value)))) }
+        ensures room { OnOk result
+            (length (image_with (request_under_way self.old.clock.value.under_way) (clock_image (state_in self.old.clock.value))) ≤ length octets.old) }
+        ensures no_room { IfErr result (λ e. e ≡ ImageRefusal.NoRoom → length octets.old
+            < length (image_with (request_under_way self.old.clock.value.under_way) (clock_image (state_in self.old.clock.value)))) }
+        ensures few { IfErr result (λ e. length self.old.clock.value.agent.sets.ports ≤ INLINE_PORTS → e ≡ ImageRefusal.NoRoom) }
+        ensures size { IfOk result (λ r. r.0 ≡ length (image_with (request_under_way self.old.clock.value.under_way) (clock_image (state_in self.old.clock.value)))) }
         ensures token { IfSome result
             (λ r. (r.1 ≡ self.new.images) × (self.new.is_imaged ≡ true)) }
         ensures octets { IfSome result
@@ -687,17 +700,22 @@ impl SavingClock {
         ensures waits { self.new.waits ≡ self.old.waits }
         ensures free { free_places self.new ≡ free_places self.old }
         ensures begun { self.new.is_begun ≡ self.old.is_begun }
-        ensures unchanged { IfNone result (self.new ≡ self.old) }
-        ensures untouched { IfNone result (octets.new ≡ octets.old) }
+        ensures unchanged { OnErr result (self.new ≡ self.old) }
+        ensures untouched { OnErr result (octets.new ≡ octets.old) }
     {
-        let size = self.clock.image(octets)?;
-        self.copied = self.clock.sets().copy();
+        let Ok(copied) = copied(alloc, self.clock.sets()) else {
+            return Err(ImageRefusal::OutOfMemory);
+        };
+        let Some(size) = self.clock.image(octets) else {
+            return Err(ImageRefusal::NoRoom);
+        };
+        self.copied = copied;
         self.first = self.queue.count() - self.ready;
         self.images = self.images.wrapping_add(1);
         self.is_imaged = true;
         self.is_changed = false;
         self.acting = self.acting_once_imaged();
-        Some((size, self.images))
+        Ok((size, self.images))
     }
 
     /// Takes its host's word that a restart would find the image of this token. It must be the latest, and counts once. What
@@ -726,7 +744,7 @@ impl SavingClock {
         if !self.is_imaged || token != self.images {
             return Err(SavedRefusal::OtherImage);
         }
-        self.shown = self.copied.copy();
+        mem::swap(&mut self.shown, &mut self.copied);
         self.ready = self.ready_once_saved();
         self.first = 0;
         self.waits = self.is_changed;

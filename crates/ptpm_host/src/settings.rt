@@ -288,9 +288,11 @@ pub(crate) fn port_starts(
 ) -> Result<Vec<PortStart>, OutOfMemory>
     ensures { IfOk result (λ v. v.items ≡ map port_start ports.now) }
 {
-    let mut starts = Vec::new(alloc);
+    let Ok(mut starts) = Vec::with_capacity(alloc, ports.len()) else {
+        return Err(OutOfMemory);
+    };
     for port in ports {
-        starts.push(port.start()).map_err(|_| OutOfMemory)?;
+        starts.push_reserved(port.start());
     }
     Ok(starts)
 }

@@ -9,7 +9,7 @@ use Rattle.ptpm_data.specs.Members.{DataSetsValue, IsConsistent}
 use Rattle.ptpm_manager.specs.Image.{image_head, mark}
 use Rattle.ptpm_saved.specs.declared.error.RestoreError.{RestoreError}
 use Rattle.ptpm_saved.specs.declared.error.RestoreError.TheVariants as restores
-use Rattle.ptpm_saved.specs.Image.{AreEntries, SavedClock, body_image, entries_image, saved_image}
+use Rattle.ptpm_saved.specs.Image.{AreEntries, SavedClock, answers_kept, body_image, entries_image, saved_image}
 use Rattle.ptpm_saved.specs.Restoring.{IsBegun, IsImageOf, IsOpened, IsRefusedByHead, head_refusal}
 use Rattle.ptpm_saved.proofs.EntryOrder.{Pair}
 use Rattle.ptpm_saved.proofs.ImageLemmas.{head_length}
@@ -156,7 +156,7 @@ pub whole_body : (image octets : List ℕ) (count : ℕ) (sets : DataSetsValue) 
     → IsConsistent sets
     → DataSetsFit sets
     → ((d : DataSetsValue) → IsBegun image d → IsConsistent d → DataSetsFit d → IsOpened image d count octets)
-    → AreEntries es
+    → AreEntries (answers_kept sets) es
     → length es ≡ count
     → octets ≡ entries_image es
     → (c : SavedClock) × IsImageOf c image × (sets ≡ c.sets)

@@ -24,7 +24,8 @@ use Rattle.ptpm_table.specs.Entries.{Entries, Entry, FitsAnswer, FitsCount, Fits
 use Rattle.ptpm_table.specs.Lending.{EntryFits, IsKeepable, IsNext, ManagerEntry}
 use Rattle.ptpm_codec.specs.declared.identity.PortIdentity.{PortIdentity}
 use Rattle.ptpm_saved.specs.Image.{answer_image, answers_image, body_image, clock_image, entries_image, entry_image, front_image, outcome_image, port_octets, saved_image, saved_of}
-use Rattle.ptpm_saved.specs.declared.image.TheConstants.{ANSWERS_OCTETS, CLOCK_OCTETS, ENTRY_OCTETS}
+use Rattle.ptpm_saved.specs.declared.image.TheConstants.{ANSWERS_OCTETS, ENTRY_OCTETS}
+use Rattle.ptpm_saved.specs.Widest.{widest}
 use Rattle.ptpm_saved.proofs.EntryOrder.{after_at, after_next, next_is}
 
 -- ---- one after the other
@@ -125,7 +126,7 @@ answer_at q r i a fits is =
     subst (FitsAnswer (is_of_port q.id) q.action) (get_or_from_slice_get r.answers i a a is)
     (fits.answers i a (slice_get_within r.answers i a is))
 
-pub reply_small : (q : RequestValue) (r : ReplyValue) → FitsRequest q r → length (answers_image r.answers) ≤ 240
+pub reply_small : (q : RequestValue) (r : ReplyValue) → FitsRequest q r → length (answers_image r.answers) ≤ ANSWERS_OCTETS
 reply_small q r fits = answers_small (is_of_port q.id) q.action r.answers fits.count fits.answers
 
 -- if an answer was lent, at this place
@@ -340,24 +341,26 @@ parts s size whole =
     ap (λ n. image_head 1 n ++ ((sets' ++ length (entries s.entries) ∷ []) ++ es)) left
     ∙ ap (λ x. image_head 1 (length (body_image (saved_of s))) ++ x) (append_assoc sets' (length (entries s.entries) ∷ []) es)
 
--- what a place has room for: these octets of the data sets, one more, and these of the entries, or those of any entries
-pub record HasRoomFor (sets entries : List ℕ) (len : ℕ) : Type 0 where
+-- what a place has room for: these octets of the data sets, one more, and these of the entries, or those of as many entries
+pub record HasRoomFor (sets : List ℕ) (es : List (PortIdentity × Entry)) (len : ℕ) : Type 0 where
   pub before : 12 + length sets + 1 ≤ len
-  pub behind : (12 + length sets + 1 + 16 * ENTRY_OCTETS ≤ len) ⊎ (12 + length sets + 1 + length entries ≤ len)
+  pub behind : (12 + length sets + 1 + length es * ENTRY_OCTETS ≤ len) ⊎ (12 + length sets + 1 + length (entries_image es) ≤ len)
 
--- so has one that has room for every clock, or for this one
+-- so has one that has room for the widest such clock, or for this one
 module _ (s : State) (d : DataSetsValue) (m : Entries) (of_sets : d ≡ s.sets) (of_entries : m ≡ s.entries) where
   pub size_is : length (clock_image s) ≡ 12 + length (data_sets_octets d) + 1 + length (entries_image (entries m))
   size_is =
       image_length s
       ∙ (λ i. 12 + length (data_sets_octets (sym of_sets i)) + 1 + length (entries_image (entries (sym of_entries i))))
 
-  pub has_room : (len : ℕ) → IsSized d → DataSetsFit d → (CLOCK_OCTETS ≤ len) ⊎ (length (clock_image s) ≤ len)
-      → HasRoomFor (data_sets_octets d) (entries_image (entries m)) len
-  has_room len sized fits =
-      let small = sets_small d sized fits in
+  pub widest_is : widest s ≡ 12 + length (data_sets_octets d) + 1 + length (entries m) * ENTRY_OCTETS
+  widest_is = λ i. 12 + length (data_sets_octets (sym of_sets i)) + 1 + length (entries (sym of_entries i)) * ENTRY_OCTETS
+
+  pub has_room : (len : ℕ) → (widest s ≤ len) ⊎ (length (clock_image s) ≤ len)
+      → HasRoomFor (data_sets_octets d) (entries m) len
+  has_room len =
       ⊎_elim
-      (λ (every : CLOCK_OCTETS ≤ len). record { before = omega (arith, every, small); behind = inl (omega (arith, every, small)) })
+      (λ (every : widest s ≤ len). record { before = omega (arith, every, widest_is); behind = inl (omega (arith, every, widest_is)) })
       (λ (own : length (clock_image s) ≤ len). record { before = omega (arith, own, size_is); behind = inr (omega (arith, own, size_is)) })
 
   -- the parts, one after the other

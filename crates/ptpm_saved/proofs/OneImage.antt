@@ -27,7 +27,7 @@ use Rattle.ptpm_table.proofs.Identities.{exact_identities, identities_total}
 use Rattle.ptpm_agent.specs.Turn.{State}
 use Rattle.ptpm_manager.specs.Image.{image_head, request_image}
 use Rattle.ptpm_manager.specs.ImageReading.{request_action}
-use Rattle.ptpm_saved.specs.Image.{EntryIsSound, IsSaved, SavedClock, answer_image, answers_image, body_image, clock_image, entries_image, entry_image, outcome_image, port_octets, saved_image, saved_of}
+use Rattle.ptpm_saved.specs.Image.{EntryIsSound, IsSaved, SavedClock, answer_image, answers_image, answers_kept, body_image, clock_image, entries_image, entry_image, outcome_image, port_octets, saved_image, saved_of}
 use Rattle.ptpm_saved.specs.EntryReading.{IsOfPort, RequestFits}
 use Rattle.ptpm_saved.proofs.EntryOrder.{Pair}
 use Rattle.ptpm_saved.proofs.ImageLemmas.{head_length}
@@ -183,12 +183,12 @@ same_answers b action (x ∷ xs) (y ∷ ys) r s size suits suits' fits fits' e =
 
 -- ---- entries
 
-one_entry : (e f : Pair) (r s : List ℕ)
-    → EntryIsSound e
-    → EntryIsSound f
+one_entry : (m n : ℕ) (e f : Pair) (r s : List ℕ)
+    → EntryIsSound m e
+    → EntryIsSound n f
     → entry_image e ++ r ≡ entry_image f ++ s
     → (e ≡ f) × (r ≡ s)
-one_entry e f r s sound sound' same =
+one_entry m n e f r s sound sound' same =
     let q : RequestValue = e.1.request in
     let p : RequestValue = f.1.request in
     let all = sym (entry_parts e r) ∙ same ∙ entry_parts f s in
@@ -215,19 +215,19 @@ one_entry e f r s sound sound' same =
       answers.1,
     )
 
-same_entries : (es fs : List Pair)
+same_entries : (m n : ℕ) (es fs : List Pair)
     → length es ≡ length fs
-    → All EntryIsSound es
-    → All EntryIsSound fs
+    → All (EntryIsSound m) es
+    → All (EntryIsSound n) fs
     → entries_image es ≡ entries_image fs
     → es ≡ fs
 unfolding entries_image
-same_entries [] [] size sound sound' same = refl
-same_entries [] (f ∷ fs) size sound sound' same = absurd (omega arith)
-same_entries (e ∷ es) [] size sound sound' same = absurd (omega arith)
-same_entries (e ∷ es) (f ∷ fs) size sound sound' same =
-    let first = one_entry e f (flat_map entry_image es) (flat_map entry_image fs) (All-head EntryIsSound e es sound) (All-head EntryIsSound f fs sound') same in
-    let others = same_entries es fs (omega arith) (All-tail EntryIsSound e es sound) (All-tail EntryIsSound f fs sound') first.1 in
+same_entries m n [] [] size sound sound' same = refl
+same_entries m n [] (f ∷ fs) size sound sound' same = absurd (omega arith)
+same_entries m n (e ∷ es) [] size sound sound' same = absurd (omega arith)
+same_entries m n (e ∷ es) (f ∷ fs) size sound sound' same =
+    let first = one_entry m n e f (flat_map entry_image es) (flat_map entry_image fs) (All-head (EntryIsSound m) e es sound) (All-head (EntryIsSound n) f fs sound') same in
+    let others = same_entries m n es fs (omega arith) (All-tail (EntryIsSound m) e es sound) (All-tail (EntryIsSound n) f fs sound') first.1 in
     λ i. first.0 i ∷ others i
 
 -- ---- the clock
@@ -239,7 +239,7 @@ one_saved c d saved saved' same =
     let n = length (body_image d) in
     let body = same_front (image_head 1 m) (image_head 1 n) (body_image c) (body_image d) (head_length 1 m ∙ sym (head_length 1 n)) same in
     let sets = one_image c.sets d.sets saved.consistent saved'.consistent saved.fits saved'.fits _ _ body.1 in
-    let found = same_entries c.entries d.entries (same_heads _ _ _ _ sets.1) saved.entries.sound saved'.entries.sound (same_tails _ _ _ _ sets.1) in
+    let found = same_entries (answers_kept c.sets) (answers_kept d.sets) c.entries d.entries (same_heads _ _ _ _ sets.1) saved.entries.sound saved'.entries.sound (same_tails _ _ _ _ sets.1) in
     λ i. record { sets = sets.0 i; entries = found i }
 
 one_table : (m n : Entries) → entries m ≡ entries n → m ≡ n

@@ -1,22 +1,20 @@
 -- The image of an entry, part by part.
-use Rattle.std.proofs.Common.{◌≡◌, ◌+◌, ◌<◌, ℕ, Bool, arith, subst, sym, ◌∙◌, ap, refl, List, [], ◌∷◌, ◌++◌, length, append_assoc, append-nil, map, take, drop, true, false, All, length-append}
+use Rattle.std.proofs.Common.{◌≡◌, ◌+◌, ◌<◌, ℕ, Bool, arith, subst, sym, ◌∙◌, ap, refl, List, [], ◌∷◌, ◌++◌, length, append_assoc, append-nil, take, drop, true, false, All, length-append}
 use Rattle.std.specs.List.{flat_map}
-use Rattle.std.proofs.lemmas.List.{length-map, map-append, take-append-drop, take_all}
+use Rattle.std.proofs.lemmas.List.{take-append-drop, take_all}
 use Rattle.std.proofs.Math.Seq.{drop-append_seam, take-append_seam}
-use Rattle.std.proofs.lemmas.List.Elements.{All-head, All-map, All-nil, All-push, All-tail, All-weaker}
+use Rattle.std.proofs.lemmas.List.Elements.{All-head, All-nil, All-push, All-tail, All-weaker}
 use Rattle.byteorder.specs.Endian.{big_bytes}
 use Rattle.ptpm_codec.specs.declared.identity.ClockIdentity.{ClockIdentity}
 use Rattle.ptpm_codec.specs.declared.identity.PortIdentity.{PortIdentity}
 use Rattle.ptpm_codec.specs.Canonical.{port_identity_octets}
 use Rattle.ptpm_codec.specs.Layout.{clock_identity_at}
-use Rattle.ptpm_codec.specs.Message.{IsDataField, IsRequestAction, PortIdentityFits, action_code, reply_action}
-use Rattle.ptpm_data.specs.Reply.{Answer, ReplyValue, answer_of}
+use Rattle.ptpm_codec.specs.Message.{IsDataField, IsRequestAction, PortIdentityFits, action_code}
+use Rattle.ptpm_data.specs.Reply.{Answer, ReplyValue}
 use Rattle.ptpm_data.specs.Request.{RequestValue}
 use Rattle.ptpm_data.specs.ManagementId.{is_of_port}
-use Rattle.ptpm_data.specs.declared.reply.PortAnswer.{PortAnswer}
 use Rattle.ptpm_codec.specs.declared.message.Action.{Action}
-use Rattle.ptpm_table.specs.Entries.{FitsAnswer, FitsCount}
-use Rattle.ptpm_table.proofs.ListLemmas.{All-unmap}
+use Rattle.ptpm_table.specs.Entries.{FitsAnswer, FitsCount, reply_with}
 use Rattle.ptpm_manager.specs.Image.{request_image}
 use Rattle.ptpm_table.specs.Lending.{AnswerFits, EntryFits, IsKeepable}
 use Rattle.ptpm_saved.specs.Image.{answer_image, answers_image, entry_image, front_image, reply_image}
@@ -139,19 +137,19 @@ next_answer of_port xs done (a ∷ ys) rest octets count place size so_far less 
 
 -- ---- answers, so far
 
-pub record AreRead (of_port : Bool) (count : ℕ) (octets : List ℕ) (items : List PortAnswer) (place : ℕ) (rest : List ℕ) : Type 0 where
-  pub count_is : length items ≡ place
-  pub sound : octets ≡ answers_image (map answer_of items) ++ rest
-  pub fits : All AnswerFits (map answer_of items)
+pub record AreRead (of_port : Bool) (count : ℕ) (octets : List ℕ) (answers : List Answer) (place : ℕ) (rest : List ℕ) : Type 0 where
+  pub count_is : length answers ≡ place
+  pub sound : octets ≡ answers_image answers ++ rest
+  pub fits : All AnswerFits answers
   pub found : (xs : List Answer) (r : List ℕ) → length xs ≡ count → All (IsOfPort of_port) xs → All AnswerFits xs → All IsSmall xs
       → octets ≡ answers_image xs ++ r
-      → (ys : List Answer) × (xs ≡ map answer_of items ++ ys) × (rest ≡ answers_image ys ++ r)
+      → (ys : List Answer) × (xs ≡ answers ++ ys) × (rest ≡ answers_image ys ++ r)
 
-pub none_are_read : (of_port : Bool) (count : ℕ) (octets : List ℕ) (items : List PortAnswer)
-    → items ≡ []
-    → AreRead of_port count octets items 0 octets
-none_are_read of_port count octets items none =
-    subst (λ (l : List PortAnswer). AreRead of_port count octets l 0 octets) (sym none)
+pub none_are_read : (of_port : Bool) (count : ℕ) (octets : List ℕ) (answers : List Answer)
+    → answers ≡ []
+    → AreRead of_port count octets answers 0 octets
+none_are_read of_port count octets answers none =
+    subst (λ (l : List Answer). AreRead of_port count octets l 0 octets) (sym none)
     (record {
       count_is = refl;
       sound = sym (answers-nil octets);
@@ -159,62 +157,60 @@ none_are_read of_port count octets items none =
       found = λ xs r size ports fits small is. (xs, refl, is);
     })
 
-next_of : (of_port : Bool) (count : ℕ) (octets : List ℕ) (items : List PortAnswer) (place : ℕ) (rest : List ℕ)
-    → AreRead of_port count octets items place rest
+next_of : (of_port : Bool) (count : ℕ) (octets : List ℕ) (answers : List Answer) (place : ℕ) (rest : List ℕ)
+    → AreRead of_port count octets answers place rest
     → place < count
     → (xs : List Answer) (r : List ℕ) → length xs ≡ count → All (IsOfPort of_port) xs → All AnswerFits xs → All IsSmall xs
     → octets ≡ answers_image xs ++ r
-    → NextAnswer of_port (map answer_of items) xs rest r
-next_of of_port count octets items place rest h less xs r size ports fits small is =
+    → NextAnswer of_port answers xs rest r
+next_of of_port count octets answers place rest h less xs r size ports fits small is =
     let f = h.found xs r size ports fits small is in
-    next_answer of_port xs (map answer_of items) f.0 r rest count place size (length-map items answer_of ∙ h.count_is) less ports fits small f.1 f.2
+    next_answer of_port xs answers f.0 r rest count place size h.count_is less ports fits small f.1 f.2
 
-pub no_answer : (of_port : Bool) (count : ℕ) (octets : List ℕ) (items : List PortAnswer) (place : ℕ) (rest : List ℕ)
-    → AreRead of_port count octets items place rest
+pub no_answer : (of_port : Bool) (count : ℕ) (octets : List ℕ) (answers : List Answer) (place : ℕ) (rest : List ℕ)
+    → AreRead of_port count octets answers place rest
     → place < count
     → ((a : Answer) (r : List ℕ) → IsOfPort of_port a → AnswerFits a → IsSmall a → rest ≡ answer_image a ++ r → ⊥)
     → (xs : List Answer) (r : List ℕ) → length xs ≡ count → All (IsOfPort of_port) xs → All AnswerFits xs → All IsSmall xs
     → octets ≡ answers_image xs ++ r
     → ⊥
-no_answer of_port count octets items place rest h less none xs r size ports fits small is =
-    let n = next_of of_port count octets items place rest h less xs r size ports fits small is in
+no_answer of_port count octets answers place rest h less none xs r size ports fits small is =
+    let n = next_of of_port count octets answers place rest h less xs r size ports fits small is in
     none n.answer (answers_image n.others ++ r) n.of_port_is n.fits n.small n.octets_are
 
-pub answer_read : (of_port : Bool) (count : ℕ) (octets : List ℕ) (items items' : List PortAnswer) (place : ℕ) (rest next : List ℕ) (a : PortAnswer)
-    → AreRead of_port count octets items place rest
+pub answer_read : (of_port : Bool) (count : ℕ) (octets : List ℕ) (answers answers' : List Answer) (place : ℕ) (rest next : List ℕ) (a : Answer)
+    → AreRead of_port count octets answers place rest
     → place < count
-    → rest ≡ answer_image (answer_of a) ++ next
-    → AnswerFits (answer_of a)
-    → ((b : Answer) (r : List ℕ) → IsOfPort of_port b → AnswerFits b → IsSmall b → rest ≡ answer_image b ++ r → (answer_of a ≡ b) × (next ≡ r))
-    → items' ≡ items ++ a ∷ []
-    → AreRead of_port count octets items' (place + 1) next
-answer_read of_port count octets items items' place rest next a h less is fit same more =
-    let done = map answer_of items in
-    let mapped : map answer_of (items ++ a ∷ []) ≡ done ++ answer_of a ∷ [] = map-append answer_of items (a ∷ []) in
-    subst (λ (l : List PortAnswer). AreRead of_port count octets l (place + 1) next) (sym more)
+    → rest ≡ answer_image a ++ next
+    → AnswerFits a
+    → ((b : Answer) (r : List ℕ) → IsOfPort of_port b → AnswerFits b → IsSmall b → rest ≡ answer_image b ++ r → (a ≡ b) × (next ≡ r))
+    → answers' ≡ answers ++ a ∷ []
+    → AreRead of_port count octets answers' (place + 1) next
+answer_read of_port count octets answers answers' place rest next a h less is fit same more =
+    subst (λ (l : List Answer). AreRead of_port count octets l (place + 1) next) (sym more)
     (record {
-      count_is = omega (arith, length-append items (a ∷ []), h.count_is);
-      sound = h.sound ∙ ap (λ s. answers_image done ++ s) is ∙ sym (answers-push done (answer_of a) next) ∙ ap (λ l. answers_image l ++ next) (sym mapped);
-      fits = subst (All AnswerFits) (sym mapped) (All-push AnswerFits done (answer_of a) h.fits fit);
+      count_is = omega (arith, length-append answers (a ∷ []), h.count_is);
+      sound = h.sound ∙ ap (λ s. answers_image answers ++ s) is ∙ sym (answers-push answers a next);
+      fits = All-push AnswerFits answers a h.fits fit;
       found = λ xs r size ports fits small all.
-          let n = next_of of_port count octets items place rest h less xs r size ports fits small all in
+          let n = next_of of_port count octets answers place rest h less xs r size ports fits small all in
           let own = same n.answer (answers_image n.others ++ r) n.of_port_is n.fits n.small n.octets_are in (
             n.others,
-            n.xs_are ∙ ap (λ d. done ++ d ∷ n.others) (sym own.0) ∙ sym (append_assoc done (answer_of a ∷ []) n.others) ∙ ap (λ l. l ++ n.others) (sym mapped),
+            n.xs_are ∙ ap (λ (d : Answer). answers ++ d ∷ n.others) (sym own.0) ∙ sym (append_assoc answers (a ∷ []) n.others),
             own.1,
           );
     })
 
-pub all_read : (of_port : Bool) (count : ℕ) (octets : List ℕ) (items : List PortAnswer) (place : ℕ) (rest : List ℕ)
-    → AreRead of_port count octets items place rest
+pub all_read : (of_port : Bool) (count : ℕ) (octets : List ℕ) (answers : List Answer) (place : ℕ) (rest : List ℕ)
+    → AreRead of_port count octets answers place rest
     → place ≡ count
     → (xs : List Answer) (r : List ℕ) → length xs ≡ count → All (IsOfPort of_port) xs → All AnswerFits xs → All IsSmall xs
     → octets ≡ answers_image xs ++ r
-    → (map answer_of items ≡ xs) × (rest ≡ r)
-all_read of_port count octets items place rest h all xs r size ports fits small is =
+    → (answers ≡ xs) × (rest ≡ r)
+all_read of_port count octets answers place rest h all xs r size ports fits small is =
     let f = h.found xs r size ports fits small is in
-    let none : f.0 ≡ [] = no_more f.0 (omega (arith, ap length f.1, length-append (map answer_of items) f.0, length-map items answer_of, h.count_is, size, all)) in (
-      sym (f.1 ∙ ap (λ l. map answer_of items ++ l) none ∙ append-nil (map answer_of items)),
+    let none : f.0 ≡ [] = no_more f.0 (omega (arith, ap length f.1, length-append answers f.0, h.count_is, size, all)) in (
+      sym (f.1 ∙ ap (λ l. answers ++ l) none ∙ append-nil answers),
       f.2 ∙ ap (λ l. answers_image l ++ r) none ∙ answers-nil r,
     )
   where
@@ -253,48 +249,75 @@ pub of_port_by : (b : Bool) (action : Action) (a : Answer) → FitsAnswer b acti
 of_port_by false action a fits = ap is_some fits.0
 of_port_by true action a fits = ap is_some fits.0.1
 
--- a reply that can be kept is taken
-pub not_fitting : (q : RequestValue) (r : ReplyValue) (n : ℕ) (b : Bool) (action : Action) (count : ℕ) (octets tail rest next : List ℕ) (items : List PortAnswer)
-    (fit : Bool)
+-- what was read is the reply that can be kept
+pub record IsThere (q : RequestValue) (r : ReplyValue) (answers : List Answer) (next rest : List ℕ) : Type 0 where
+  pub reply : reply_with q answers ≡ r
+  pub rest_is : next ≡ rest
+
+pub reply_there : (q : RequestValue) (r : ReplyValue) (n : ℕ) (b : Bool) (count : ℕ) (octets tail rest next : List ℕ) (answers : List Answer)
     → b ≡ is_of_port q.id
-    → action ≡ q.action
     → IsKeepable (record { number = n; request = q; reply = r })
     → All AnswerFits r.answers
     → octets ≡ count ∷ tail
     → octets ≡ length r.answers ∷ (answers_image r.answers ++ rest)
     → ((xs : List Answer) (t : List ℕ) → length xs ≡ count → All (IsOfPort b) xs → All AnswerFits xs → All IsSmall xs → tail ≡ answers_image xs ++ t
-    → (map answer_of items ≡ xs) × (next ≡ t))
-    → (All (λ a. FitsAnswer b action (answer_of a)) items → fit ≡ true)
-    → fit ≡ false
-    → ⊥
-not_fitting q r n b action count octets tail rest next items fit port asks keep fits front is read test failed =
-    let suits : All (FitsAnswer b action) r.answers =
-    subst (λ (p : Bool × Action). All (FitsAnswer p.0 p.1) r.answers) (λ i. (sym port i, sym asks i)) keep.fits.answers in
+    → (answers ≡ xs) × (next ≡ t))
+    → IsThere q r answers next rest
+reply_there q r n b count octets tail rest next answers port keep fits front is read =
+    let suits : All (FitsAnswer b q.action) r.answers = subst (λ p. All (FitsAnswer p q.action) r.answers) (sym port) keep.fits.answers in
     let both = sym front ∙ is in
     let got = read r.answers rest (sym (same_heads count (length r.answers) tail (answers_image r.answers ++ rest) both))
-    (All-weaker (FitsAnswer b action) (IsOfPort b) (of_port_by b action) r.answers suits) fits
-    (All-weaker (FitsAnswer b action) IsSmall (answer_small b action) r.answers suits)
+    (All-weaker (FitsAnswer b q.action) (IsOfPort b) (of_port_by b q.action) r.answers suits) fits
+    (All-weaker (FitsAnswer b q.action) IsSmall (answer_small b q.action) r.answers suits)
     (same_tails count (length r.answers) tail (answers_image r.answers ++ rest) both) in
-    let yes = test (All-unmap (FitsAnswer b action) answer_of items (subst (All (FitsAnswer b action)) (sym got.0) suits)) in
-    false≢true (sym failed ∙ yes)
+    record {
+      reply = λ i. record { action = sym keep.fits.action i; id = sym keep.fits.id i; answers = got.0 i };
+      rest_is = got.1;
+    }
 
-pub keepable_reply : (q : RequestValue) (n : ℕ) (b : Bool) (a : Action) (id : ℕ) (items : List PortAnswer) (count : ℕ)
+-- a reply that can be kept is taken
+pub not_fitting : (q : RequestValue) (r : ReplyValue) (n : ℕ) (b : Bool) (count : ℕ) (octets tail rest next : List ℕ) (answers : List Answer)
+    (fit : Bool)
+    → b ≡ is_of_port q.id
+    → IsKeepable (record { number = n; request = q; reply = r })
+    → All AnswerFits r.answers
+    → octets ≡ count ∷ tail
+    → octets ≡ length r.answers ∷ (answers_image r.answers ++ rest)
+    → ((xs : List Answer) (t : List ℕ) → length xs ≡ count → All (IsOfPort b) xs → All AnswerFits xs → All IsSmall xs → tail ≡ answers_image xs ++ t
+    → (answers ≡ xs) × (next ≡ t))
+    → (All (FitsAnswer b q.action) answers → fit ≡ true)
+    → fit ≡ false
+    → ⊥
+not_fitting q r n b count octets tail rest next answers fit port keep fits front is read test failed =
+    let got = reply_there q r n b count octets tail rest next answers port keep fits front is read in
+    let suits : All (FitsAnswer b q.action) answers =
+    subst (λ (p : Bool × List Answer). All (FitsAnswer p.0 q.action) p.1)
+    (λ i. (sym port i, sym (ap (λ (x : ReplyValue). x.answers) got.reply) i)) keep.fits.answers in
+    false≢true (sym failed ∙ test suits)
+
+-- a count that has no room is not that of a reply that has room
+pub count_there : (r : ReplyValue) (count : ℕ) (octets tail rest : List ℕ)
+    → octets ≡ count ∷ tail
+    → octets ≡ length r.answers ∷ (answers_image r.answers ++ rest)
+    → length r.answers ≡ count
+count_there r count octets tail rest front is =
+    sym (same_heads count (length r.answers) tail (answers_image r.answers ++ rest) (sym front ∙ is))
+
+pub keepable_reply : (q : RequestValue) (n : ℕ) (b : Bool) (answers : List Answer) (count : ℕ)
     → IsRequestAction q.action
-    → a ≡ reply_action q.action
-    → id ≡ q.id
     → b ≡ is_of_port q.id
     → IsDataField q.octets
     → FitsCount b count
-    → length items ≡ count
-    → All (λ x. FitsAnswer b q.action (answer_of x)) items
-    → IsKeepable (record { number = n; request = q; reply = record { action = a; id = id; answers = map answer_of items } })
-keepable_reply q n b a id items count asks action named port octets counts size suits = record {
+    → length answers ≡ count
+    → All (FitsAnswer b q.action) answers
+    → IsKeepable (record { number = n; request = q; reply = reply_with q answers })
+keepable_reply q n b answers count asks port octets counts size suits = record {
   action = asks;
   octets = octets;
   fits = record {
-    action = action;
-    id = named;
-    count = subst (λ (p : Bool × ℕ). FitsCount p.0 p.1) (λ i. (port i, (sym size ∙ sym (length-map items answer_of)) i)) counts;
-    answers = subst (λ c. All (FitsAnswer c q.action) (map answer_of items)) port (All-map (FitsAnswer b q.action) answer_of items suits);
+    action = refl;
+    id = refl;
+    count = subst (λ (p : Bool × ℕ). FitsCount p.0 p.1) (λ i. (port i, sym size i)) counts;
+    answers = subst (λ c. All (FitsAnswer c q.action) answers) port suits;
   };
 }

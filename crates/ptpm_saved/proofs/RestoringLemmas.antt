@@ -12,7 +12,8 @@ use Rattle.std.specs.Ordering.{is_lt}
 use Rattle.std.specs.declared.cmp.Ordering.TheVariants.{Less}
 use Rattle.ptpm_codec.specs.declared.identity.PortIdentity.{PortIdentity}
 use Rattle.ptpm_codec.specs.Identity.{identity_cmp}
-use Rattle.ptpm_table.specs.Entries.{Entries, is_known}
+use Rattle.ptpm_table.specs.declared.managers.TheConstants.{MOST_MANAGERS}
+use Rattle.ptpm_table.specs.Entries.{Entries, HaveAnswers, is_known}
 use Rattle.ptpm_table.specs.Lending.{IsAfter}
 use Rattle.ptpm_table.proofs.Identities.{identities_total}
 use Rattle.ptpm_saved.specs.Image.{AreEntries, EntryIsSound, entries_image, entry_image}
@@ -107,23 +108,23 @@ last_after es e = ap (λ o. option_map (λ (x : Pair). x.0) o) (sym (at_end es e
 
 -- Of this many entries in these octets the first ones were read. Whoever reads the octets as entries reads these
 -- first.
-pub record IsReadSoFar (octets : List ℕ) (count place : ℕ) (rest : List ℕ) (last : Option PortIdentity) : Type 0 where
+pub record IsReadSoFar (most : ℕ) (octets : List ℕ) (count place : ℕ) (rest : List ℕ) (last : Option PortIdentity) : Type 0 where
   pub read : List Pair
   pub size : length read ≡ place
   pub octets_are : octets ≡ entries_image read ++ rest
   pub ascending : is_sorted identity_cmp read ≡ true
-  pub sound : All EntryIsSound read
+  pub sound : All (EntryIsSound most) read
   pub last_is : last ≡ after_at read place
-  pub found : (es : List Pair) → AreEntries es → length es ≡ count → octets ≡ entries_image es
+  pub found : (es : List Pair) → AreEntries most es → length es ≡ count → octets ≡ entries_image es
       → (more : List Pair) × (es ≡ read ++ more) × (rest ≡ entries_image more)
 
-pub none_read : (octets : List ℕ) (count : ℕ) → IsReadSoFar octets count 0 octets None
-none_read octets count = record {
+pub none_read : (most : ℕ) (octets : List ℕ) (count : ℕ) → IsReadSoFar most octets count 0 octets None
+none_read most octets count = record {
   read = [];
   size = refl;
   octets_are = ap (λ s. s ++ octets) (sym image-nil);
   ascending = refl;
-  sound = All-nil EntryIsSound;
+  sound = All-nil (EntryIsSound most);
   last_is = refl;
   found = λ es entries size is. (es, refl, is);
 }
@@ -143,49 +144,49 @@ follows read [] es count place rest is size so_far less rests =
     absurd (omega (arith, ap length is, length-append read [], size, so_far, less))
 follows read (e ∷ more) es count place rest is size so_far less rests = (e, more, refl, rests ∙ image-cons e more)
 
-sound_of : (read more : List Pair) (e : Pair) → All EntryIsSound (read ++ e ∷ more) → EntryIsSound e
-sound_of [] more e all = All-head EntryIsSound e more all
-sound_of (x ∷ read) more e all = sound_of read more e (All-tail EntryIsSound x (read ++ e ∷ more) all)
+sound_of : (most : ℕ) (read more : List Pair) (e : Pair) → All (EntryIsSound most) (read ++ e ∷ more) → EntryIsSound most e
+sound_of most [] more e all = All-head (EntryIsSound most) e more all
+sound_of most (x ∷ read) more e all = sound_of most read more e (All-tail (EntryIsSound most) x (read ++ e ∷ more) all)
 
 -- no entry comes first: so these are no entries
-pub cut_short : (octets : List ℕ) (count place : ℕ) (rest : List ℕ) (last : Option PortIdentity)
-    → IsReadSoFar octets count place rest last
+pub cut_short : (most : ℕ) (octets : List ℕ) (count place : ℕ) (rest : List ℕ) (last : Option PortIdentity)
+    → IsReadSoFar most octets count place rest last
     → place < count
-    → ((e : Pair) (others : List ℕ) → EntryIsSound e → rest ≡ entry_image e ++ others → ⊥)
-    → (es : List Pair) → AreEntries es → length es ≡ count → octets ≡ entries_image es → ⊥
-cut_short octets count place rest last h less none es entries size is =
+    → ((e : Pair) (others : List ℕ) → EntryIsSound most e → rest ≡ entry_image e ++ others → ⊥)
+    → (es : List Pair) → AreEntries most es → length es ≡ count → octets ≡ entries_image es → ⊥
+cut_short most octets count place rest last h less none es entries size is =
     let f = h.found es entries size is in
     let g = follows h.read f.0 es count place rest f.1 size h.size less f.2 in
     none g.0 (entries_image g.1)
-    (sound_of h.read g.1 g.0 (subst (All EntryIsSound) (f.1 ∙ ap (λ m. h.read ++ m) g.2) entries.sound)) g.3
+    (sound_of most h.read g.1 g.0 (subst (All (EntryIsSound most)) (f.1 ∙ ap (λ m. h.read ++ m) g.2) entries.sound)) g.3
 
 -- an entry comes first, and is not after the last one: so these are no entries
-pub out_of_order : (octets : List ℕ) (count place : ℕ) (rest : List ℕ) (last : Option PortIdentity) (e : Pair) (next : List ℕ)
-    → IsReadSoFar octets count place rest last
+pub out_of_order : (most : ℕ) (octets : List ℕ) (count place : ℕ) (rest : List ℕ) (last : Option PortIdentity) (e : Pair) (next : List ℕ)
+    → IsReadSoFar most octets count place rest last
     → place < count
-    → ((d : Pair) (others : List ℕ) → EntryIsSound d → rest ≡ entry_image d ++ others → (e ≡ d) × (next ≡ others))
+    → ((d : Pair) (others : List ℕ) → EntryIsSound most d → rest ≡ entry_image d ++ others → (e ≡ d) × (next ≡ others))
     → (IsAfter last e.0 → ⊥)
-    → (es : List Pair) → AreEntries es → length es ≡ count → octets ≡ entries_image es → ⊥
-out_of_order octets count place rest last e next h less same not_after es entries size is =
+    → (es : List Pair) → AreEntries most es → length es ≡ count → octets ≡ entries_image es → ⊥
+out_of_order most octets count place rest last e next h less same not_after es entries size is =
     let f = h.found es entries size is in
     let g = follows h.read f.0 es count place rest f.1 size h.size less f.2 in
     let all : es ≡ h.read ++ g.0 ∷ g.1 = f.1 ∙ ap (λ m. h.read ++ m) g.2 in
-    let own = same g.0 (entries_image g.1) (sound_of h.read g.1 g.0 (subst (All EntryIsSound) all entries.sound)) g.3 in
+    let own = same g.0 (entries_image g.1) (sound_of most h.read g.1 g.0 (subst (All (EntryIsSound most)) all entries.sound)) g.3 in
     not_after
     (subst (λ (o : Option PortIdentity). IsAfter o e.0) (sym (h.last_is ∙ ap (after_at h.read) (sym h.size)))
     (subst (λ (d : Pair). IsAfter (after_at h.read (length h.read)) d.0) (sym own.0)
     (sorted_after h.read g.0 g.1 (subst (λ l. is_sorted identity_cmp l ≡ true) all entries.ascending))))
 
 -- one more entry
-pub read_on : (octets : List ℕ) (count place : ℕ) (rest next : List ℕ) (last : Option PortIdentity) (e : Pair)
-    → IsReadSoFar octets count place rest last
+pub read_on : (most : ℕ) (octets : List ℕ) (count place : ℕ) (rest next : List ℕ) (last : Option PortIdentity) (e : Pair)
+    → IsReadSoFar most octets count place rest last
     → place < count
     → rest ≡ entry_image e ++ next
-    → EntryIsSound e
-    → ((d : Pair) (others : List ℕ) → EntryIsSound d → rest ≡ entry_image d ++ others → (e ≡ d) × (next ≡ others))
+    → EntryIsSound most e
+    → ((d : Pair) (others : List ℕ) → EntryIsSound most d → rest ≡ entry_image d ++ others → (e ≡ d) × (next ≡ others))
     → IsAfter last e.0
-    → IsReadSoFar octets count (place + 1) next (Some e.0)
-read_on octets count place rest next last e h less is sound same comes = record {
+    → IsReadSoFar most octets count (place + 1) next (Some e.0)
+read_on most octets count place rest next last e h less is sound same comes = record {
   read = h.read ++ e ∷ [];
   size = omega (arith, length-append h.read (e ∷ []), h.size);
   octets_are =
@@ -193,13 +194,13 @@ read_on octets count place rest next last e h less is sound same comes = record 
       ∙ ap (λ s. s ++ next) (sym (images-append h.read (e ∷ []) ∙ ap (λ s. entries_image h.read ++ s) (alone e)));
   ascending = sorted_push h.read e h.ascending
       (subst (λ (o : Option PortIdentity). IsAfter o e.0) (h.last_is ∙ ap (after_at h.read) (sym h.size)) comes);
-  sound = All-push EntryIsSound h.read e h.sound sound;
+  sound = All-push (EntryIsSound most) h.read e h.sound sound;
   last_is = last_after h.read e ∙ ap (λ n. after_at (h.read ++ e ∷ []) (n + 1)) h.size;
   found = λ es entries size all.
       let f = h.found es entries size all in
       let g = follows h.read f.0 es count place rest f.1 size h.size less f.2 in
       let whole : es ≡ h.read ++ g.0 ∷ g.1 = f.1 ∙ ap (λ m. h.read ++ m) g.2 in
-      let own = same g.0 (entries_image g.1) (sound_of h.read g.1 g.0 (subst (All EntryIsSound) whole entries.sound)) g.3 in
+      let own = same g.0 (entries_image g.1) (sound_of most h.read g.1 g.0 (subst (All (EntryIsSound most)) whole entries.sound)) g.3 in
       (g.1, whole ∙ ap (λ (d : Pair). h.read ++ d ∷ g.1) (sym own.0) ∙ sym (append_assoc h.read (e ∷ []) g.1), own.1);
 }
   where
@@ -209,19 +210,19 @@ read_on octets count place rest next last e h less is sound same comes = record 
 -- ---- at the end
 
 -- all were read
-pub record IsWhole (octets : List ℕ) (count : ℕ) : Type 0 where
+pub record IsWhole (most : ℕ) (octets : List ℕ) (count : ℕ) : Type 0 where
   pub es : List Pair
-  pub entries : AreEntries es
+  pub entries : AreEntries most es
   pub size : length es ≡ count
   pub octets_are : octets ≡ entries_image es
 
-pub read_whole : (octets : List ℕ) (count place : ℕ) (rest : List ℕ) (last : Option PortIdentity)
-    → IsReadSoFar octets count place rest last
+pub read_whole : (most : ℕ) (octets : List ℕ) (count place : ℕ) (rest : List ℕ) (last : Option PortIdentity)
+    → IsReadSoFar most octets count place rest last
     → place ≡ count
-    → count ≤ 16
+    → count ≤ MOST_MANAGERS
     → rest ≡ []
-    → IsWhole octets count
-read_whole octets count place rest last h all few end = record {
+    → IsWhole most octets count
+read_whole most octets count place rest last h all few end = record {
   es = h.read;
   entries = record { few = omega (arith, h.size, all, few); ascending = h.ascending; sound = h.sound };
   size = h.size ∙ all;
@@ -229,11 +230,11 @@ read_whole octets count place rest last h all few end = record {
 }
 
 -- whoever reads the octets as entries has read all
-pub found_whole : (octets : List ℕ) (count place : ℕ) (rest : List ℕ) (last : Option PortIdentity)
-    → IsReadSoFar octets count place rest last
+pub found_whole : (most : ℕ) (octets : List ℕ) (count place : ℕ) (rest : List ℕ) (last : Option PortIdentity)
+    → IsReadSoFar most octets count place rest last
     → place ≡ count
-    → (es : List Pair) → AreEntries es → length es ≡ count → octets ≡ entries_image es → rest ≡ []
-found_whole octets count place rest last h all es entries size is =
+    → (es : List Pair) → AreEntries most es → length es ≡ count → octets ≡ entries_image es → rest ≡ []
+found_whole most octets count place rest last h all es entries size is =
     let f = h.found es entries size is in
     let none : f.0 ≡ [] = no_more f.0 (omega (arith, ap length f.1, length-append h.read f.0, size, h.size, all)) in
     f.2 ∙ ap entries_image none ∙ image-nil
@@ -256,37 +257,37 @@ pub none_kept : (ms : List PortIdentity) (es : List Pair) (octets : List ℕ) (b
 none_kept ms es octets before is = record { rest_is = is; entries = refl; gone_is = refl }
 
 -- the entry at a place, before the octets of those after it
-pub record IsInFront (es : List Pair) (place : ℕ) (rest : List ℕ) : Type 0 where
+pub record IsInFront (most : ℕ) (es : List Pair) (place : ℕ) (rest : List ℕ) : Type 0 where
   pub entry : Pair
   pub there : slice_get es place ≡ Some entry
-  pub sound : EntryIsSound entry
+  pub sound : EntryIsSound most entry
   pub octets_are : rest ≡ entry_image entry ++ entries_image (drop (suc place) es)
 
-pub in_front : (es : List Pair) (place : ℕ) (rest : List ℕ)
-    → AreEntries es
+pub in_front : (most : ℕ) (es : List Pair) (place : ℕ) (rest : List ℕ)
+    → AreEntries most es
     → place < length es
     → rest ≡ entries_image (drop place es)
-    → IsInFront es place rest
-in_front es place rest entries inside is =
+    → IsInFront most es place rest
+in_front most es place rest entries inside is =
     let s = split_at es place inside in
     record {
       entry = s.0;
       there = s.1;
-      sound = subst EntryIsSound (get_or_from_slice_get es place s.0 s.0 s.1) (entries.sound place s.0 inside);
+      sound = subst (EntryIsSound most) (get_or_from_slice_get es place s.0 s.0 s.1) (entries.sound place s.0 inside);
       octets_are = is ∙ ap entries_image s.2 ∙ image-cons s.0 (drop (suc place) es);
     }
 
-pub keep_on : (ms : List PortIdentity) (es : List Pair) (place : ℕ) (rest next : List ℕ) (before after new : Entries) (gone gone' : ℕ)
+pub keep_on : (most : ℕ) (ms : List PortIdentity) (es : List Pair) (place : ℕ) (rest next : List ℕ) (before after new : Entries) (gone gone' : ℕ)
     (e : Pair)
     → IsKeptSoFar ms es place rest before after gone
-    → AreEntries es
+    → AreEntries most es
     → place < length es
-    → ((d : Pair) (others : List ℕ) → EntryIsSound d → rest ≡ entry_image d ++ others → (e ≡ d) × (next ≡ others))
+    → ((d : Pair) (others : List ℕ) → EntryIsSound most d → rest ≡ entry_image d ++ others → (e ≡ d) × (next ≡ others))
     → new ≡ kept_by (is_known e.0 ms) after e
     → gone' ≡ cond (is_known e.0 ms) gone (gone + 1)
     → IsKeptSoFar ms es (place + 1) next before new gone'
-keep_on ms es place rest next before after new gone gone' e h entries inside same kept counted =
-    let f = in_front es place rest entries inside h.rest_is in
+keep_on most ms es place rest next before after new gone gone' e h entries inside same kept counted =
+    let f = in_front most es place rest entries inside h.rest_is in
     let own = same f.entry (entries_image (drop (suc place) es)) f.sound f.octets_are in
     let one : suc place ≡ place + 1 = omega arith in
     let here : get_or es place e ≡ e = get_or_from_slice_get es place f.entry e f.there ∙ sym own.0 in
@@ -333,3 +334,12 @@ not_empty (x ∷ xs) b is failed none = cc
 pub one_small : (known : Bool) → one_of known ≤ 1
 one_small true = omega arith
 one_small false = omega arith
+
+-- ---- with fewer answers
+
+pub sound_with : (most kept : ℕ) (es : List Pair) → All (EntryIsSound most) es → HaveAnswers kept es → All (EntryIsSound kept) es
+sound_with most kept es sound few = λ k e inside.
+    let s = sound k e inside in record { keepable = s.keepable; few = few k e inside; fits = s.fits }
+
+pub entries_with : (most kept : ℕ) (es : List Pair) → AreEntries most es → HaveAnswers kept es → AreEntries kept es
+entries_with most kept es are few = record { few = are.few; ascending = are.ascending; sound = sound_with most kept es are.sound few }

@@ -1,16 +1,15 @@
 -- What is read of an entry's image, part by part.
-use Rattle.std.specs.Prelude.{◌≡◌, ◌<◌, ◌≤◌, ◌^◌, Bool, is_some, length}
+use Rattle.std.specs.Prelude.{◌≡◌, ◌<◌, ◌≤◌, ◌^◌, Bool, List, is_some, length}
 use Rattle.ptpm_data.specs.Reply.{Answer}
 use Rattle.ptpm_saved.specs.declared.entry_reading.SavedRequest.{SavedRequest}
-use Rattle.ptpm_data.specs.Reply.{ReplyValue}
 use Rattle.ptpm_data.specs.Request.{RequestValue}
 use Rattle.ptpm_saved.specs.Image.{outcome_image}
-use Rattle.ptpm_table.specs.Entries.{Entry}
+use Rattle.ptpm_table.specs.Entries.{Entry, reply_with}
 use Rattle.ptpm_codec.specs.declared.identity.PortIdentity.{PortIdentity}
 
--- a request that was read, with the reply to it
-abbrev pub entry_read : SavedRequest → ReplyValue → PortIdentity × Entry
-entry_read s r = (s.manager, record { number = s.number; request = s.request; reply = r })
+-- a request that was read, with the answers of the reply to it
+abbrev pub entry_read : SavedRequest → List Answer → PortIdentity × Entry
+entry_read s answers = (s.manager, record { number = s.number; request = s.request; reply = reply_with s.request answers })
 
 -- the answer is of a port exactly if the id is of the ports
 abbrev pub IsOfPort : Bool → Answer → Type 0

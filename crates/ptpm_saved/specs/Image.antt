@@ -1,6 +1,6 @@
 -- The image of a clock: the octets in which its data sets, and what is kept of each manager, survive the loss of power. A head
 -- says what the image is of. Numbers of several octets have the highest octet first (this project's profile).
-use Rattle.std.specs.Prelude.{◌≤◌, ℕ, IsTrue, List, [], ◌∷◌, ◌++◌, length, Option, Some, None}
+use Rattle.std.specs.Prelude.{◌≤◌, ℕ, IsTrue, List, [], ◌∷◌, ◌++◌, length, max, Option, Some, None}
 use Rattle.std.specs.FinMap as fin
 use Rattle.std.specs.FinMap.{is_sorted}
 use Rattle.std.specs.List.{All, flat_map}
@@ -9,10 +9,12 @@ use Rattle.ptpm_codec.specs.declared.identity.PortIdentity.{PortIdentity}
 use Rattle.ptpm_codec.specs.Canonical.{port_identity_octets}
 use Rattle.ptpm_codec.specs.Identity.{identity_cmp}
 use Rattle.ptpm_codec.specs.Message.{error_number}
+use Rattle.ptpm_data.specs.declared.ports.TheConstants.{INLINE_PORTS}
 use Rattle.ptpm_data.specs.Image.{DataSetsFit, data_sets_octets}
 use Rattle.ptpm_data.specs.Members.{DataSetsValue, IsConsistent}
 use Rattle.ptpm_data.specs.Reply as reply
 use Rattle.ptpm_data.specs.Reply.{Answer, Outcome, ReplyValue}
+use Rattle.ptpm_table.specs.declared.managers.TheConstants.{MOST_MANAGERS}
 use Rattle.ptpm_table.specs.Entries.{Entry}
 use Rattle.ptpm_table.specs.Lending.{EntryFits, IsKeepable}
 use Rattle.ptpm_agent.specs.Turn.{State}
@@ -78,18 +80,23 @@ clock_image s = saved_image (saved_of s)
 
 -- ---- what a clock can have saved
 
--- an entry that a table would keep, whose numbers are within their types
-pub record EntryIsSound (e : PortIdentity × Entry) : Type 0 where
+-- how many answers of a reply a clock of these data sets keeps
+abbrev pub answers_kept : DataSetsValue → ℕ
+answers_kept d = max INLINE_PORTS (length d.ports)
+
+-- an entry that a table would keep which keeps this many answers; its numbers are within their types
+pub record EntryIsSound (most : ℕ) (e : PortIdentity × Entry) : Type 0 where
   pub keepable : IsKeepable e.1
+  pub few : length e.1.reply.answers ≤ most
   pub fits : EntryFits (record { manager = e.0; entry = e.1 })
 
--- sixteen managers at most, each once, in the order of their identities
-pub record AreEntries (entries : List (PortIdentity × Entry)) : Type 0 where
-  pub few : length entries ≤ 16
+-- of MOST_MANAGERS managers at most, each once, in the order of their identities
+pub record AreEntries (most : ℕ) (entries : List (PortIdentity × Entry)) : Type 0 where
+  pub few : length entries ≤ MOST_MANAGERS
   pub ascending : IsTrue (is_sorted identity_cmp entries)
-  pub sound : All EntryIsSound entries
+  pub sound : All (EntryIsSound most) entries
 
 pub record IsSaved (c : SavedClock) : Type 0 where
   pub consistent : IsConsistent c.sets
   pub fits : DataSetsFit c.sets
-  pub entries : AreEntries c.entries
+  pub entries : AreEntries (answers_kept c.sets) c.entries

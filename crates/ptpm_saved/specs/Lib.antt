@@ -9,3 +9,5 @@ pub mod Written
 pub mod NextSession
 pub mod Batching
 pub mod BatchingClock
+pub mod AnswerRoom
+pub mod Widest

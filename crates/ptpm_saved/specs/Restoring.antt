@@ -11,7 +11,9 @@ use Rattle.ptpm_table.specs.Entries.{Entries, Entry, is_known}
 use Rattle.ptpm_manager.specs.Image.{image_head, image_version, mark}
 use Rattle.ptpm_saved.specs.declared.error.RestoreError.{RestoreError}
 use Rattle.ptpm_saved.specs.declared.error.RestoreError.TheVariants as restores
-use Rattle.ptpm_saved.specs.Image.{AreEntries, IsSaved, SavedClock, clock_kind, entries_image, saved_image}
+use Rattle.ptpm_saved.specs.declared.error.RestoreFault.{RestoreFault}
+use Rattle.ptpm_saved.specs.declared.error.RestoreFault.TheVariants as faults
+use Rattle.ptpm_saved.specs.Image.{AreEntries, IsSaved, SavedClock, answers_kept, clock_kind, entries_image, saved_image}
 
 -- the octets are the image of this clock
 pub record IsImageOf (c : SavedClock) (octets : List ℕ) : Type 0 where
@@ -28,7 +30,7 @@ pub record IsBegun (image : List ℕ) (sets : DataSetsValue) : Type 0 where
 
 -- with this many entries after them it is the image of the clock that has these data sets and these entries
 pub record IsOpened (image : List ℕ) (sets : DataSetsValue) (count : ℕ) (octets : List ℕ) : Type 0 where
-  pub whole : (es : List (PortIdentity × Entry)) → AreEntries es → length es ≡ count → octets ≡ entries_image es
+  pub whole : (es : List (PortIdentity × Entry)) → AreEntries (answers_kept sets) es → length es ≡ count → octets ≡ entries_image es
       → IsImageOf (record { sets = sets; entries = es }) image
 
 -- what is found when the image of this clock is opened
@@ -98,3 +100,8 @@ IsRefused me ports octets restores.OtherKind = head_refusal octets ≡ Some rest
 IsRefused me ports octets restores.Damaged = (head_refusal octets ≡ None) × ((c : SavedClock) → IsImageOf c octets → ⊥)
 IsRefused me ports octets restores.OtherClock = IsOfOther me octets
 IsRefused me ports octets restores.OtherPorts = HasOtherPorts me ports octets
+
+-- or want of memory, which can come in place of any of these but a refusal by the head
+abbrev pub IsWhyNot : ClockIdentity → ℕ → List ℕ → RestoreFault → Type 0
+IsWhyNot me ports octets (faults.Refused e) = IsRefused me ports octets e
+IsWhyNot me ports octets faults.OutOfMemory = head_refusal octets ≡ None

@@ -1,6 +1,6 @@
 //! Reads the entries of a clock's image, from the first octets on.
 
-ghost use Rattle.std.specs.Prelude.{◌≡◌, ◌<◌, ◌≤◌, ◌^◌, ◌∷◌, ◌++◌, ℕ, All, IfSome, IsSomeAnd, List, Option, Some, length, map};
+ghost use Rattle.std.specs.Prelude.{◌≡◌, ◌<◌, ◌≤◌, ◌^◌, ◌∷◌, ◌++◌, ℕ, All, IfSome, IsSomeAnd, List, Option, Some, length};
 ghost use Rattle.byteorder.specs.Endian.{big_bytes};
 ghost use Rattle.ptpm_codec.specs.declared.message.Action.{Action};
 ghost use Rattle.ptpm_codec.specs.declared.identity.PortIdentity.{PortIdentity};
@@ -9,15 +9,15 @@ ghost use Rattle.ptpm_codec.specs.Message.{IsRequestAction, PortIdentityFits, ac
 ghost use Rattle.ptpm_data.specs.Reply.{Answer, Outcome, ReplyValue, answer_of, outcome_of};
 ghost use Rattle.ptpm_data.specs.Request.{RequestValue};
 ghost use Rattle.ptpm_manager.specs.Image.{request_image};
-ghost use Rattle.ptpm_table.specs.Entries.{Entry};
+ghost use Rattle.ptpm_table.specs.Entries.{Entry, reply_with};
 ghost use Rattle.ptpm_table.specs.Lending.{AnswerFits, IsKeepable};
 ghost use Rattle.ptpm_saved.specs.Image.{EntryIsSound, reply_image, answer_image, answers_image, entry_image, outcome_image, port_octets};
 ghost use Rattle.ptpm_saved.specs.EntryReading.{IsOfPort, RequestFits, IsSmall, entry_read};
 
+use crate::answer_room::AnswerRoom;
 use crate::keepable::{fit_answers, fits_count, is_of_port};
-use arrayvec::ArrayVec;
 use ptpm_codec::{Action, ErrorId, PortIdentity, clock_identity_at, is_data_field, put};
-use ptpm_data::{INLINE_PORTS, PortAnswer, Reply, Request, Value, What};
+use ptpm_data::{PortAnswer, Request, Value, What};
 
 /// An entry without its reply.
 #[derive(Drop)]
@@ -27,24 +27,27 @@ pub(crate) struct SavedRequest<'a> {
     pub(crate) request: Request<'a>,
 }
 
-/// Reads the entry whose image the octets begin with. Answers it and the octets after its image, and leaves its reply in
-/// `reply`. `None` if the octets do not begin with the image of an entry. Then any reply may be left in `reply`.
+/// Reads the entry whose image the octets begin with. Answers it and the octets after its image, and leaves the answers of its
+/// reply in `room`. `None` if the octets do not begin with the image of an entry, or if the room is for fewer answers. Then any
+/// answers may be left there.
 #[tactic(auto, using(crate::proofs::ReadingLemmas::entry_parts))]
 pub(crate) fn read_entry<'a>(
     octets: &'a [u8],
-    reply: &mut Reply,
+    room: &mut AnswerRoom,
 ) -> Option<(SavedRequest<'a>, &'a [u8])>
     ensures sound { IfSome result
-        (λ p. octets.now ≡ entry_image (entry_read p.0 reply.new) ++ p.1.now) }
-    ensures keepable { IfSome result (λ p. EntryIsSound (entry_read p.0 reply.new)) }
-    ensures found { (e : PortIdentity × Entry) (rest : List ℕ) → EntryIsSound e
+        (λ p. octets.now ≡ entry_image (entry_read p.0 room.new.answers) ++ p.1.now) }
+    ensures keepable { IfSome result
+        (λ p. EntryIsSound room.old.most (entry_read p.0 room.new.answers)) }
+    ensures found { (e : PortIdentity × Entry) (rest : List ℕ) → EntryIsSound room.old.most e
         → octets.now ≡ entry_image e ++ rest
-        → IsSomeAnd result (λ p. (entry_read p.0 reply.new ≡ e) × (p.1.now ≡ rest)) }
+        → IsSomeAnd result (λ p. (entry_read p.0 room.new.answers ≡ e) × (p.1.now ≡ rest)) }
+    ensures most { room.new.most ≡ room.old.most }
 {
     let (manager, octets) = read_identity(octets)?;
     let (number, octets) = read_u16(octets)?;
     let (request, octets) = read_request(octets)?;
-    let octets = read_reply(&request, octets, reply)?;
+    let octets = read_reply(&request, octets, room)?;
     let entry = SavedRequest {
         manager,
         number,
@@ -54,56 +57,62 @@ pub(crate) fn read_entry<'a>(
 }
 
 /// Reads the reply to a request, by its answers. Answers the octets after them.
-fn read_reply<'a>(request: &Request<'_>, octets: &'a [u8], reply: &mut Reply) -> Option<&'a [u8]>
+fn read_reply<'a>(
+    request: &Request<'_>,
+    octets: &'a [u8],
+    room: &mut AnswerRoom,
+) -> Option<&'a [u8]>
     requires { IsRequestAction request.now.action }
     ensures sound { IfSome result
-        (λ rest. octets.now ≡ reply_image reply.new ++ rest.now) }
+        (λ rest. octets.now ≡ reply_image (reply_with request.now room.new.answers) ++ rest.now) }
     ensures keepable { (n : ℕ) → IfSome result
-        (λ _. IsKeepable (record { number = n; request = request.now; reply = reply.new })) }
-    ensures fits { IfSome result (λ _. All AnswerFits reply.new.answers) }
+        (λ _. IsKeepable (record { number = n; request = request.now; reply = reply_with request.now room.new.answers })) }
+    ensures fits { IfSome result (λ _. All AnswerFits room.new.answers) }
+    ensures few { IfSome result (λ _. length room.new.answers ≤ room.old.most) }
     ensures found { (n : ℕ) (r : ReplyValue) (rest : List ℕ)
         → IsKeepable (record { number = n; request = request.now; reply = r })
         → All AnswerFits r.answers
+        → length r.answers ≤ room.old.most
         → octets.now ≡ reply_image r ++ rest
-        → IsSomeAnd result (λ p. (reply.new ≡ r) × (p.now ≡ rest)) }
+        → IsSomeAnd result (λ p. (reply_with request.now room.new.answers ≡ r) × (p.now ≡ rest)) }
+    ensures most { room.new.most ≡ room.old.most }
 {
-    reply.action = request.action.reply();
-    reply.id = request.id;
     let of_port = is_of_port(request.id);
     let (count, octets) = octets.split_first()?;
     let count = *count as usize;
-    if !is_data_field(request.octets) || !fits_count(of_port, count) {
+    if !is_data_field(request.octets) || !fits_count(of_port, count) || room.most() < count {
         return None;
     }
-    let octets = read_answers(count, of_port, octets, &mut reply.answers)?;
-    if !fit_answers(of_port, request.action, reply.answers.as_slice()) {
+    let octets = read_answers(count, of_port, octets, room)?;
+    if !fit_answers(of_port, request.action, room.as_slice()) {
         return None;
     }
     Some(octets)
 }
 
-/// Reads this many answers in place of those in `answers`. Answers the octets after them.
+/// Reads this many answers in place of those in the room. Answers the octets after them.
 fn read_answers<'a>(
     count: usize,
     of_port: bool,
     octets: &'a [u8],
-    answers: &mut ArrayVec<PortAnswer, INLINE_PORTS>,
+    room: &mut AnswerRoom,
 ) -> Option<&'a [u8]>
-    requires { count ≤ INLINE_PORTS }
-    ensures count { IfSome result (λ rest. length answers.new.items ≡ count) }
+    requires { count ≤ room.old.most }
+    ensures count { IfSome result (λ rest. length room.new.answers ≡ count) }
     ensures sound { IfSome result
-        (λ rest. octets.now ≡ answers_image (map answer_of answers.new.items) ++ rest.now) }
-    ensures fits { IfSome result (λ _. All AnswerFits (map answer_of answers.new.items)) }
+        (λ rest. octets.now ≡ answers_image room.new.answers ++ rest.now) }
+    ensures fits { IfSome result (λ _. All AnswerFits room.new.answers) }
     ensures found { (xs : List Answer) (rest : List ℕ) → length xs ≡ count
         → All (IsOfPort of_port) xs → All AnswerFits xs → All IsSmall xs
         → octets.now ≡ answers_image xs ++ rest
-        → IsSomeAnd result (λ r. (map answer_of answers.new.items ≡ xs) × (r.now ≡ rest)) }
+        → IsSomeAnd result (λ r. (room.new.answers ≡ xs) × (r.now ≡ rest)) }
+    ensures most { room.new.most ≡ room.old.most }
 {
-    answers.clear();
+    room.clear();
     let mut octets = octets;
     for _place in 0..count {
         let (answer, rest) = read_answer(of_port, octets)?;
-        answers.push(answer);
+        room.push(answer);
         octets = rest;
     }
     Some(octets)

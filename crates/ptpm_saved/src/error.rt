@@ -20,6 +20,14 @@ pub enum RestoreError {
     OtherPorts,
 }
 
+/// Why no clock is restored with memory of its own.
+#[derive(Clone, Copy, Debug, PartialEq, Eq)]
+pub enum RestoreFault {
+    Refused(RestoreError),
+    /// Memory was refused. A clock of more than `ptpm_data::INLINE_PORTS` ports asks for it before its image is judged.
+    OutOfMemory,
+}
+
 /// The name, for example `NotAnImage`.
 impl fmt::Display for RestoreError {
     ghost use Rattle.std.specs.Prelude.{Some};

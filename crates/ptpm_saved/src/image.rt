@@ -11,13 +11,14 @@ ghost use Rattle.ptpm_manager.specs.Image.{image_head, request_front};
 ghost use Rattle.ptpm_codec.specs.Message.{IsDataField};
 ghost use Rattle.ptpm_table.specs.Lending.{IsKeepable, lent_answer, lent_outcome};
 ghost use Rattle.ptpm_saved.specs.Image.{answer_image, answers_image, clock_image, entries_image, entry_image, outcome_image, port_octets};
+ghost use Rattle.ptpm_saved.specs.Widest.{widest};
 ghost use Rattle.ptpm_saved.specs.Written.{over};
 
 use arrayvec::ArrayVec;
 use ptpm_agent::Agent;
 use ptpm_codec::{DATA_FIELD_OCTETS, put, put_u16};
 use ptpm_data::{DATA_SETS_OCTETS, DataSets, PORTS, Request, data_sets_law, fits_law};
-use ptpm_table::{LendingTable, LentAnswer, LentEntry, LentWhat};
+use ptpm_table::{LendingTable, LentAnswer, LentEntry, LentWhat, MOST_MANAGERS};
 
 /// How many octets an image has before the clock.
 pub(crate) const HEAD_OCTETS: usize = 12;
@@ -33,8 +34,8 @@ const ANSWERS_OCTETS: usize = 30 * PORTS;
 const ENTRY_OCTETS: usize = FRONT_OCTETS + DATA_FIELD_OCTETS + 1 + ANSWERS_OCTETS;
 
 /// How many octets the image of a clock has at most. They are 12 of the head, those of the data sets, one that counts the
-/// entries, and sixteen entries.
-pub const CLOCK_OCTETS: usize = HEAD_OCTETS + DATA_SETS_OCTETS + 1 + 16 * ENTRY_OCTETS;
+/// entries, and an entry of each manager.
+pub const CLOCK_OCTETS: usize = HEAD_OCTETS + DATA_SETS_OCTETS + 1 + MOST_MANAGERS * ENTRY_OCTETS;
 
 /// Room for what comes before the dataField.
 type Front = ArrayVec<u8, FRONT_OCTETS>;
@@ -50,7 +51,7 @@ pub fn image_size<T: LendingTable + Drop>(agent: &Agent<T>) -> usize
 /// How many octets the images of a table's entries have.
 fn entries_size<T: LendingTable>(table: &T) -> usize
     ensures size { result ≡ length (entries_image (fin.entries (T.entries table.now))) }
-    ensures small { result ≤ 16 * ENTRY_OCTETS }
+    ensures small { result ≤ MOST_MANAGERS * ENTRY_OCTETS }
 {
     let entries = table.in_order();
     let mut size = 0;
@@ -116,9 +117,9 @@ fn outcome_size(what: &LentWhat<'_>) -> usize
     }
 }
 
-/// Writes a clock's image over the first octets of a place, and answers how many there are: 104 to 27,185. The other octets stay.
-/// `None` if the place has too few octets, and then nothing is written. The entries are gone through once if the place has room
-/// for the image of every clock. Otherwise they are gone through twice, first for their sizes. Takes no memory.
+/// Writes a clock's image over the first octets of a place, and answers how many there are: 104 to `CLOCK_OCTETS`. The other octets
+/// stay. `None` if the place has too few octets, and then nothing is written. The entries are gone through once if the place has
+/// room for as many entries of any size. Otherwise they are gone through twice, first for their sizes. Takes no memory.
 #[tactic(auto, unfolding(crate::specs::Written::over))]
 pub fn image_into<T: LendingTable + Drop>(agent: &Agent<T>, place: &mut [u8]) -> Option<usize>
     ensures room { IsSome result
@@ -135,23 +136,34 @@ pub fn image_into<T: LendingTable + Drop>(agent: &Agent<T>, place: &mut [u8]) ->
     Some(write_image(agent, place))
 }
 
-/// Whether this many octets are room for a clock's image. If they are room for the image of every clock, nothing is counted.
+/// Whether this many octets are room for a clock's image. If they are room for as many entries of any size, no octet of an entry is
+/// counted.
 fn has_room<T: LendingTable + Drop>(agent: &Agent<T>, room: usize) -> bool
-    ensures room { IsTrue result → (CLOCK_OCTETS ≤ room)
+    ensures room { IsTrue result → (widest (state_of T.entries agent.now) ≤ room)
         ⊎ (length (clock_image (state_of T.entries agent.now)) ≤ room) }
     ensures none { result ≡ false
         → room < length (clock_image (state_of T.entries agent.now)) }
 {
-    if CLOCK_OCTETS <= room {
+    if widest(agent) <= room {
         return true;
     }
     image_size(agent) <= room
 }
 
+/// How many octets a clock's image would have, if each entry had the most that one can have.
+fn widest<T: LendingTable + Drop>(agent: &Agent<T>) -> usize
+    ensures { result ≡ widest (state_of T.entries agent.now) }
+{
+    let sets = agent.sets();
+    data_sets_law(sets);
+    fits_law(sets);
+    HEAD_OCTETS + sets.image_size() + 1 + agent.table().entry_count() * ENTRY_OCTETS
+}
+
 /// Writes the image over the first octets of a place, and answers how many there are. The head comes last, since it says how many
 /// follow it.
 fn write_image<T: LendingTable + Drop>(agent: &Agent<T>, place: &mut [u8]) -> usize
-    requires { (CLOCK_OCTETS ≤ length place.old)
+    requires { (widest (state_of T.entries agent.now) ≤ length place.old)
         ⊎ (length (clock_image (state_of T.entries agent.now)) ≤ length place.old) }
     ensures size { result ≡ length (clock_image (state_of T.entries agent.now)) }
     ensures room { result ≤ length place.old }
@@ -194,12 +206,13 @@ fn write_sets(place: &mut [u8], at: usize, sets: &DataSets) -> usize
 }
 
 fn write_entries<T: LendingTable>(place: &mut [u8], at: usize, table: &T) -> usize
-    requires { (at + 16 * ENTRY_OCTETS ≤ length place.old)
+    requires { (at + length (fin.entries (T.entries table.now)) * ENTRY_OCTETS ≤ length place.old)
         ⊎ (at + length (entries_image (fin.entries (T.entries table.now))) ≤ length place.old) }
     ensures place { place.new
         ≡ over at (entries_image (fin.entries (T.entries table.now))) place.old }
     ensures end { result ≡ at + length (entries_image (fin.entries (T.entries table.now))) }
-    ensures small { result ≤ at + 16 * ENTRY_OCTETS }
+    ensures small { result ≤ at + length (fin.entries (T.entries table.now)) * ENTRY_OCTETS }
+    ensures count { length (fin.entries (T.entries table.now)) ≤ MOST_MANAGERS }
 {
     let entries = table.in_order();
     let mut end = at;

@@ -4,7 +4,7 @@ ghost use Rattle.std.specs.Prelude.{◌≡◌, ◌+◌, ◌<◌, ℕ, List, map,
 ghost use Rattle.std.specs.FinMap as fin;
 ghost use Rattle.std.specs.List.{All};
 ghost use Rattle.ptpm_agent.specs.Agent.{state_of};
-ghost use Rattle.ptpm_table.specs.Entries.{Entries, is_known};
+ghost use Rattle.ptpm_table.specs.Entries.{Entries, HaveAnswers, is_known};
 ghost use Rattle.ptpm_agent.specs.Turn.{State, outbox_of, turn};
 ghost use Rattle.ptpm_data.specs.Members.{IsConsistent};
 ghost use Rattle.ptpm_data.specs.ObservationBack.{Observation};
@@ -18,15 +18,17 @@ ghost use Rattle.ptpm_manager.specs.Session.{SessionValue};
 ghost use Rattle.ptpm_manager.specs.Setup.{request_message};
 ghost use Rattle.ptpm_saved.specs.SavingSession.{SessionInput, SessionNote, session_process, session_reports};
 ghost use Rattle.ptpm_saved.specs.SavingClock.{Datagram, clock_process};
-ghost use Rattle.ptpm_saved.specs.Image.{AreEntries, IsSaved, clock_image, saved_of};
+ghost use Rattle.ptpm_saved.specs.Image.{AreEntries, IsSaved, answers_kept, clock_image, saved_of};
 
 use ptpm_agent::Agent;
-use ptpm_data::{data_sets_law, fits_law};
+use ptpm_data::{PORTS, data_sets_law, fits_law};
 use ptpm_table::LendingTable;
 
-/// Every clock can be saved. Its image restores it, and nothing is lost if the managers are the same.
+/// Every clock can be saved, none of whose kept replies has more answers than it has ports, or `INLINE_PORTS`. Its image restores it,
+/// and nothing is lost if the managers are the same.
 pub fn clock_law<T: LendingTable + Drop>(agent: &Agent<T>)
-    ensures saved { IsSaved (saved_of (state_of T.entries agent.now)) }
+    ensures saved { HaveAnswers (answers_kept agent.now.sets) (fin.entries (T.entries agent.now.table))
+        → IsSaved (saved_of (state_of T.entries agent.now)) }
     ensures known { All (λ e. is_known e.0 (T.owner agent.now.table).managers ≡ true)
         (fin.entries (T.entries agent.now.table)) }
 {
@@ -106,10 +108,10 @@ pub fn batching_clock_law()
         → outbox_of (turn c s x.0 x.1) ≡ outbox_of (turn c (record { sets = s.sets; entries = e }) x.0 x.1) }
 {}
 
-/// The entries of a table are sixteen at most, in the order of their managers. Their managers are those of the table, and the
-/// table would keep each entry.
+/// The entries of a table are in the order of their managers. Their managers are those of the table, and the table would keep each
+/// entry.
 fn entries_law<T: LendingTable>(table: &T)
-    ensures entries { AreEntries (fin.entries (T.entries table.now)) }
+    ensures entries { AreEntries PORTS (fin.entries (T.entries table.now)) }
     ensures known { All (λ e. is_known e.0 (T.owner table.now).managers ≡ true)
         (fin.entries (T.entries table.now)) }
 {

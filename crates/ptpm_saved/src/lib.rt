@@ -1,6 +1,7 @@
 //! What survives a clock's loss of power: its image, and the clock that is restored from it.
 #![tactic(auto)]
 
+mod answer_room;
 mod entry_reading;
 mod error;
 mod image;
@@ -8,6 +9,6 @@ mod keepable;
 pub mod laws;
 mod restoring;
 
-pub use error::RestoreError;
+pub use error::{RestoreError, RestoreFault};
 pub use image::{CLOCK_OCTETS, image_into, image_size};
-pub use restoring::{judge_into, judged, put_back, put_back_judged, restored};
+pub use restoring::{judge_into, put_back_judged, restored};

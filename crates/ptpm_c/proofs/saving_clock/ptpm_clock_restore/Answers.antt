@@ -14,9 +14,9 @@ out_of_memory : (identity : ClockIdentity) (ports : ℕ) (managers : List Manage
     → CanRestoreWith identity ports managers image c under_way
     → IsRefusedBy (has_under_way image) identity ports managers image refusals.OutOfMemory
 out_of_memory identity ports managers image c None can =
-    subst (λ (b : Bool). IsRefusedBy b identity ports managers image refusals.OutOfMemory) (sym (nothing_there c image can.image_of)) (c, can)
+    subst (λ (b : Bool). IsRefusedBy b identity ports managers image refusals.OutOfMemory) (sym (nothing_there c image can.image_of)) (can.managers_fit, can.not_zero)
 out_of_memory identity ports managers image c (Some x) can =
-    subst (λ (b : Bool). IsRefusedBy b identity ports managers image refusals.OutOfMemory) (sym (something_there ports x can.0 image can.1)) (c, x, can)
+    subst (λ (b : Bool). IsRefusedBy b identity ports managers image refusals.OutOfMemory) (sym (something_there ports x can.0 image can.1)) (record { managers_fit = can.2.managers_fit; not_zero = can.2.not_zero })
 
 pub returns-then-is_err-clause-refused : goal.returns-then-is_err-clause-refused
 returns-then-is_err-clause-refused c = λ refused.

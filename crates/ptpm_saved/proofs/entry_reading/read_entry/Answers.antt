@@ -15,11 +15,12 @@ returns-in_err-octets-clause-found c = λ e rest s is.
     let number = c.in_ok-number.ensures.found e.1.number request s.fits.number who.1 in
     let asked = c.in_ok-request.ensures.found e.1.request reply s.keepable.action (request_fits e s.fits s.keepable.octets) number.1 in
     absurd (c.in_err-octets.ensures.found e.1.number e.1.reply rest
-    (subst (λ (q : RequestValue). IsKeepable (record { number = e.1.number; request = q; reply = e.1.reply })) (sym asked.0) s.keepable) s.fits.answers asked.1)
+    (subst (λ (q : RequestValue). IsKeepable (record { number = e.1.number; request = q; reply = e.1.reply })) (sym asked.0) s.keepable) s.fits.answers s.few asked.1)
 
 pub returns-clause-keepable : goal.returns-clause-keepable
 returns-clause-keepable c = record {
   keepable = c.in_ok-octets.ensures.keepable c.in_ok-number.number;
+  few = c.in_ok-octets.ensures.few;
   fits = record {
     manager = c.in_ok-manager.ensures.fits;
     number = c.in_ok-number.ensures.fits;
@@ -37,5 +38,5 @@ returns-clause-found c = λ e rest s is.
     let number = c.in_ok-number.ensures.found e.1.number request s.fits.number who.1 in
     let asked = c.in_ok-request.ensures.found e.1.request reply s.keepable.action (request_fits e s.fits s.keepable.octets) number.1 in
     let read = c.in_ok-octets.ensures.found e.1.number e.1.reply rest
-    (subst (λ (q : RequestValue). IsKeepable (record { number = e.1.number; request = q; reply = e.1.reply })) (sym asked.0) s.keepable) s.fits.answers asked.1 in
+    (subst (λ (q : RequestValue). IsKeepable (record { number = e.1.number; request = q; reply = e.1.reply })) (sym asked.0) s.keepable) s.fits.answers s.few asked.1 in
     ((λ i. (who.0 i, record { number = number.0 i; request = asked.0 i; reply = read.0 i })), read.1)

@@ -8,17 +8,20 @@ use Rattle.ptpm_saved.proofs.ImageLemmas.{entry_given, entry_small, no_entries}
 use Rattle.ptpm_saved.proofs.WrittenLemmas.{over_none, over_on}
 use Rattle.ptpm_saved.proofs.image.write_entries.Goals as goal
 
+-- one entry more is within the most of all
+less_than_all : (i count : ℕ) → i < count → i * ENTRY_OCTETS + ENTRY_OCTETS ≤ count * ENTRY_OCTETS
+less_than_all i count less = omega (arith, less)
+
 room_for_one : (at end i count len one all done : ℕ)
     → i < count
-    → count ≤ 16
     → one ≤ ENTRY_OCTETS
     → end ≤ at + i * ENTRY_OCTETS
     → end ≡ at + done
     → done + one ≤ all
-    → (at + 16 * ENTRY_OCTETS ≤ len) ⊎ (at + all ≤ len)
+    → (at + count * ENTRY_OCTETS ≤ len) ⊎ (at + all ≤ len)
     → end + one ≤ len
-room_for_one at end i count len one all done inside few small so_far ends fits =
-    ⊎_elim (λ (every : at + 16 * ENTRY_OCTETS ≤ len). omega (arith, inside, few, small, so_far, every)) (λ (own : at + all ≤ len). omega (arith, ends, fits, own))
+room_for_one at end i count len one all done inside small so_far ends fits =
+    ⊎_elim (λ (every : at + count * ENTRY_OCTETS ≤ len). omega (arith, less_than_all i count inside, small, so_far, every)) (λ (own : at + all ≤ len). omega (arith, ends, fits, own))
 
 pub loop-index-init : goal.loop-index-init
 loop-index-init g c = record {
@@ -33,9 +36,9 @@ write_entry-end-requires-clause-room g c =
     let i = c.loop-index.index in
     let x = c.entry.result in
     let given = entry_given es c.in_order-entries.result i (x.manager, x.entry) c.in_order-entries.ensures c.entry.ensures.entry in
-    let room = room_for_one c.args.at c.loop-index.end i c.count-index-end.result (length c.args.place.now)
+    let room = room_for_one c.args.at c.loop-index.end i (length es) (length c.args.place.now)
     (length (entry_image (x.manager, x.entry))) (length (entries_image es)) (length (entries_image (take i es)))
-    (omega (arith, c.loop-index-test.true)) c.count-index-end.ensures.few
+    (omega (arith, c.loop-index-test.true, c.count-index-end.ensures.count, ap length c.in_order-entries.ensures))
     (entry_small x c.entry.ensures.keepable c.entry.ensures.fits) c.loop-index.invariant.small c.loop-index.invariant.end given.room c.requires in
     omega (arith, room, c.loop-index.auto.place)
 
@@ -50,8 +53,8 @@ loop-index-preserved g c =
     let first = c.args.place.now in
     let given = entry_given es c.in_order-entries.result i (x.manager, x.entry) c.in_order-entries.ensures c.entry.ensures.entry in
     let small = entry_small x c.entry.ensures.keepable c.entry.ensures.fits in
-    let room = room_for_one at c.loop-index.end i c.count-index-end.result (length first) (length one) (length (entries_image es))
-    (length done) (omega (arith, c.loop-index-test.true)) c.count-index-end.ensures.few
+    let room = room_for_one at c.loop-index.end i (length es) (length first) (length one) (length (entries_image es))
+    (length done) (omega (arith, c.loop-index-test.true, c.count-index-end.ensures.count, ap length c.in_order-entries.ensures))
     small c.loop-index.invariant.small c.loop-index.invariant.end given.room c.requires in
     record {
       place =
@@ -81,4 +84,10 @@ returns-clause-end g c =
 
 pub returns-clause-small : goal.returns-clause-small
 returns-clause-small g c =
-    omega (arith, c.loop-index.invariant.small, c.loop-index.auto.index-end, c.count-index-end.ensures.few)
+    let es = entries (g.T.ReplyTable.entries c.args.table.now) in
+    let end : c.loop-index.index ≡ length es =
+    omega (arith, c.loop-index-test.false, c.loop-index.auto.index-end, c.count-index-end.ensures.count, ap length c.in_order-entries.ensures) in
+    omega (arith, c.loop-index.invariant.small, ap (λ n. n * ENTRY_OCTETS) end)
+
+pub returns-clause-count : goal.returns-clause-count
+returns-clause-count g c = omega (arith, c.count-index-end.ensures.count, c.count-index-end.ensures.few, ap length c.in_order-entries.ensures)

@@ -3,10 +3,11 @@ use Rattle.std.specs.FinMap.{entries, len-entries}
 use Rattle.ptpm_data.specs.Image.{data_sets_octets}
 use Rattle.ptpm_agent.specs.Agent.{state_of}
 use Rattle.ptpm_manager.specs.Image.{image_head}
-use Rattle.ptpm_saved.specs.declared.image.TheConstants.{CLOCK_OCTETS, ENTRY_OCTETS}
+use Rattle.ptpm_saved.specs.declared.image.TheConstants.{ENTRY_OCTETS}
 use Rattle.ptpm_saved.specs.Image.{clock_image, entries_image}
+use Rattle.ptpm_saved.specs.Widest.{widest}
 use Rattle.ptpm_saved.specs.Written.{over}
-use Rattle.ptpm_saved.proofs.ImageLemmas.{has_room, head_length, put_together, sets_small, size_is}
+use Rattle.ptpm_saved.proofs.ImageLemmas.{has_room, head_length, put_together, sets_small, size_is, widest_is}
 use Rattle.ptpm_saved.proofs.WrittenLemmas.{all_written}
 use Rattle.ptpm_saved.proofs.image.write_image.Goals as goal
 
@@ -15,7 +16,7 @@ write_sets-end-requires g c =
     let s = state_of g.T.ReplyTable.entries c.args.agent.now in
     let m = g.T.ReplyTable.entries c.table-table.result.now in
     let room = has_room s c.sets-sets.result.now m c.sets-sets.ensures (ap g.T.ReplyTable.entries c.table-table.ensures)
-    (length c.args.place.now) c.data_sets_law.ensures.sized c.fits_law.ensures c.requires in
+    (length c.args.place.now) c.requires in
     omega (arith, room.before)
 
 pub write-end-requires : goal.write-end-requires
@@ -23,7 +24,7 @@ write-end-requires g c =
     let s = state_of g.T.ReplyTable.entries c.args.agent.now in
     let m = g.T.ReplyTable.entries c.table-table.result.now in
     let room = has_room s c.sets-sets.result.now m c.sets-sets.ensures (ap g.T.ReplyTable.entries c.table-table.ensures)
-    (length c.args.place.now) c.data_sets_law.ensures.sized c.fits_law.ensures c.requires in
+    (length c.args.place.now) c.requires in
     omega (arith, room.before, c.write_sets-end.ensures.end, c.write_sets-end.auto.place)
 
 pub write_entries-end-requires : goal.write_entries-end-requires
@@ -33,9 +34,9 @@ write_entries-end-requires g c =
     let sets : List ℕ = data_sets_octets c.sets-sets.result.now in
     let es : List ℕ = entries_image (entries m) in
     let room = has_room s c.sets-sets.result.now m c.sets-sets.ensures (ap g.T.ReplyTable.entries c.table-table.ensures)
-    (length c.args.place.now) c.data_sets_law.ensures.sized c.fits_law.ensures c.requires in
+    (length c.args.place.now) c.requires in
     ⊎_elim
-    (λ (every : 12 + length sets + 1 + 16 * ENTRY_OCTETS ≤ length c.args.place.now).
+    (λ (every : 12 + length sets + 1 + length (entries m) * ENTRY_OCTETS ≤ length c.args.place.now).
     inl (omega (arith, every, c.write_sets-end.ensures.end, c.write_sets-end.auto.place, c.write-end.ensures.end, c.write-end.auto.place)))
     (λ (own : 12 + length sets + 1 + length es ≤ length c.args.place.now).
     inr (omega (arith, own, c.write_sets-end.ensures.end, c.write_sets-end.auto.place, c.write-end.ensures.end, c.write-end.auto.place)))
@@ -61,7 +62,7 @@ returns-clause-place g c =
     let m = g.T.ReplyTable.entries t in
     let p = c.args.place.now in
     let of_entries = ap g.T.ReplyTable.entries c.table-table.ensures in
-    let room = has_room s d m c.sets-sets.ensures of_entries (length p) c.data_sets_law.ensures.sized c.fits_law.ensures c.requires in
+    let room = has_room s d m c.sets-sets.ensures of_entries (length p) c.requires in
     let end = c.write_entries-end.result in
     let size : end ≡ length (clock_image s) = omega (
       arith,
@@ -87,6 +88,7 @@ head-requires g c =
       c.write_sets-end.ensures.end,
       c.write-end.ensures.end,
       c.write_entries-end.ensures.small,
+      c.write_entries-end.ensures.count,
       sets_small c.sets-sets.result.now c.data_sets_law.ensures.sized c.fits_law.ensures,
     )
 
@@ -95,7 +97,7 @@ write-requires g c =
     let s = state_of g.T.ReplyTable.entries c.args.agent.now in
     let m = g.T.ReplyTable.entries c.table-table.result.now in
     let room = has_room s c.sets-sets.result.now m c.sets-sets.ensures (ap g.T.ReplyTable.entries c.table-table.ensures)
-    (length c.args.place.now) c.data_sets_law.ensures.sized c.fits_law.ensures c.requires in
+    (length c.args.place.now) c.requires in
     omega (
       arith,
       room.before,
@@ -111,11 +113,12 @@ returns-clause-room g c =
     let s = state_of g.T.ReplyTable.entries c.args.agent.now in
     let m = g.T.ReplyTable.entries c.table-table.result.now in
     let d = c.sets-sets.result.now in
-    let small = sets_small d c.data_sets_law.ensures.sized c.fits_law.ensures in
-    let size = size_is s d m c.sets-sets.ensures (ap g.T.ReplyTable.entries c.table-table.ensures) in
+    let of_entries = ap g.T.ReplyTable.entries c.table-table.ensures in
+    let size = size_is s d m c.sets-sets.ensures of_entries in
+    let most = widest_is s d m c.sets-sets.ensures of_entries in
     ⊎_elim
-    (λ (every : CLOCK_OCTETS ≤ length c.args.place.now).
-    omega (arith, every, small, c.write_sets-end.ensures.end, c.write-end.ensures.end, c.write_entries-end.ensures.small))
+    (λ (every : widest s ≤ length c.args.place.now).
+    omega (arith, every, most, c.write_sets-end.ensures.end, c.write-end.ensures.end, c.write_entries-end.ensures.small))
     (λ (own : length (clock_image s) ≤ length c.args.place.now).
     omega (arith, own, size, c.write_sets-end.ensures.end, c.write-end.ensures.end, c.write_entries-end.ensures.end))
     c.requires

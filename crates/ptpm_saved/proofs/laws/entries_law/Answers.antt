@@ -4,16 +4,17 @@ use Rattle.std.proofs.lemmas.List.Elements.{All-more, All-nil}
 use Rattle.std.proofs.lemmas.Option.{get_or_from_slice_get}
 use Rattle.std.specs.FinMap.{entries, len-entries}
 use Rattle.ptpm_codec.specs.declared.identity.PortIdentity.{PortIdentity}
+use Rattle.ptpm_data.specs.declared.ports.TheConstants.{PORTS}
 use Rattle.ptpm_table.specs.Entries.{is_known}
 use Rattle.ptpm_table.specs.Lending.{HasNoneAfter}
 use Rattle.ptpm_saved.specs.Image.{EntryIsSound}
 use Rattle.ptpm_saved.proofs.EntryOrder.{Pair, none_next, sorted_entries}
-use Rattle.ptpm_saved.proofs.ImageLemmas.{lent}
+use Rattle.ptpm_saved.proofs.ImageLemmas.{lent, reply_few}
 use Rattle.ptpm_saved.proofs.laws.entries_law.Goals as goal
 
 pub loop-place-init : goal.loop-place-init
 loop-place-init g c = record {
-  sound = All-nil EntryIsSound;
+  sound = All-nil (EntryIsSound PORTS);
   known = All-nil (λ (e : Pair). is_known e.0 (g.T.ReplyTable.owner c.args.table.now).managers ≡ true);
   after = refl;
 }
@@ -36,8 +37,8 @@ loop-place-preserved g c =
     let at : get_or es i e ≡ e = get_or_from_slice_get es i e e l.there in
     let is_one_known : Pair → Type 0 = λ p. is_known p.0 (g.T.ReplyTable.owner c.args.table.now).managers ≡ true in
     record {
-      sound = All-more EntryIsSound es i e inside c.loop-place.invariant.sound
-          (subst EntryIsSound (sym at) (record { keepable = c.in-Some.ensures.keepable; fits = c.in-Some.ensures.fits }));
+      sound = All-more (EntryIsSound PORTS) es i e inside c.loop-place.invariant.sound
+          (subst (EntryIsSound PORTS) (sym at) (record { keepable = c.in-Some.ensures.keepable; few = reply_few x.entry.request x.entry.reply c.in-Some.ensures.keepable.fits; fits = c.in-Some.ensures.fits }));
       known = All-more is_one_known es i e inside c.loop-place.invariant.known (subst is_one_known (sym at) c.in-Some.ensures.known);
       after = ap Some c.manager.ensures ∙ l.after;
     }
@@ -50,7 +51,7 @@ returns-clause-entries g c =
     record {
       few = omega (arith, c.entry_count-place-end.ensures.few, c.entry_count-place-end.ensures.count, len-entries m);
       ascending = sorted_entries m;
-      sound = subst (All EntryIsSound) all c.loop-place.invariant.sound;
+      sound = subst (All (EntryIsSound PORTS)) all c.loop-place.invariant.sound;
     }
 
 pub returns-clause-known : goal.returns-clause-known

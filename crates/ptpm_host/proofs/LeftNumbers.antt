@@ -1,0 +1,22 @@
+-- A number of so many bits, with one bit before them.
+use Rattle.std.proofs.Common.{arith, ◌≡◌, ◌<◌, ◌≤◌, ◌+◌, ◌*◌, ◌^◌, ◌-◌, ℕ, zero, suc, Bool, List, ap, sym}
+use Rattle.std.specs.Int.{from_bool}
+use Rattle.std.proofs.Math.Nat.{pow-succ'}
+use Rattle.std.proofs.Math.Pow.{pow_mono}
+use Rattle.ptpm_data.specs.Observation.{is_left}
+use Rattle.ptpm_host.specs.Observing.{left_from}
+
+pub left_step : (port count : ℕ) (left : List Bool)
+    → 0 < count
+    → left_from port count left ≡ from_bool (is_left port left) + 2 * left_from (port + 1) (count - 1) left
+left_step port zero left some = absurd (omega (arith, some))
+left_step port (suc n) left some =
+    let e : suc n - 1 ≡ n = omega arith in ap (λ k. from_bool (is_left port left) + 2 * left_from (port + 1) k left) (sym e)
+
+pub twice_fits : (count bit number : ℕ) → 0 < count → bit ≤ 1 → number < 2 ^ (count - 1) → bit + 2 * number < 2 ^ count
+twice_fits zero bit number some small less = absurd (omega (arith, some))
+twice_fits (suc n) bit number some small less =
+    let e : suc n - 1 ≡ n = omega arith in omega (arith, pow-succ' 2 n, ap (λ k. 2 ^ k) e, small, less)
+
+pub in_word : (count number : ℕ) → count ≤ 64 → number < 2 ^ count → number < 2 ^ 64
+in_word count number few less = omega (arith, pow_mono {i = count} {j = 64} few, less)
