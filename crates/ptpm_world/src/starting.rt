@@ -1,12 +1,13 @@
 //! A network as it starts: every clock with its first data sets and nothing kept, every session with nothing begun.
 
-ghost use Rattle.std.specs.Prelude.{◌≡◌, ◌<◌, ◌++◌, ◌∷◌, ℕ, IfOk, [], length, map};
+ghost use Rattle.std.specs.Prelude.{◌≡◌, ◌≤◌, ◌<◌, ◌++◌, ◌∷◌, ℕ, IfOk, [], length, map};
 ghost use Rattle.ptpm_codec.specs.declared.identity.PortIdentity.{PortIdentity};
 ghost use Rattle.ptpm_network.specs.ByManager.{account_of};
 ghost use Rattle.ptpm_network.specs.Served.{IsServedSoFar};
 ghost use Rattle.ptpm_network.specs.Stands.{StandsAfter};
 ghost use Rattle.ptpm_network.specs.Stands.{Stands};
 ghost use Rattle.ptpm_network.specs.State.{initial_state};
+ghost use Rattle.ptpm_data.specs.declared.ports.TheConstants.{INLINE_PORTS};
 ghost use Rattle.ptpm_script.specs.NetworkValue.{CanStart, clock_value, first_sets, link_value};
 ghost use Rattle.ptpm_script.specs.NetworkView.{network_value};
 ghost use Rattle.ptpm_world.specs.Described.{configured, described};
@@ -100,7 +101,8 @@ fn start_clock(
 #[inline(never)]
 fn data_sets(clock: &NetworkClock) -> DataSets
     requires { CanStart (clock_value clock.now) }
-    ensures { result ≡ first_sets (clock_value clock.now) }
+    ensures sets { result ≡ first_sets (clock_value clock.now) }
+    ensures few { length result.ports ≤ INLINE_PORTS }
 {
     match DataSets::new(&clock.start, clock.ports.as_slice()) {
         Ok(sets) => sets,

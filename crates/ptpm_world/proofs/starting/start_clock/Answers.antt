@@ -49,7 +49,7 @@ returns c =
       (
         changed_last old _ c.len-last.result _ _ pushed last,
         started_clock n c.args.place (clock_value k) c.as_slice.result.now c.data_sets.result _ c.index_mut-clock.result.now _ is
-            (clock_is c.args.network.now.clocks.items c.args.place k at) managers_are c.in_ok-name.ensures c.data_sets.ensures
+            (clock_is c.args.network.now.clocks.items c.args.place k at) managers_are c.in_ok-name.ensures c.data_sets.ensures.sets
             c.without_managers.ensures.sets c.without_managers.ensures.table refl c.admit.ensures.sets c.admit.ensures.table,
       ),
     )
