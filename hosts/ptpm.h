@@ -68,7 +68,7 @@ enum {
 /* The most ports that a clock has, and the most managers. */
 enum { PTPM_MOST_PORTS = 64, PTPM_MOST_MANAGERS = 64 };
 
-/* A clock: up to eight ports are 2,744 octets at one pointer with one manager, and 34,904 with sixteen (ptpm_clock_start). All zeros
+/* A clock: up to eight ports are 2,760 octets at one pointer with one manager, and 34,920 with sixteen (ptpm_clock_start). All zeros
    hold no clock: struct ptpm_clock clock = { 0 }; */
 struct ptpm_clock { void *at; PTPM_TO_EIGHT bool live; bool restored; };
 
@@ -1016,7 +1016,7 @@ void ptpm_port_defaults(struct ptpm_port_settings *settings);
    Takes:   1 to PTPM_MOST_PORTS ports, and 0 to PTPM_MOST_MANAGERS managers. The first port is port 1. All port_count settings are
             read, even if they are too many.
    Returns: PTPM_STARTED; or why not, and then the handle holds nothing.
-   Memory:  the clock, until it is stopped: 600 octets, and 2,144 for each manager. A clock of over eight ports takes 16 more for each
+   Memory:  the clock, until it is stopped: 616 octets, and 2,144 for each manager. A clock of over eight ports takes 16 more for each
             port, and 81 for each port of each manager. And a copy of the ports until the call returns.
    Caller:  stops the clock. */
 enum ptpm_started ptpm_clock_start(struct ptpm_clock *clock, const struct ptpm_clock_settings *settings,
@@ -1236,7 +1236,7 @@ uint32_t ptpm_clock_unsaved(const struct ptpm_clock *clock);
             out before.
    Writes:  *gone: the number of requests of the image whose managers are not among those that are given. They are forgotten. If
             the call is refused it is 0.
-   Memory:  the clock, until it is stopped, as much as for a start. Over eight ports also 144 octets for each port until the call
+   Memory:  the clock, until it is stopped, as much as for a start. Over eight ports also 160 octets for each port until the call
             returns. PTPM_NO_MEMORY then comes before what is refused after PTPM_OTHER_KIND.
    Caller:  stops the clock. */
 enum ptpm_restored ptpm_clock_restore(struct ptpm_clock *clock, const uint8_t identity[8], size_t port_count,

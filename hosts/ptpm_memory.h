@@ -23,12 +23,12 @@ extern "C" {
    needs no more than the sum, if all have the same number of managers. Those of over eight ports have the same number of ports too. They
    may start and stop in any order. A restore in a live handle has both clocks for a moment. */
 #define PTPM_CLOCK_MEMORY_OF(ports, managers) \
-    ((size_t)656 + ((managers) > 0 ? PTPM_PIECE((size_t)(managers) * 2144) : 0) \
+    ((size_t)672 + ((managers) > 0 ? PTPM_PIECE((size_t)(managers) * 2144) : 0) \
      + ((ports) > 8 ? PTPM_OF_MANY_PORTS((size_t)(ports), (size_t)(managers)) : 0))
 #define PTPM_OF_MANY_PORTS(ports, managers) \
-    (PTPM_PIECE(16 * (ports)) + PTPM_PIECE(144 * (ports)) + (managers) * (PTPM_PIECE(ports) + PTPM_PIECE(80 * (ports))))
+    (PTPM_PIECE(16 * (ports)) + PTPM_PIECE(160 * (ports)) + (managers) * (PTPM_PIECE(ports) + PTPM_PIECE(80 * (ports))))
 #define PTPM_PIECE(octets) (((octets) + 31) / 16 * 16)
-#define PTPM_CLOCK_MEMORY 34976
+#define PTPM_CLOCK_MEMORY 34992
 
 /* What a clock of this many ports takes besides once it is saved while it takes datagrams (ptpm_clock_saving), with places for this
    many messages. */

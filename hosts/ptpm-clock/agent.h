@@ -33,7 +33,7 @@ void take_unicast_round(void);
    number, since others than managers are to be answered all the same. */
 size_t room_for_peers(void);
 
-/* Asks the device about changes that wait for it, begins a save if it is time for one, and sends answers for which a program of this host
+/* Asks the device about changes that wait for it, and begins a save if it is time for one. Sends answers for which a program of this host
    had no room. In how many milliseconds it may be time for one of these; -1 if nothing waits, or only for a save that is under way. */
 long take_waiting(void);
 

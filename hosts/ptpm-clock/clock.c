@@ -3,7 +3,7 @@
    pmc asks a ptp4l. How it is used is in docs/ptpm-clock.md. It has no servo: what one would observe comes from a file or a pipe.
    The library decides what becomes of a request that it is handed. What is here and in the files beside it is not proved. It
    moves octets and prints. It also decides which datagrams reach the library, with how many hops, and which messages go out
-   ("Decisions of the hosts" in docs/architecture.md). It waits for nobody: what a peer doesn't take at once is dropped, and a thread
+   ("Decisions of the hosts" in docs/architecture.md). It waits for nobody: what a peer doesn't take in a moment is dropped, and a thread
    waits for the disk. */
 #define _GNU_SOURCE
 #include "agent.h"

@@ -1,7 +1,8 @@
 //! What events changed at their clocks.
 
-ghost use Rattle.std.specs.Prelude.{◌≡◌, ◌<◌, ◌==◌, Some, length, option_map};
+ghost use Rattle.std.specs.Prelude.{◌≡◌, ◌<◌, ◌≤◌, ◌==◌, IfSome, Some, length, option_map};
 ghost use Rattle.std.specs.List.{list_all};
+ghost use Rattle.ptpm_data.specs.declared.ports.TheConstants.{INLINE_PORTS};
 ghost use Rattle.ptpm_draw.specs.Changes.{change_of, is_nothing, sets_of};
 ghost use Rattle.ptpm_draw.specs.Party.{IsThere};
 ghost use Rattle.ptpm_draw.specs.Picture.{IsWorldOf};
@@ -10,7 +11,7 @@ ghost use Rattle.ptpm_world.specs.Running.{running};
 
 use crate::party::Party;
 use crate::picture::Picture;
-use ptpm_data::{ChangedMembers, DataSets, PortMembers};
+use ptpm_data::{ChangedMembers, DataSets, PortMembers, Snapshot};
 use ptpm_world::{Network, World};
 
 /// What an event changed at its clock.
@@ -57,7 +58,8 @@ pub(crate) fn sets_of<'a>(
 ) -> Option<&'a DataSets>
     requires world { IsWorldOf (network_value network.now) world.now }
     requires there { IsThere (length network.now.clocks.items) party }
-    ensures { option_map (λ sets. sets.now) result ≡ sets_of party (running world.now) }
+    ensures sets { option_map (λ sets. sets.now) result ≡ sets_of party (running world.now) }
+    ensures few { IfSome result (λ sets. length sets.now.ports ≤ INLINE_PORTS) }
 {
     match party {
         Some(Party::Clock(place)) => clock_sets(network, world, place),
@@ -69,25 +71,27 @@ pub(crate) fn sets_of<'a>(
 fn clock_sets<'a>(network: &Network, world: &'a World, place: usize) -> Option<&'a DataSets>
     requires world { IsWorldOf (network_value network.now) world.now }
     requires there { place < length network.now.clocks.items }
-    ensures { option_map (λ sets. sets.now) result ≡ Some ((running world.now).clock place).sets }
+    ensures sets { option_map (λ sets. sets.now) result ≡ Some ((running world.now).clock place).sets }
+    ensures few { IfSome result (λ sets. length sets.now.ports ≤ INLINE_PORTS) }
 {
     let clocks = network.clocks();
     world.sets(clocks[place].name.as_str())
 }
 
-/// The same data sets once more, if there are any.
-pub(crate) fn copy_of(sets: Option<&DataSets>) -> Option<DataSets>
+/// What data sets are now, if there are any.
+pub(crate) fn snapshot_of(sets: Option<&DataSets>) -> Option<Snapshot>
     ensures { result ≡ option_map (λ sets. sets.now) sets.entry }
 {
-    Some(sets?.copy())
+    Some(sets?.snapshot())
 }
 
 /// What the event of a line changed between these data sets and those, if there are any.
 pub(crate) fn change_of(
     line: u32,
-    before: Option<DataSets>,
+    before: Option<Snapshot>,
     after: Option<&DataSets>,
 ) -> Option<Change>
+    requires { IfSome after (λ sets. length sets.now.ports ≤ INLINE_PORTS) }
     ensures { result ≡ change_of line before (option_map (λ sets. sets.now) after.entry) }
 {
     let (before, after) = (before?, after?);

@@ -9,7 +9,7 @@ ghost use Rattle.ptpm_draw.specs.MemberText.{changed_bits, changed_texts, clock_
 ghost use Rattle.ptpm_members.specs.FieldText.{IsPlaced};
 
 use crate::changes::Change;
-use ptpm_data::{ChangedMembers, Member as DataSetMember, PortMembers, Value};
+use ptpm_data::{ChangedMembers, INLINE_PORTS, Member as DataSetMember, PortMembers, Value};
 use ptpm_members::{Field, Form, Member, MemberValue, members_in, value_in};
 use ptpm_text::Hexadecimal;
 use std::alloc::{AllocError, Global};
@@ -27,8 +27,8 @@ const TIME_PROPERTIES_DATA_SET: u16 = 0x2003;
 
 const PORT_DATA_SET: u16 = 0x2004;
 
-/// A clock has at most these ports.
-static PORTS: [u16; 8] = [1, 2, 3, 4, 5, 6, 7, 8];
+/// A clock of a network file has at most these ports.
+static PORTS: [u16; INLINE_PORTS] = [1, 2, 3, 4, 5, 6, 7, 8];
 
 /// The members that an event changed, one a text: those of the clock, and then those of each port, after its number.
 pub(crate) fn member_texts(

@@ -17,7 +17,7 @@ ghost use Rattle.ptpm_world.specs.Running.{IsOf, running};
 ghost use Rattle.ptpm_world.specs.Took.{after, answer};
 ghost use Rattle.ptpm_world.specs.Trace.{is_late_event, is_out_of_memory};
 
-use crate::changes::{Change, change_of, copy_of, sets_of};
+use crate::changes::{Change, change_of, sets_of, snapshot_of};
 use crate::chosen::Chosen;
 use crate::party::{Party, party_at, party_of};
 use ptpm_codec::{Action, OutOfMemory, view};
@@ -128,7 +128,7 @@ impl Picture {
         ensures world { OnOk result (IsWorldOf (network_value network.now) world.new) }
     {
         let at = party_at(network, world, &line.event);
-        let before = copy_of(sets_of(network, world, at));
+        let before = snapshot_of(sets_of(network, world, at));
         let row = play_event(world, line, at)?;
         self.rows.push(row).map_err(|_| OutOfMemory)?;
         self.keep_messages(world, &row)?;

@@ -1,12 +1,11 @@
 -- How many frames an event makes.
-use Rattle.ptpm_network.proofs.Common.{ClocksHaveAtMost, INLINE_PORTS, frames_of_event, Replay, no_end, to_end, by_test, arith, ◌≡◌, ℕ, ◌+◌, ◌<◌, ◌≤◌, List, [], ◌∷◌, ◌++◌, Option, Some, None, refl, subst, length, length-append, ltb-false, length-map, nat_lt, AllByRecursion, list_any, first_of-none, option_or-none, ClockIdentity, Message, canonical, boundary_hops, message_of, DataSetsValue, ReplyValue, Heard, rendered, forwarded, forwarded_by, is_forwarded, due_messages, RequestCopy, copy_of, due_reply, Deliver, Event, FramesAtMaximum, IsInRange, Send, Stranger, forged, frame_at, frames_limit, no_frame, no_port, no_room, no_session, refusal, send_refused, IsReached, answer_messages, answer_origin, answering_frames, arrives, delivery, forwarded_frames, happens, made_frames, run, sent_frames, step, strange_frame, AtPort, AtSession, End, HasEnd, IsLink, IsNetwork, Network, peers, ports, same_end, Frame, NetworkState, Origin, frames_to, history, filter-fewer, flat-few}
+use Rattle.ptpm_network.proofs.Common.{ClocksHaveAtMost, INLINE_PORTS, frames_of_event, Replay, no_end, to_end, by_test, arith, ◌≡◌, ℕ, ◌+◌, ◌-◌, ◌<◌, ◌≤◌, List, [], ◌∷◌, ◌++◌, Option, Some, None, refl, subst, length, length-append, ltb-false, length-map, nat_lt, AllByRecursion, list_any, first_of-none, option_or-none, ClockIdentity, Message, canonical, boundary_hops, message_of, DataSetsValue, ReplyValue, Heard, rendered, forwarded, forwarded_by, is_forwarded, due_messages, RequestCopy, copy_of, due_reply, Deliver, Event, FramesAtMaximum, IsInRange, Send, Stranger, forged, frame_at, frames_limit, no_frame, no_port, no_room, no_session, refusal, send_refused, IsReached, answer_messages, answer_origin, answering_frames, arrives, delivery, forwarded_frames, happens, made_frames, run, sent_frames, step, strange_frame, AtPort, AtSession, End, HasEnd, IsLink, IsNetwork, Network, peers, ports, same_end, Frame, NetworkState, Origin, frames_to, history, filter-fewer, flat-few}
 use Rattle.ptpm_agent.proofs.Egress.{copies_up_to-all, length-copies_up_to_but_one}
 use Rattle.ptpm_network.proofs.Answering.{keeps_due}
 use Rattle.ptpm_network.proofs.Arriving.{IsCopyOf, arrives-reached, is_copy_of}
 use Rattle.ptpm_network.proofs.Frames.{IsHeard, heard-frame}
-use Rattle.ptpm_network.proofs.Reaching.{frame_at-is, step-reached, after-step, after-delivery, strange-comes, first-reached}
+use Rattle.ptpm_network.proofs.Reaching.{frame_at-is, step-reached, after-step, after-delivery, strange-comes}
 use Rattle.ptpm_network.proofs.Requests.{read_few}
-use Rattle.ptpm_network.proofs.Schedule.{reached}
 
 -- ---- one message
 
@@ -155,7 +154,3 @@ run-within N w [] all n r i within = within
 run-within N w (e ∷ es) all n r i within =
     run-within N (step N w e) es all n (step-reached N w e n i.0 r) i.1
     (after-step (λ (u : NetworkState). length u.frames ≤ 400000) N w e within (λ none. happens-within N w e all n r i.0 none within))
-
--- ---- from where a list of events leads
-
-pub ruleset few_frames_laws = (happens-few, run-within, first-reached)

@@ -120,8 +120,9 @@ once q r ports d s one =
 
 -- ---- at most as many as a clock has ports
 
-pub read_few : (q : RequestValue) (d : DataSetsValue)
-    → length d.ports ≤ PORTS
-    → length (read_reply_to q d).answers ≤ PORTS
+pub read_few : (most : ℕ) (q : RequestValue) (d : DataSetsValue)
+    → 1 ≤ most
+    → length d.ports ≤ most
+    → length (read_reply_to q d).answers ≤ most
 unfolding named_ports read_reply_to reply_of
-read_few q d few = grind (arith, length-map, filter-few, length-range_with_len)
+read_few most q d some few = grind (arith, length-map, filter-few, length-range_with_len)

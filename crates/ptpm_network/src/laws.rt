@@ -74,7 +74,6 @@ pub fn hops_lost()
 
 /// An event makes at most as many frames as the ports of a clock let it. So there are never over 400,000 frames where no clock has
 /// more than eight ports, like those of a network file.
-#[tactic(auto, using(crate::proofs::Schedule::reached, crate::proofs::Counting::few_frames_laws))]
 pub fn few_frames()
     ensures event { (N : Network) (most : ℕ) (es : List Event) (e : Event) →
         IsNetwork N → ClocksHaveAtMost N most → 1 ≤ most → AllByRecursion IsInRange es →

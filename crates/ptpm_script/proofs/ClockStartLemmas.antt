@@ -1,5 +1,5 @@
 -- What is found of the start of a clock tells why the clock can't start; a clock of which nothing is found can.
-use Rattle.std.proofs.Common.{arith, ◌≡◌, ◌≢◌, ℕ, ◌==◌, ◌≤◌, nat_le, nat_lt, Bool, true, false, not, ◌&&◌, if◌then◌else◌, List, [], ◌∷◌, ◌++◌, Option, Some, None, IsOk, refl, ap, sym, subst, ◌∙◌, append_assoc, is_some, le-leb, le_refl, pos, codes, eq-eqb, flat_map, length, map, option_and_then, option_map, take, true≢false, unwrap_or}
+use Rattle.std.proofs.Common.{arith, ◌≡◌, ◌≢◌, ℕ, ◌==◌, ◌≤◌, nat_le, nat_lt, Bool, true, false, not, ◌&&◌, if◌then◌else◌, List, [], ◌∷◌, ◌++◌, Option, Some, None, IsOk, refl, ap, sym, subst, ◌∙◌, append_assoc, is_some, le-leb, le_refl, pos, codes, eq-eqb, flat_map, length, map, option_and_then, option_map, take, true≢false, unwrap_or, ◌+◌}
 use Rattle.std.specs.List.{AllByRecursion, range_with_len}
 use Rattle.std.specs.Option.{option_or}
 use Rattle.std.specs.Str.{chars, is_utf8}
@@ -13,7 +13,7 @@ use Rattle.ptpm_data.specs.ManagementId.{set_of}
 use Rattle.ptpm_data.specs.Members.{is_same_precedence}
 use Rattle.ptpm_data.specs.MemberNames.{member_name}
 use Rattle.ptpm_data.specs.Ranges.{is_clock_accuracy, is_description}
-use Rattle.ptpm_data.specs.Start.{clock_fault, count_fault, default_data_set, first_out, grandmaster_fault, is_in_clock_range, judged_of_clock, parent_data_set, ports_fault, start_fault, start_of, started, unless}
+use Rattle.ptpm_data.specs.Start.{clock_fault, count_fault, default_data_set, first_out, grandmaster_fault, is_in_clock_range, judged_of_clock, parent_data_set, ports_fault, start_fault, start_of, start_within, started, unless}
 use Rattle.ptpm_data.specs.declared.members.Member.{Member}
 use Rattle.ptpm_data.specs.declared.members.Member.TheVariants as members
 use Rattle.ptpm_data.specs.declared.start.ClockStart.{ClockStart}
@@ -57,7 +57,7 @@ tells_else true x o xs ys h k = tells-append (Some x) None xs ys h (λ i. cc)
 tells_else false x o xs ys h k = tells-append None o xs ys h (λ i. k)
 
 count_tells_at : (n : ℕ) (spot : Spot) (ms : Members) → is_some (get_member (codes "ports") ms) ≡ true
-    → Tells (count_fault n)
+    → Tells (count_fault CLOCK_PORTS n)
     (start_mark_if (n == 0) NoPorts spot (codes "ports") ms ++ start_mark_if (nat_lt CLOCK_PORTS n) TooManyPorts spot (codes "ports") ms)
 unfolding count_fault
 count_tells_at n spot ms there =
@@ -67,11 +67,11 @@ count_tells_at n spot ms there =
     (tells-value (n == 0) NoPorts spot key ms (never_absent (n == 0) (get_member key ms) there))
     (tells-value (nat_lt CLOCK_PORTS n) TooManyPorts spot key ms (never_absent (nat_lt CLOCK_PORTS n) (get_member key ms) there))
 
-count_tells : (c : ClockHeadValue) (k : SoundClock c) → Tells (count_fault k.count) (count_start_marks c)
+count_tells : (c : ClockHeadValue) (k : SoundClock c) → Tells (count_fault CLOCK_PORTS k.count) (count_start_marks c)
 unfolding count_start_marks
 count_tells c k =
     let key = codes "ports" in
-    subst (λ o. Tells (count_fault k.count) (start_mark_if (passes (λ n. n == 0) o) NoPorts c.spot key c.table
+    subst (λ o. Tells (count_fault CLOCK_PORTS k.count) (start_mark_if (passes (λ n. n == 0) o) NoPorts c.spot key c.table
     ++ start_mark_if (passes (λ n. nat_lt CLOCK_PORTS n) o) TooManyPorts c.spot key c.table)) (sym k.count_is)
     (count_tells_at k.count c.spot c.table (key-there clock_rules c.table key k.keeps refl))
 
@@ -198,7 +198,7 @@ passes_none : (b : Bool) (e : StartError) (o : Option StartError) → (if b then
 passes_none true e o h = cc
 passes_none false e o h = (refl, h)
 
-count_within : (n : ℕ) → count_fault n ≡ None → (nat_le 1 n && nat_le n CLOCK_PORTS) ≡ true
+count_within : (n : ℕ) → count_fault CLOCK_PORTS n ≡ None → (nat_le 1 n && nat_le n CLOCK_PORTS) ≡ true
 unfolding count_fault
 count_within n h = grind (arith, nat_tests, passes_none)
 
@@ -221,22 +221,22 @@ ports_up_to c count = map (start_of_port (items_at (codes "port") c.table)) (ran
 tells_of : (c : ClockHeadValue) (k : SoundClock c) (domain : ℕ)
     → each_after (port_repeats c.number) [] (items_at (codes "port") c.table) ≡ []
     → clock_past_ports c ≡ []
-    → Tells (start_fault (clock_start k.identity domain c.table) (ports_up_to c k.count)) (clock_start_marks c)
+    → Tells (start_fault CLOCK_PORTS (clock_start k.identity domain c.table) (ports_up_to c k.count)) (clock_start_marks c)
 unfolding clock_start_marks grandmaster_marks
 tells_of c k domain once past =
     let s = clock_start k.identity domain c.table in
     let ports = ports_up_to c k.count in
     let long : length ports ≡ k.count = length-map-range_with_len (start_of_port (items_at (codes "port") c.table)) 1 k.count in
-    let count = subst (λ n. Tells (count_fault n) (count_start_marks c)) (sym long) (count_tells c k) in
+    let count = subst (λ n. Tells (count_fault CLOCK_PORTS n) (count_start_marks c)) (sym long) (count_tells c k) in
     let own : Tells (fault_of_grandmaster s) (grandmaster_marks c) =
     subst (λ o. Tells (fault_of_grandmaster s) (own_marks_if c.spot c.table o)) (sym k.identity_is)
     (grandmaster_tells c.spot k.identity domain c.table k.keeps) in
     let found = ports_start_marks (CLOCK_PORTS + 1) c.number (items_at (codes "port") c.table) in
-    let of_ports = λ (none : count_fault (length ports) ≡ None).
-    let few = count_within k.count (sym (ap count_fault long) ∙ none) in
+    let of_ports = λ (none : count_fault CLOCK_PORTS (length ports) ≡ None).
+    let few = count_within k.count (sym (ap (count_fault CLOCK_PORTS) long) ∙ none) in
     ports-tell c.number k.count (items_at (codes "port") c.table) k.ports once (none_past c k past few) (within k.count few).1 in
-    subst (Tells (start_fault s ports)) (four (count_start_marks c) (member_marks c.spot c.table) found (grandmaster_marks c))
-    (tells-append (count_fault (length ports)) (option_or (clock_fault s) (option_or (ports_fault ports) (fault_of_grandmaster s)))
+    subst (Tells (start_fault CLOCK_PORTS s ports)) (four (count_start_marks c) (member_marks c.spot c.table) found (grandmaster_marks c))
+    (tells-append (count_fault CLOCK_PORTS (length ports)) (option_or (clock_fault s) (option_or (ports_fault ports) (fault_of_grandmaster s)))
     (count_start_marks c) (member_marks c.spot c.table ++ (found ++ grandmaster_marks c)) count
     (λ none. tells-append (clock_fault s) (option_or (ports_fault ports) (fault_of_grandmaster s))
     (member_marks c.spot c.table) (found ++ grandmaster_marks c) (members_tell c.spot k.identity domain c.table k.is_one)
@@ -245,12 +245,12 @@ tells_of c k domain once past =
 pub start-tells : (c : ClockHeadValue) → SoundClock c
     → each_after (port_repeats c.number) [] (items_at (codes "port") c.table) ≡ []
     → clock_past_ports c ≡ []
-    → first_refusal (clock_start_marks c) ≡ option_map (λ e. BadClock e) (start_fault (clock_of c).start (clock_of c).ports)
+    → first_refusal (clock_start_marks c) ≡ option_map (λ e. BadClock e) (start_fault CLOCK_PORTS (clock_of c).start (clock_of c).ports)
 unfolding clock_of ports_of_clock
 start-tells c k once past =
     let domain = number_or 255 (codes "domain") c.table in
     let fault = λ (identity : Option ClockIdentity) (count : Option ℕ).
-    start_fault (clock_start (unwrap_or identity some_clock) domain c.table) (ports_up_to c (unwrap_or count 0)) in
+    start_fault CLOCK_PORTS (clock_start (unwrap_or identity some_clock) domain c.table) (ports_up_to c (unwrap_or count 0)) in
     subst (λ o. Tells (fault o c.count) (clock_start_marks c)) (sym k.identity_is)
     (subst (λ o. Tells (fault (Some k.identity) o) (clock_start_marks c)) (sym k.count_is)
     (tells_of c k domain once past))
@@ -265,8 +265,8 @@ or_none : (o p : Option StartError) → option_or o p ≡ None → o ≡ None
 or_none None p h = refl
 or_none (Some e) p h = cc
 
-starts : (s : ClockStart) (ports : List PortStart) → start_fault s ports ≡ None → IsOk (start_of s ports)
-unfolding start_of
+starts : (s : ClockStart) (ports : List PortStart) → start_fault CLOCK_PORTS s ports ≡ None → IsOk (start_of s ports)
+unfolding start_within
 starts s ports none = subst (λ o. IsOk (unless o (started s ports))) (sym none) refl
 
 not_every : (c : ClockHeadValue) → SoundClock c → (clock_of c).start.identity ≢ every_clock
@@ -283,9 +283,9 @@ pub can-start : (c : ClockHeadValue) → SoundClock c
 can-start c k once past none =
     let s = (clock_of c).start in
     let ports = (clock_of c).ports in
-    let fault = no_fault (start_fault s ports) (sym (ap first_refusal none) ∙ start-tells c k once past) in
+    let fault = no_fault (start_fault CLOCK_PORTS s ports) (sym (ap first_refusal none) ∙ start-tells c k once past) in
     let few = within (length ports) (count_within (length ports)
-    (or_none (count_fault (length ports)) (option_or (clock_fault s) (option_or (ports_fault ports) (fault_of_grandmaster s))) fault)) in
+    (or_none (count_fault CLOCK_PORTS (length ports)) (option_or (clock_fault s) (option_or (ports_fault ports) (fault_of_grandmaster s))) fault)) in
     record { starts = starts s ports fault; some_port = few.0; few_ports = few.1; is_one = not_every c k }
 
 -- a sound clock whose ports' numbers are there, each once
@@ -320,7 +320,7 @@ clocks-can-start cs sound once past none =
 starts_tell : (cs : List ClockHeadValue) → AllByRecursion Numbered cs → Tells (first_start_fault (map clock_of cs)) (flat_map clock_start_marks cs)
 starts_tell [] all = refl
 starts_tell (c ∷ cs) all =
-    tells-append (start_fault (clock_of c).start (clock_of c).ports) (first_start_fault (map clock_of cs))
+    tells-append (start_fault CLOCK_PORTS (clock_of c).start (clock_of c).ports) (first_start_fault (map clock_of cs))
     (clock_start_marks c) (flat_map clock_start_marks cs) (start-tells c all.0.sound all.0.once all.0.there) (λ i. starts_tell cs all.1)
 
 pub first-start-fault : (ms : Members)

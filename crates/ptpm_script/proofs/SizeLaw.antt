@@ -8,11 +8,10 @@ use Rattle.toml.specs.Data.{Members}
 use Rattle.ptpm_codec.specs.Message.{PortIdentityFits}
 use Rattle.ptpm_codec.proofs.OrderedLaws.{option_or-none}
 use Rattle.ptpm_data.specs.RequestLaws.{IsSized}
-use Rattle.ptpm_data.specs.Start.{clock_fault, port_data_set, start_of}
+use Rattle.ptpm_data.specs.Start.{clock_fault, port_data_set, start_of, start_within}
 use Rattle.ptpm_data.specs.declared.start.ClockStart.{ClockStart}
 use Rattle.ptpm_data.specs.declared.start.PortStart.{PortStart}
 use Rattle.ptpm_data.proofs.StartLemmas.{description_small, description_sound}
-use Rattle.ptpm_script.specs.declared.limits.TheConstants.{CLOCK_PORTS}
 use Rattle.ptpm_script.specs.Heads.{ClockHeadValue, SessionHeadValue, clocks_of, sessions_of}
 use Rattle.ptpm_script.specs.NetworkText.{clock_of, network_in, network_of, session_of, some_port}
 use Rattle.ptpm_script.specs.NetworkValue.{AreSized, CanStart, IsAccepted, NetworkValue, first_sets}
@@ -31,7 +30,7 @@ either P None a there other = other
 either P (Some x) a there other = there x refl
 
 faultless : (c : ClockStart) (ports : List PortStart) → IsOk (start_of c ports) → clock_fault c ≡ None
-unfolding start_of
+unfolding start_within
 faultless c ports h = grind (arith, option_or-none)
 
 clock_sized : (c : ClockHeadValue) → SoundClock c → CanStart (clock_of c) → IsSized (first_sets (clock_of c))
@@ -42,7 +41,7 @@ clock_sized c sound can =
     let identity : length start.identity.0 ≡ 8 = subst (λ o. length (unwrap_or o some_clock).0 ≡ 8) (sym sound.identity_is) sound.identity_size in
     record {
       some_port = subst (λ n. 1 ≤ n) (sym (length-map ports port_data_set)) can.some_port;
-      few_ports = subst (λ n. n ≤ CLOCK_PORTS) (sym (length-map ports port_data_set)) can.few_ports;
+      few_ports = omega (arith, length-map ports port_data_set, can.few_ports);
       text = description_small start.user_description.items (description_sound start (faultless start ports can.starts));
       identity = identity;
       parent = either (λ p. length p.clock.0 ≡ 8) (port_at (codes "parent_port") c.table) (record { clock = start.identity; port = 0 })

@@ -9,6 +9,7 @@ use Rattle.ptpm_codec.specs.declared.identity.PortIdentity.{PortIdentity}
 use Rattle.ptpm_data.specs.Start.{default_port, start_fault}
 use Rattle.ptpm_data.specs.declared.start.PortStart.{PortStart}
 use Rattle.ptpm_data.specs.declared.start.StartError.{StartError}
+use Rattle.ptpm_script.specs.declared.limits.TheConstants.{CLOCK_PORTS}
 use Rattle.ptpm_script.specs.declared.document.Document.{Document}
 use Rattle.ptpm_script.specs.declared.document.Document.TheVariants as documents
 use Rattle.ptpm_script.specs.declared.net_error.NetError.{NetError}
@@ -56,7 +57,7 @@ clock_of c = record {
 -- why the first clock that can't start can't
 abbrev pub first_start_fault : List ClockValue → Option StartError
 first_start_fault [] = None
-first_start_fault (c ∷ cs) = option_or (start_fault c.start c.ports) (first_start_fault cs)
+first_start_fault (c ∷ cs) = option_or (start_fault CLOCK_PORTS c.start c.ports) (first_start_fault cs)
 
 -- ---- places, from 0
 

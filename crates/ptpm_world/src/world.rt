@@ -38,6 +38,7 @@ pub struct World {
 }
 
 impl World {
+    ghost use Rattle.ptpm_data.specs.declared.ports.TheConstants.{INLINE_PORTS};
     ghost use Rattle.ptpm_agent.specs.Once.{applied_once, initial_history};
     ghost use Rattle.ptpm_manager.specs.declared.report.Report.{Report};
     ghost use Rattle.ptpm_network.specs.Events as machine;
@@ -59,6 +60,7 @@ impl World {
     pub fn sets(&self, clock: &str) -> Option<&DataSets>
         ensures sets { option_map (λ d. d.now) result ≡ sets_named self.now clock.now }
         ensures known { IsSome result ↔ Contains (names_in self.now).clocks clock.now }
+        ensures few { IfSome result (λ sets. length sets.now.ports ≤ INLINE_PORTS) }
         ensures applied { (N : Network) (past : List machine.Event)
             → IsOf N self.now
             → StandsAfter N past (running self.now)

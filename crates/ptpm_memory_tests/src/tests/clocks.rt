@@ -85,6 +85,7 @@ fn try_handle_after_refused_memory(rt: HostRuntime) -> Result<(), Fail> {
     let sets = DataSets::new(&ClockStart::new(K, 0), &[PortStart::new()])?;
     let table = plain_table(rt.alloc())?;
     assert!(rt; sets.identity() == table.clock());
+    assert!(rt; sets.port_count() == 1);
     let mut agent = Agent::new(sets, table);
     assert!(rt; is_answered(&mut agent, Verdict::AnsweredNew));
     assert!(rt; is_answered(&mut agent, Verdict::AnsweredRepeat));

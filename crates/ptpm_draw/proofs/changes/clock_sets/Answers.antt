@@ -3,8 +3,8 @@ use Rattle.ptpm_script.specs.declared.network.NetworkClock.{NetworkClock}
 use Rattle.ptpm_draw.proofs.ClockSets.{clock-sets_named}
 use Rattle.ptpm_draw.proofs.changes.clock_sets.Goals as goal
 
-pub returns : goal.returns
-returns c =
+pub returns-clause-sets : goal.returns-clause-sets
+returns-clause-sets c =
     let clocks = c.clocks-clocks.result.now in
     let clock = c.index-clocks-place.result in
     let same = c.clocks-clocks.ensures in

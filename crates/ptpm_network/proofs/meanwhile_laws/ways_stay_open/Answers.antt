@@ -1,6 +1,6 @@
 use Rattle.ptpm_network.proofs.Answerable.{leaves-nothing}
 use Rattle.ptpm_network.proofs.meanwhile_laws.ways_stay_open.Goals as goal
-use Rattle.ptpm_network.proofs.Common.{◌≤◌, subst, refl, NetworkState, run, greatest_accepted, initial_state, ap, step, sym, length}
+use Rattle.ptpm_network.proofs.Common.{◌≤◌, subst, refl, NetworkState, run, greatest_accepted, initial_state, step, sym}
 use Rattle.ptpm_network.proofs.Reaching.{step-reached, after-step}
 use Rattle.ptpm_network.specs.Way.{IsWayIn}
 use Rattle.ptpm_network.specs.Meanwhile.{StaysOpen}

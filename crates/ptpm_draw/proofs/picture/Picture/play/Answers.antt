@@ -37,7 +37,7 @@ returns-clause-drawn c =
     (is.late ∙ ap (λ ns. is_late_event r (placed ns line.event)) names)
     is.before
     (is.after ∙ ap (λ w. length w.frames) (is.goes (described n) c.requires.network ∙ ap (λ ns. after (described n) r (placed ns line.event)) names)))
-    (change-is line.number at r next c.copy_of-before.result _ c.change_of-change.result (c.copy_of-before.ensures ∙ c.sets_of.ensures) c.sets_of-2.ensures c.change_of-change.ensures)
+    (change-is line.number at r next c.snapshot_of-before.result _ c.change_of-change.result (c.snapshot_of-before.ensures ∙ c.sets_of.ensures.sets) c.sets_of-2.ensures.sets c.change_of-change.ensures)
     (c.in_ok-keep_change.ensures.rows ∙ c.in_ok-keep_messages.ensures.rows ∙ c.push.ensures.items
     ∙ cond-true _ _ _ (sym c.map_err.ensures.variant ∙ ap is_ok c.in_ok-map_err.was))
     (c.in_ok-keep_change.ensures.messages ∙ c.in_ok-keep_messages.ensures.messages)

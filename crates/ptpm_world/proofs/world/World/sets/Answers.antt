@@ -1,4 +1,5 @@
 use Rattle.ptpm_world.proofs.Common.{arith, ap, sym, ◌∙◌, refl, Some, length, slice_get_read, RunningClock, sets_of}
+use Rattle.ptpm_data.specs.Members.{DataSetsValue}
 use Rattle.ptpm_world.proofs.Naming.{known-found, unknown-name}
 use Rattle.ptpm_world.proofs.Reporting.{sets-shown}
 use Rattle.ptpm_world.proofs.WorldLemmas.{at_name, of_no_name}
@@ -10,6 +11,11 @@ returns-in-Some-clause-sets c =
     let at = slice_get_read xs (length xs) c.in-Some.place c.index.result.now refl c.in-Some.ensures.found.1 c.index.ensures in
     ap Some c.sets.ensures
     ∙ sym (ap (sets_of) (at_name (λ (x : RunningClock). x.name) xs c.args.clock.now c.in-Some.place c.index.result.now c.in-Some.ensures.found.0 at))
+
+pub returns-in-Some-clause-few : goal.returns-in-Some-clause-few
+returns-in-Some-clause-few c =
+    let k = c.index.result.now in
+    omega (arith, ap (λ (d : DataSetsValue). length d.ports) c.sets.ensures, k.agent.room, k.few_answers)
 
 pub returns-in-None-clause-sets : goal.returns-in-None-clause-sets
 returns-in-None-clause-sets c =
