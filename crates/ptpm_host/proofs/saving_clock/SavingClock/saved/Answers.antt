@@ -15,9 +15,9 @@ returns-then-not-acts_once_saved-clause-called c = λ b count later as_batch.
     let acts : acts_once_saved c.args.self.now ≡ false = first_of (search rules, grind (arith, common_steps)) in
     record {
       kept = saved_call c.args.self.now
-          (record k { shown = c.copy-self.result; ready = c.ready_once_saved-self.result; first = 0; is_imaged = false; waits = k.is_changed })
-          b count later
-          (λ i. record k { shown = c.copy-self.ensures i; ready = c.ready_once_saved-self.ensures.ready i; first = 0; is_imaged = false; waits = k.is_changed })
+          (record k { shown = k.copied; copied = k.shown; ready = c.ready_once_saved-self.result; first = 0; is_imaged = false; waits = k.is_changed })
+          k.shown b count later
+          (λ i. record k { shown = k.copied; copied = k.shown; ready = c.ready_once_saved-self.ensures.ready i; first = 0; is_imaged = false; waits = k.is_changed })
           imaged as_batch.kept;
       later = saved_later c.args.self.now b count as_batch imaged
           ∙ ap (λ t. asked_later (if t then actings.Nothing else c.args.self.now.acting) (request_under_way c.args.self.now.clock.value.under_way)) acts;
@@ -31,9 +31,9 @@ returns-clause-called c = λ b count later as_batch.
     let acts : acts_once_saved c.args.self.now ≡ true = first_of (search rules, grind (arith, common_steps)) in
     record {
       kept = saved_call c.args.self.now
-          (record k { shown = c.copy-self.result; ready = c.ready_once_saved-self.result; first = 0; is_imaged = false; waits = k.is_changed })
-          b count later
-          (λ i. record k { shown = c.copy-self.ensures i; ready = c.ready_once_saved-self.ensures.ready i; first = 0; is_imaged = false; waits = k.is_changed })
+          (record k { shown = k.copied; copied = k.shown; ready = c.ready_once_saved-self.result; first = 0; is_imaged = false; waits = k.is_changed })
+          k.shown b count later
+          (λ i. record k { shown = k.copied; copied = k.shown; ready = c.ready_once_saved-self.ensures.ready i; first = 0; is_imaged = false; waits = k.is_changed })
           imaged as_batch.kept;
       later = saved_later c.args.self.now b count as_batch imaged
           ∙ ap (λ t. asked_later (if t then actings.Nothing else c.args.self.now.acting) (request_under_way c.args.self.now.clock.value.under_way)) acts;
