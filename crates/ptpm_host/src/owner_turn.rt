@@ -100,6 +100,7 @@ impl HostedClock {
     }
 
     /// Carries out a request of the owner for this clock, and answers it. The table stays.
+    #[tactic(auto, using(crate::specs::OutboxLaws::kept_by_none))]
     fn carry_out_owned(&mut self, port: u16, message: &View<'_>, room: &mut [Sent]) -> Taken
         requires action { IsRequestAction (request_of message.now).action }
         requires port { IsTargetPort (request_of message.now).port self.old.agent.sets }
@@ -121,6 +122,7 @@ impl HostedClock {
         ensures waiting { result.waiting ≡ 0 }
         ensures under_way { self.new.under_way ≡ self.old.under_way }
     {
+        self.sent_law();
         let me = self.agent.table().clock();
         let mut sets = DataSets::blank();
         self.agent.swap_sets(&mut sets);
