@@ -100,7 +100,6 @@ impl HostedClock {
     }
 
     /// Carries out a request of the owner for this clock, and answers it. The table stays.
-    #[tactic(auto, using(crate::specs::OutboxLaws::kept_by_none))]
     fn carry_out_owned(&mut self, port: u16, message: &View<'_>, room: &mut [Sent]) -> Taken
         requires action { IsRequestAction (request_of message.now).action }
         requires port { IsTargetPort (request_of message.now).port self.old.agent.sets }
@@ -127,9 +126,7 @@ impl HostedClock {
         let mut sets = DataSets::blank();
         self.agent.swap_sets(&mut sets);
         let before = sets.snapshot();
-        let mut outbox = Outbox::new(room);
-        decide_owned(&me, &mut sets, port, message, &mut outbox);
-        let count = outbox.count();
+        let count = answer_owned(&me, &mut sets, port, message, room);
         let changed = sets.changed_since(&before);
         self.agent.swap_sets(&mut sets);
         Taken {
@@ -143,6 +140,33 @@ impl HostedClock {
             changed,
         }
     }
+}
+
+/// Carries out a request of the owner in these data sets of this clock, and writes the reply to it into the first of these places.
+/// Answers how many have a message.
+#[tactic(auto, using(crate::specs::OutboxLaws::kept_by_none))]
+fn answer_owned(
+    me: &ClockIdentity,
+    sets: &mut DataSets,
+    port: u16,
+    message: &View<'_>,
+    room: &mut [Sent],
+) -> usize
+    requires action { IsRequestAction (request_of message.now).action }
+    requires port { IsTargetPort (request_of message.now).port sets.old }
+    requires valid { IsValid message.now }
+    requires room { length (reply_to (request_of message.now) all_rights sets.old).answers ≤ length room.old }
+    ensures changed { sets.new ≡ changed_by (request_of message.now) all_rights sets.old }
+    ensures sent { messages_in (take result room.new)
+        ≡ rendered me.now (heard_of message.now) (reply_to (request_of message.now) all_rights sets.old) port }
+    ensures count { result ≤ length room.new }
+    ensures whole { All IsWhole (take result room.new) }
+    ensures places { drop result room.new ≡ drop result room.old }
+    ensures behind { AllZip KeepsBehind room.old room.new }
+{
+    let mut outbox = Outbox::new(room);
+    decide_owned(me, sets, port, message, &mut outbox);
+    outbox.count()
 }
 
 /// Carries out a request of the owner in these data sets of this clock, and sends the reply to it.

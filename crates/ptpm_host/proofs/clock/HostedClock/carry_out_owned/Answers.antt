@@ -18,7 +18,7 @@ swap_sets-requires-2 c =
       arith,
       c.args.self.now.agent.room,
       most,
-      ap (λ (d : DataSetsValue). length d.ports) c.decide_owned.ensures.changed,
+      ap (λ (d : DataSetsValue). length d.ports) c.answer_owned-count.ensures.changed,
       changed_by-ports (request_of c.args.message.now) all_rights c.swap_sets.new.sets,
       ap (λ (d : DataSetsValue). length d.ports) own,
     )
@@ -26,5 +26,5 @@ swap_sets-requires-2 c =
 pub returns-clause-members : goal.returns-clause-members
 returns-clause-members c =
     let before : c.snapshot-before.result ≡ c.args.self.now.agent.sets = first_of (search rules, cc) in
-    let here : c.decide_owned.new.sets ≡ c.swap_sets-2.new.self.sets = first_of (search rules, cc) in
+    let here : c.answer_owned-count.new.sets ≡ c.swap_sets-2.new.self.sets = first_of (search rules, cc) in
     c.changed_since-changed.ensures ∙ (λ i. changed (before i) (here i))
