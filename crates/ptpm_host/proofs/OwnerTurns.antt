@@ -93,13 +93,13 @@ not_repeated : (l : Look) (c : Clock) (s : State) (v : Message)
     else if not (is_addressed c s.sets v) then verdicts.NotAddressed
     else if not (is_request v) then verdicts.NotARequest
     else verdict_at l)
-not_repeated l c s v no =
+not_repeated l c s v once =
     ap (λ (b : Bool). if not (v.sdo == 0 && (v.domain == s.sets.default.domain || b)) then verdicts.OtherDomain
     else if is_own c v then verdicts.OwnMessage
     else if not (is_addressed c s.sets v) then verdicts.NotAddressed
     else if not (is_request v) then verdicts.NotARequest
     else verdict_at l)
-    (ap (λ (b : Bool). not (is_own c v) && (is_addressed c s.sets v && (is_request v && b))) no
+    (ap (λ (b : Bool). not (is_own c v) && (is_addressed c s.sets v && (is_request v && b))) once
     ∙ none_repeated (is_own c v) (is_addressed c s.sets v) (is_request v))
     ∙ ap (λ (b : Bool). if not (v.sdo == 0 && b) then verdicts.OtherDomain
     else if is_own c v then verdicts.OwnMessage

@@ -142,8 +142,8 @@ impl HostedClock {
     }
 }
 
-/// Carries out a request of the owner in these data sets of this clock, and writes the reply to it into the first of these places.
-/// Answers how many have a message.
+/// Carries out a request of the owner in these data sets of this clock. The reply to it is written into the first places of `room`.
+/// Answers how many of them have a message.
 #[tactic(auto, using(crate::specs::OutboxLaws::kept_by_none))]
 fn answer_owned(
     me: &ClockIdentity,
