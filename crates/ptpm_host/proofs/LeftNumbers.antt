@@ -1,5 +1,5 @@
 -- A number of so many bits, with one bit before them.
-use Rattle.std.proofs.Common.{arith, ◌≡◌, ◌<◌, ◌≤◌, ◌+◌, ◌*◌, ◌^◌, ◌-◌, ℕ, zero, suc, Bool, List, ap, sym}
+use Rattle.std.proofs.Common.{arith, ◌≡◌, ◌<◌, ◌≤◌, ◌+◌, ◌*◌, ◌^◌, ◌-◌, ℕ, zero, suc, Bool, true, false, List, ap, sym}
 use Rattle.std.specs.Int.{from_bool}
 use Rattle.std.proofs.Math.Nat.{pow-succ'}
 use Rattle.std.proofs.Math.Pow.{pow_mono}
@@ -20,3 +20,7 @@ twice_fits (suc n) bit number some small less =
 
 pub in_word : (count number : ℕ) → count ≤ 64 → number < 2 ^ count → number < 2 ^ 64
 in_word count number few less = omega (arith, pow_mono {i = count} {j = 64} few, less)
+
+pub bit_small : (b : Bool) → from_bool b ≤ 1
+bit_small true = omega arith
+bit_small false = omega arith

@@ -25,8 +25,7 @@ use Rattle.ptpm_agent.specs.Addressing.{heard_of, is_addressed, is_own, is_reque
 use Rattle.ptpm_agent.specs.Agent.{IsTurned}
 use Rattle.ptpm_agent.specs.Forwarding.{forwarded}
 use Rattle.ptpm_agent.specs.Turn.{Clock, State, Turned, carried_out, is_repeat, judged, look, next_by, outbox_of, reply_by, reply_messages, turn, turn_by, verdict_at}
-use Rattle.ptpm_agent.proofs.Turns.{forwarded-copy, next_by-not_new, reading-message_of, turn-message, turned_new, turned_other}
-use Rattle.ptpm_saved.proofs.BatchingClockLaws.{judged_at}
+use Rattle.ptpm_agent.proofs.Turns.{forwarded-copy, reading-message_of, turn-message, turned_new, turned_other}
 use Rattle.ptpm_host.specs.Changing.{owned_at, owner_by, owner_clock, owner_turn, owner_turned, owner_verdict}
 
 pub owner_turned_is : (c k : Clock) (s t next after : State) (port : ℕ) (datagram : List ℕ) (v : Message) (w verdict : Verdict) (out : List (ℕ × List ℕ))
@@ -56,6 +55,21 @@ owner_turned_is c k s t next after port datagram v w verdict out read own begun 
 abbrev nothing_kept : State → State
 nothing_kept s = record { sets = s.sets; entries = empty }
 
+next_by-not_new : (w : Verdict) (c : Clock) (s : State) (v : Message)
+    → (w ≡ verdicts.AnsweredNew → ⊥)
+    → next_by w c s v ≡ s
+next_by-not_new verdicts.AnsweredNew c s v other = absurd (other refl)
+next_by-not_new _ c s v other = refl
+
+-- the verdict on a message, if this is what the clock keeps of its manager
+abbrev judged_at : Look → Clock → State → Message → Verdict
+judged_at l c s v =
+    if not (v.sdo == 0 && (v.domain == s.sets.default.domain || (not (is_own c v) && (is_addressed c s.sets v && (is_request v && is_repeat l))))) then verdicts.OtherDomain
+    else if is_own c v then verdicts.OwnMessage
+    else if not (is_addressed c s.sets v) then verdicts.NotAddressed
+    else if not (is_request v) then verdicts.NotARequest
+    else verdict_at l
+
 none_repeated : (own addressed request : Bool) → (not own && (addressed && (request && false))) ≡ false
 none_repeated true addressed request = refl
 none_repeated false true true = refl
@@ -79,13 +93,13 @@ not_repeated : (l : Look) (c : Clock) (s : State) (v : Message)
     else if not (is_addressed c s.sets v) then verdicts.NotAddressed
     else if not (is_request v) then verdicts.NotARequest
     else verdict_at l)
-not_repeated l c s v no =
+not_repeated l c s v once =
     ap (λ (b : Bool). if not (v.sdo == 0 && (v.domain == s.sets.default.domain || b)) then verdicts.OtherDomain
     else if is_own c v then verdicts.OwnMessage
     else if not (is_addressed c s.sets v) then verdicts.NotAddressed
     else if not (is_request v) then verdicts.NotARequest
     else verdict_at l)
-    (ap (λ (b : Bool). not (is_own c v) && (is_addressed c s.sets v && (is_request v && b))) no
+    (ap (λ (b : Bool). not (is_own c v) && (is_addressed c s.sets v && (is_request v && b))) once
     ∙ none_repeated (is_own c v) (is_addressed c s.sets v) (is_request v))
     ∙ ap (λ (b : Bool). if not (v.sdo == 0 && b) then verdicts.OtherDomain
     else if is_own c v then verdicts.OwnMessage

@@ -152,16 +152,17 @@ module _ (old : SavingClock) (d : Clock) (l : Kept) (port : ℕ) (datagram : Lis
       held_if_new c s x true is changes = is
       held_if_new c s x false is changes = absurd (false≢true (sym (coming_holds c s x is) ∙ changes))
 
--- a save
-pub saved_call : (old : SavingClock) (l : Kept) (b : ClockBatch) (count later : ℕ)
-    → l ≡ kept_confirmed (kept_of old)
+-- a save, after which the copy is any, since no image counts
+pub saved_call : (old : SavingClock) (l : Kept) (copied : DataSetsValue) (b : ClockBatch) (count later : ℕ)
+    → l ≡ record (kept_confirmed (kept_of old)) { copied = copied }
     → old.is_imaged ≡ true
     → IsKeptOf old b count
     → IsKept (coming_process (clock_in old.clock.value)) shown_sets l (called_at old b (Confirms count)) later
-saved_call old l b count later kept imaged as_batch =
+saved_call old l copied b count later kept imaged as_batch =
     let c = clock_in old.clock.value in
+    let done = confirmed (coming_process c) shown_sets (is_held_by c) (coming_sound c).unchanged (kept_of old) b count later as_batch imaged in
     subst (λ k. IsKept (coming_process c) shown_sets k (called_at old b (Confirms count)) later) (sym kept)
-    (confirmed (coming_process c) shown_sets (is_held_by c) (coming_sound c).unchanged (kept_of old) b count later as_batch imaged)
+    (record { live = done.live; shown = done.shown; waits = done.waits; messages = done.messages; ready = done.ready; image = tt })
 
 -- ---- turns, as code takes them
 

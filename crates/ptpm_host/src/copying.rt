@@ -27,7 +27,8 @@ fn copied_by_image(alloc: Global, sets: &DataSets) -> Result<DataSets, OutOfMemo
     data_sets_law(sets);
     fits_law(sets);
     let mut image = [0; DATA_SETS_OCTETS];
-    let Some(_size) = sets.image_into(&mut image) else {
+    let _size = sets.image_size();
+    let Some(_written) = sets.image_into(&mut image) else {
         unreachable!()
     };
     let restored = DataSets::restored(alloc, &image)?;

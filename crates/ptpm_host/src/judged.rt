@@ -1,6 +1,6 @@
 //! What a clock begins with, before it is made.
 
-ghost use Rattle.std.specs.Prelude.{◌≡◌, ◌≢◌, IfErr, IfOk, MatchResult, None, Ok, OnOk, Some, length, max, take};
+ghost use Rattle.std.specs.Prelude.{◌≡◌, ◌≢◌, ◌≤◌, IfErr, IfOk, MatchResult, None, Ok, OnOk, Some, length, max, take};
 ghost use Rattle.ptpm_table.specs.Managers.{IsFresh, identities, block_refusal};
 ghost use Rattle.ptpm_saved.specs.Image.{SavedClock};
 ghost use Rattle.ptpm_host.specs.Clock.{start_by, start_refusal};

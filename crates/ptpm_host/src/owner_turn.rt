@@ -121,13 +121,12 @@ impl HostedClock {
         ensures waiting { result.waiting ≡ 0 }
         ensures under_way { self.new.under_way ≡ self.old.under_way }
     {
+        self.sent_law();
         let me = self.agent.table().clock();
         let mut sets = DataSets::blank();
         self.agent.swap_sets(&mut sets);
         let before = sets.snapshot();
-        let mut outbox = Outbox::new(room);
-        decide_owned(&me, &mut sets, port, message, &mut outbox);
-        let count = outbox.count();
+        let count = answer_owned(&me, &mut sets, port, message, room);
         let changed = sets.changed_since(&before);
         self.agent.swap_sets(&mut sets);
         Taken {
@@ -141,6 +140,33 @@ impl HostedClock {
             changed,
         }
     }
+}
+
+/// Carries out a request of the owner in these data sets of this clock. The reply to it is written into the first places of `room`.
+/// Answers how many of them have a message.
+#[tactic(auto, using(crate::specs::OutboxLaws::kept_by_none))]
+fn answer_owned(
+    me: &ClockIdentity,
+    sets: &mut DataSets,
+    port: u16,
+    message: &View<'_>,
+    room: &mut [Sent],
+) -> usize
+    requires action { IsRequestAction (request_of message.now).action }
+    requires port { IsTargetPort (request_of message.now).port sets.old }
+    requires valid { IsValid message.now }
+    requires room { length (reply_to (request_of message.now) all_rights sets.old).answers ≤ length room.old }
+    ensures changed { sets.new ≡ changed_by (request_of message.now) all_rights sets.old }
+    ensures sent { messages_in (take result room.new)
+        ≡ rendered me.now (heard_of message.now) (reply_to (request_of message.now) all_rights sets.old) port }
+    ensures count { result ≤ length room.new }
+    ensures whole { All IsWhole (take result room.new) }
+    ensures places { drop result room.new ≡ drop result room.old }
+    ensures behind { AllZip KeepsBehind room.old room.new }
+{
+    let mut outbox = Outbox::new(room);
+    decide_owned(me, sets, port, message, &mut outbox);
+    outbox.count()
 }
 
 /// Carries out a request of the owner in these data sets of this clock, and sends the reply to it.

@@ -692,9 +692,9 @@ impl SavingClock {
             < length (image_with (request_under_way self.old.clock.value.under_way) (clock_image (state_in self.old.clock.value)))) }
         ensures few { IfErr result (λ e. length self.old.clock.value.agent.sets.ports ≤ INLINE_PORTS → e ≡ ImageRefusal.NoRoom) }
         ensures size { IfOk result (λ r. r.0 ≡ length (image_with (request_under_way self.old.clock.value.under_way) (clock_image (state_in self.old.clock.value)))) }
-        ensures token { IfSome result
+        ensures token { IfOk result
             (λ r. (r.1 ≡ self.new.images) × (self.new.is_imaged ≡ true)) }
-        ensures octets { IfSome result
+        ensures octets { IfOk result
             (λ r. octets.new ≡ image_with (request_under_way self.old.clock.value.under_way) (clock_image (state_in self.old.clock.value)) ++ drop r.0 octets.old) }
         ensures clock { self.new.clock ≡ self.old.clock }
         ensures waits { self.new.waits ≡ self.old.waits }

@@ -1,5 +1,7 @@
-use Rattle.std.proofs.Common.{◌≡◌, ◌∙◌, ◌≤◌, arith, false, length, subst, sym}
+use Rattle.std.proofs.Common.{◌≡◌, ◌∙◌, ◌≤◌, ap, arith, false, length, subst, sym}
 use Rattle.ptpm_agent.specs.Turn.{outbox_of, turn}
+use Rattle.ptpm_data.specs.Changed.{changed}
+use Rattle.ptpm_data.specs.Members.{DataSetsValue}
 use Rattle.ptpm_data.proofs.Differing.{nothing_changed}
 use Rattle.ptpm_device.specs.Asking.{wanted_once}
 use Rattle.ptpm_device.proofs.Said.{turned_kept, turned_ungiven}
@@ -31,3 +33,13 @@ take_turn-handled-requires-clause-room c =
 
 pub returns-in-Some-clause-members : goal.returns-in-Some-clause-members
 returns-in-Some-clause-members c = nothing_changed c.args.self.now.agent.sets
+
+pub returns-then-is_kept-clause-members : goal.returns-then-is_kept-clause-members
+returns-then-is_kept-clause-members c =
+    c.take_turn-handled.ensures.members
+    ∙ ap (λ (d : DataSetsValue). changed d c.take_turn-handled.new.self.agent.sets) c.keep_value-is_kept.ensures.sets
+
+pub returns-clause-members : goal.returns-clause-members
+returns-clause-members c =
+    c.take_turn-handled.ensures.members
+    ∙ ap (λ (d : DataSetsValue). changed d c.take_turn-handled.new.self.agent.sets) c.keep_value-is_kept.ensures.sets

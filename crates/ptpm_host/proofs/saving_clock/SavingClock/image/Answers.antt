@@ -15,7 +15,7 @@ returns-clause-called c = λ b count as_batch.
     let old = c.args.self.now in
     let k : Kept = kept_of old in
     let acting = c.acting_once_imaged-self.ensures in
-    let copied : c.copy-self.result ≡ old.clock.value.agent.sets = first_of (search rules, cc) in
+    let copied : c.in-Ok.copied ≡ old.clock.value.agent.sets = first_of (search rules, cc) in
     let first : c.count.result - old.ready ≡ length (queued old.queue) - old.ready = first_of (search rules, cc) in
     record {
       kept = subst (λ l. IsKept (coming_process (clock_in old.clock.value)) shown_sets l b (length b.since))

@@ -1,4 +1,4 @@
-use Rattle.std.proofs.Common.{◌≡◌, ◌≢◌, ◌∙◌, ap, arith, refl, rules, sym, take, true}
+use Rattle.std.proofs.Common.{◌≡◌, ◌≢◌, ◌+◌, ◌∙◌, ap, arith, drop, refl, rules, sym, take, true}
 use Rattle.std.proofs.lemmas.Grind.{common_steps}
 use Rattle.ptpm_data.specs.Changed.{changed}
 use Rattle.ptpm_agent.specs.declared.verdict.Verdict.TheVariants as verdicts
@@ -52,3 +52,11 @@ pub returns-clause-members : goal.returns-clause-members
 returns-clause-members c =
     let own : c.deref_mut.result.now ≡ c.args.self.now.clock.value = first_of (search rules, cc) in
     c.carry_out-handled.ensures.members ∙ ap (λ (h : HostedClock). changed h.agent.sets c.carry_out-handled.new.self.agent.sets) own
+
+pub returns-clause-places : goal.returns-clause-places
+returns-clause-places c =
+    let waiting : 0 + c.carry_out-handled.result.count ≡ c.carry_out-handled.result.count = omega arith in
+    ap (λ n. drop n c.take_over.new.room) waiting
+    ∙ c.take_over.ensures.blanked.others
+    ∙ c.carry_out-handled.ensures.places
+    ∙ sym (ap (λ n. drop n c.args.room.now) waiting)
