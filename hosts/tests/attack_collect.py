@@ -287,14 +287,16 @@ def programs_that_show():
         os.chmod(program, 0o755)
         return Site(lambda request: [answer(request, me)], *words, "-t", "500", "status", env=environment)
 
-    site = shown("kill -KILL $$")
+    site = shown("echo monitor 1; kill -KILL $$")
     check("a program ptpm that is killed is a fault", site.status == 1 and "ended by signal 9" in site.said())
-    site = shown("kill -TERM $PPID; exec sleep 60")
+    site = shown("echo monitor 1; kill -TERM $PPID; exec sleep 60")
     check("a program ptpm that hangs is ended by a signal", site.status == 143 and site.took < 10 * SLOW)
-    site = shown("echo 'no findings here'; exit 1")
+    site = shown("echo monitor 1; echo print octets 17; echo 'no findings here'; exit 1")
     check("what it prints is printed as it is", site.status == 1 and site.lines() == ["no findings here"] and site.took < 2 * SLOW)
-    site = shown("yes | head -c 3000000; exit 0")
+    site = shown("echo monitor 1; echo print octets 3000000; yes | head -c 3000000; exit 0")
     check("it may print three million octets and read none", site.status == 0 and len(site.read(0)) == 3000000)
+    site = shown("echo monitor 2; exec sleep 60")
+    check("one of another version asks nothing", site.status == 2 and not site.requests and "is of another version" in site.said())
     os.unlink(program)
     site = Site(lambda request: [], "status", env=dict(os.environ, PATH=folder))
     check("where there is no program ptpm nothing is asked", site.status == 2 and not site.requests
@@ -303,22 +305,30 @@ def programs_that_show():
 
 def refusals_of_memory():
     """Each request for memory is refused, with all later ones: what is shown is the whole site, or a failure with its reason. The
-    program that shows it here needs none: it prints three findings if it is handed a line, and a table with their name."""
+    program that shows it here needs none: it has one look, and prints three findings if a clock is there."""
     if is_sanitized(MANAGE):
         return                                                              # its memory is the sanitizer's
     me = bytes.fromhex(ME)
     folder = os.path.join(work, "shown")
     os.mkdir(folder)
-    write("shown/ptpm.c", """#include <string.h>
+    write("shown/ptpm.c", r"""#include <string.h>
 #include <unistd.h>
-int main(int count, char **words) {
-    static const char table[] = "intervals warning 1 over_time A port and the one that it follows do not fit together.\\n";
-    static const char none[] = "no clock answered\\n", three[] = "findings: 3\\n0 a intervals 1\\n0 b intervals 2\\n0 c intervals 3\\n";
-    char one;
-    if (count > 1 && strcmp(words[1], "findings") == 0) return write(1, table, sizeof table - 1) > 0 ? 0 : 1;
-    if (read(0, &one, 1) != 1) return write(1, none, sizeof none - 1) > 0 ? 3 : 1;
-    while (read(0, &one, 1) == 1) continue;
-    return write(1, three, sizeof three - 1) > 0 ? 1 : 2;
+static char line[4096];
+static int next_line(void) {
+    size_t size = 0;
+    while (size < sizeof line - 1 && read(0, line + size, 1) == 1 && line[size] != '\n') size++;
+    int is_whole = line[size] == '\n';
+    line[size] = '\0';
+    return is_whole;
+}
+static int says(const char *text) { return write(1, text, strlen(text)) > 0; }
+int main(void) {
+    int clocks = 0;
+    if (!says("monitor 1\n") || !next_line() || !says("look 7\n")) return 3;
+    while (next_line() && strcmp(line, "end") != 0) clocks += strncmp(line, "clock ", 6) == 0;
+    if (strcmp(line, "end") != 0 || clocks == 0) return 3;
+    says("print octets 60\nfindings: 3\n0 a intervals 1\n0 b intervals 2\n0 c intervals 3\n");
+    return next_line() && strcmp(line, "printed") == 0 ? 1 : 3;
 }""")
     refuser = os.path.join(folder, "refuse.so")
     subprocess.run(["cc", "-O1", "-fPIC", "-shared", "-o", refuser, os.path.join(HOME, "../tools/refuse_memory.c")], check=True)

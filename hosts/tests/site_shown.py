@@ -129,6 +129,20 @@ def writes():
     check("a folder is the one that has the name by then", os.listdir(f"{work}/pages") == os.listdir(f"{work}/moved") == ["page"])
 
 
+def loses_power():
+    """The machine loses its power as a watch replaces a file, at each call of that (dies.c)."""
+    left = []
+    for call in range(1, 7):
+        state = f"{work}/power{call}"
+        page = f"{state}/ptpm/page.journal"         # dies.so counts from the rename to such a name on
+        os.makedirs(os.path.dirname(page))
+        write(page, "none\n")
+        told(["print text one\n", "print text two\n"], "status", "--output", page,
+             around=["env", f"XDG_STATE_HOME={state}", f"LD_PRELOAD={HOME}/dies.so", f"DIES_AT={call}", "LOSES=1"])
+        left.append(text_in(page).strip())
+    check(f"a file that is replaced is whole after a loss of power: {left}", left == ["none", "one", "one", "one", "one", "two"])
+
+
 def keeps_lines():
     """The lines of a look go into a file too."""
     ran = told(["look 7", "look 15"], "status", "--lines", f"{work}/lines")
@@ -215,7 +229,7 @@ def shown_by_ptpm(clocks):
 def shows():
     clocks = [start_clock(clock, "far0") for clock in (ONE, OTHER)]
     time.sleep(1)
-    for trial in (given_options, writes, keeps_lines, descriptions, waits, unread):
+    for trial in (given_options, writes, loses_power, keeps_lines, descriptions, waits, unread):
         trial()
     shown_by_ptpm(clocks)
     goes_meanwhile(clocks)

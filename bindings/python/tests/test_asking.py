@@ -368,15 +368,6 @@ class Asking(Folder):
         os.mkdir(f"{path}-2")
         self.assertRaisesRegex(ptpm.SessionFileError, "it is not a regular file", ptpm.SessionFile, MANAGER, CLOCK, f"{path}-2")
 
-    def test_a_session_of_an_earlier_version_goes_on(self) -> None:
-        """It takes its clock to have eight ports."""
-        path, settings = f"{self.folder}/session", ptpm.SessionSettings(MANAGER, CLOCK)
-        with open(path, "wb") as kept:
-            kept.write(ptpm.sealed(ptpm.Requests(ptpm.SessionSettings(MANAGER, CLOCK, 7, target_ports=8)).image(), 1))
-        with ptpm.SessionFile(MANAGER, CLOCK, path) as file, ptpm.Session(settings, file, wait=0) as session:
-            session.ask(self.way, ptpm.Action.SET, "PRIORITY1", 31, timeout=1)
-            self.assertEqual((session.image()[30], session.image()[31:33]), (255, b"\0\7"))
-
     def refusal(self, path: str, octets: bytes) -> Optional[str]:
         """What is said of a file with these octets; None if a session goes on from it."""
         with open(path, "wb") as file:

@@ -199,9 +199,8 @@ static int resume(const struct task *task) {
     }
     task = as_manager(task, &journal);
     take_up(task, &journal);
-    bool is_ending = task->is_letting_go || is_given_up(&journal);
-    if (!is_ending) open_transport(task);
-    int status = is_ending ? give_up_apply(task, &journal) : carry_out(task, &journal);
+    if (!task->is_letting_go) open_transport(task);
+    int status = task->is_letting_go ? give_up_apply(task, &journal) : carry_out(task, &journal);
     leave_journal(&journal);
     return status;
 }

@@ -121,10 +121,16 @@ static void print_time(uint64_t seconds) {
     if (is_time) fputs(text, stdout);
 }
 
+/* How it ended, and how much of the plan it left out. */
+static void print_end(const struct journal *journal, const char *end) {
+    fputs(end, stdout);
+    if (journal->skipped != NULL) printf(" except %zu not reached", count_lines(journal->skipped));
+}
+
 static void print_text_of(const struct journal *journal, const char *end) {
     const char *what = *journal->rolls_back != '\0' ? "rollback" : "apply";
-    printf("%s %s: %s", what, journal->name, end);
-    if (journal->skipped != NULL) printf(" except %zu not reached", count_lines(journal->skipped));
+    printf("%s %s: ", what, journal->name);
+    print_end(journal, end);
     printf(": %zu of %zu done\n", count_done(journal), journal->count);
     for (size_t i = 0; i < journal->count; i++) {
         fputs("  ", stdout);
@@ -282,6 +288,7 @@ static void print_listed_json(const struct journal *journal, const char *file, b
         fputs("\",\"plan\":\"", stdout);
         write_plan(stdout, journal);
         printf("\",\"done\":%zu,\"steps\":%zu", count_done(journal), journal->count);
+        if (journal->skipped != NULL) print_skipped(journal->skipped);
     }
     printf(",\"end\":\"%s\"}", end);
 }
@@ -291,7 +298,9 @@ static void print_listed(const struct journal *journal, const char *file, bool i
         write_begin(stdout, journal);
         putchar(' ');
         write_plan(stdout, journal);
-        printf(" %s, %zu of %zu done: ", end, count_done(journal), journal->count);
+        putchar(' ');
+        print_end(journal, end);
+        printf(", %zu of %zu done: ", count_done(journal), journal->count);
     } else printf("%s: ", end);
     print_text(stdout, (const uint8_t *)file, strlen(file) - strlen(".journal"));
     putchar('\n');

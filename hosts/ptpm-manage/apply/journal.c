@@ -45,13 +45,6 @@ bool is_uncertain(const struct journal *journal, long step) {
     return (mark == PTPM_MARK_BEGUN || mark == PTPM_MARK_LET_GO) && !journal->told[step].is_unsent;
 }
 
-bool is_given_up(const struct journal *journal) {
-    for (size_t i = 0; i < journal->count; i++) {
-        if (ptpm_journal_mark(&journal->kept, (uint16_t)i) == PTPM_MARK_LET_GO) return true;
-    }
-    return false;
-}
-
 void leave_journal(struct journal *journal) {
     ptpm_journal_stop(&journal->kept);
     if (journal->file > 0) close(journal->file);

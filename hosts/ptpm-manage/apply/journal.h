@@ -92,9 +92,8 @@ bool note_end(struct journal *journal, enum ending ending);
 /* Says that it could not, by errno. */
 void say_not_noted(const struct journal *journal);
 
-/* Whether a step was sent, as far as is known, and has no answer; and whether one is given up. */
+/* Whether a step was sent, as far as is known, and has no answer. */
 bool is_uncertain(const struct journal *journal, long step);
-bool is_given_up(const struct journal *journal);
 
 /* What becomes of an apply that ends before its end is noted: it stays open. Without its file no later run finds it. */
 const char *journal_rest(const struct journal *journal);
