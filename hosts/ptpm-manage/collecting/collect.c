@@ -661,6 +661,7 @@ int collect_answers(const struct task *task, const struct collected *what, const
     if (!is_asked) return NOT_ASKED;
     int status = end_of_collection(task, domains);
     if (is_site()) write_untaken(to);
+    if (domains->has_left_out) add_unseen(1);
     write_sureness_note(to, sureness_of_collection());
     return status;
 }
