@@ -308,7 +308,7 @@ def names_of_this_host():
             wire.come_in(answer_to(request))
     printed, said = asking.communicate()
     check("a manager has no identity of a clock of this host", printed == "priority1 100\n" and set(asked) == {own})
-    check("it says its name at first", f"it asks as manager {own}/1, by the MAC of the interface" in said)
+    check("it says its name at first", f"this manager is {own}/1, from the MAC of the interface" in said)
     wire.remove()
 
 

@@ -225,6 +225,18 @@ def junk():
     check("what follows a message is not printed", all(len(line) == 2 * int(line[4:8], 16) for line in site.answers()))
 
 
+def late_without_room():
+    """70 clocks answer under another number, where 64 have room: what has none is counted, and the status says so."""
+    def reply(request):
+        yield answer(request, bytes.fromhex(ME))
+        yield from (changed(answer(request, identity(number)), 30, bytes([request[30] ^ 1])) for number in range(70))
+
+    site = Site(reply, "-t", "1000", "collect")
+    left_out = re.search(r"#ptpm .* left_out=(\d+) ", site.lines()[-1])
+    check("64 answers that came late are written", sum(" taken=late " in line for line in site.lines()) == 64)
+    check("the others are left out", site.status == 3 and f"{left_out[1]} more ignored answers have no line" in site.said() and int(left_out[1]) > 0)
+
+
 def one_identity():
     """Two clocks with one identity, each answer twice; then what differs is printed once more, and no copy."""
     me = bytes.fromhex(ME)
@@ -345,4 +357,4 @@ int main(void) {
 
 
 ATTACKS = [strangers_without_end, plan_of_too_many, strangers_that_are_one, strangers_that_never_end, strangers_in_a_watch,
-           crowds_before_a_known_clock, junk, one_identity, ids_that_lack, signals_to_collect, programs_that_show, refusals_of_memory]
+           crowds_before_a_known_clock, junk, late_without_room, one_identity, ids_that_lack, signals_to_collect, programs_that_show, refusals_of_memory]

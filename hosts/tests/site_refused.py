@@ -110,7 +110,7 @@ def refused_by_site():
     check("status asks, and then reads an inventory", done.returncode == 3 and f"0 {identity(1)} absent\n" in done.stdout and is_asked)
     end, into = os.pipe()
     done, is_asked = at_silent_clock("--once", "--expect", f"/dev/fd/{end}", pass_fds=[end])
-    check("an inventory in a pipe is refused before anything is asked", done.returncode == 2 and "no pipe\n" in done.stderr and not is_asked)
+    check("an inventory in a pipe is refused before anything is asked", done.returncode == 2 and "not a pipe\n" in done.stderr and not is_asked)
     os.close(end)
     os.close(into)
 

@@ -214,7 +214,7 @@ class Task:
                     complain(f"{file.path} is new: the session begins at number {(session.next_number - 1) % 65536}")
                     if self._is_unnamed:
                         who = settings.manager
-                        complain(f"it asks as manager {who}, by the MAC of the interface: a ptpm-clock takes its changes with -m {who}")
+                        complain(f"this manager is {who}, from the MAC of the interface: ptpm-clock accepts its changes with -m {who}")
                 status = _print([report], words.hexadecimal)  # and then it is kept without the request
         except OSError as error:
             if status is None:

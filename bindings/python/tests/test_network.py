@@ -63,7 +63,7 @@ class Network(Folder):
         self.assertEqual(self.asked("-i", "near0", "get", "PRIORITY1", "--target", CLOCK), "priority1 128\n")
         said = self.asked("-i", "near0", "-w", "0", "set", "PRIORITY1", "100", "--target", CLOCK)
         new = r"ptpm: .*/000000fffe000010-1.aabbccfffeddee01 is new: the session begins at number \d+"
-        self.assertRegex(said, rf"^priority1 100\n{new}\nptpm: it asks as manager 000000fffe000010/1, by the MAC of the interface: .*\n$")
+        self.assertRegex(said, rf"^priority1 100\n{new}\nptpm: this manager is 000000fffe000010/1, from the MAC of the interface: .*\n$")
         self.assertEqual(self.asked("-i", "near0", "set", "PRIORITY1", "101", "--target", CLOCK), "priority1 101\n")
         self.assertEqual(self.asked("--udp", "10.9.9.2", "get", "PRIORITY1", "--target", CLOCK), "priority1 101\n")
         self.assertEqual(self.asked("-i", "near0", "survey", "PRIORITY1"), f"{CLOCK}/1 priority1 101\n")

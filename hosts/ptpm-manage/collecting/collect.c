@@ -76,8 +76,6 @@ static size_t let_go;                   /* clocks that are asked no more */
 static struct sureness sureness;
 static bool has_no_transport;
 static uint8_t farthest, farthest_switch;   /* past how many boundary clocks any clock answered, and one with two ports or more */
-static const struct seen_clock *expected;
-static size_t expected_count;
 
 /* What is asked for a plan is read by nobody who wants to know what else was heard. */
 static bool is_site(void) { return collected == &of_site; }
@@ -319,11 +317,6 @@ static bool is_own(const uint8_t clock[8]) {
     return false;
 }
 
-void expect_clocks(const struct seen_clock *clocks, size_t count) {
-    expected = clocks;
-    expected_count = count;
-}
-
 /* A clock that was heard or is expected, and has not answered. */
 struct absent_clock { struct domain domain; uint8_t identity[8]; };
 
@@ -356,7 +349,7 @@ static size_t find_absent(const struct task *task, int round) {
     if (is_absent_let_go || round > task->settings.attempts) return 0;
     const uint8_t *clock;
     for (size_t place = 0; round <= TRIES_OF_HEARD && (clock = heard_clock(place, &domain)) != NULL; place++) add_absent(domain, clock);
-    for (size_t i = 0; i < expected_count; i++) add_absent(expected[i].domain, expected[i].identity);
+    for (size_t place = 0; (clock = expected_clock(place, &domain)) != NULL; place++) add_absent(domain, clock);
     qsort(absent, absent_count, sizeof *absent, compare_absent);
     size_t count = 0;
     for (size_t i = 0; i < absent_count; i++) {
@@ -633,7 +626,7 @@ static void note_stranger(const uint8_t *message, size_t size) { note_untaken(OF
 /* From now on these ids are asked for, and this is where lines go; NULL if nowhere. */
 static void begin(const struct collected *what, FILE *to) {
     collected = what;
-    see_none(expected, is_site() ? expected_count : 0);
+    see_none(is_site());
     output = to;
     sent = 0;
     let_go = 0;
@@ -668,6 +661,7 @@ int collect_answers(const struct task *task, const struct collected *what, const
     if (!is_asked) return NOT_ASKED;
     int status = end_of_collection(task, domains);
     if (is_site()) write_untaken(to);
+    if (domains->has_left_out) add_unseen(1);
     write_sureness_note(to, sureness_of_collection());
     return status;
 }

@@ -14,9 +14,6 @@ struct collected { size_t count; uint16_t ids[MOST_COLLECTED]; };
 /* The six of a site. */
 extern const struct collected of_site;
 
-/* From now on each of these clocks is asked by itself too, if it doesn't answer with the others. They stay the caller's. */
-void expect_clocks(const struct seen_clock *clocks, size_t count);
-
 /* Asks every clock of each of the 256 domains of each sdoId that is there for DEFAULT_DATA_SET, and adds the domains in which one answers.
    Nothing is printed. */
 void add_answering_domains(struct domains *domains, const struct task *task);

@@ -30,6 +30,7 @@ bool is_sdo_asked(const struct domains *domains, uint16_t sdo) { return place_of
 void add_domain(struct domains *domains, struct domain domain) {
     size_t place = place_of_sdo(domains, domain.sdo);
     if (place == MOST_SDOS) {
+        domains->has_left_out = true;
         tell_no_room();
         return;
     }

@@ -39,10 +39,10 @@ static inline void write_domain(char text[DOMAIN_TEXT], struct domain domain) {
     else snprintf(text, DOMAIN_TEXT, "%u@0x%03x", domain.number, domain.sdo & MOST_SDO);
 }
 
-/* Strangers may send in each of 4,096 sdoIds, so there is room for a number of them. */
+/* Strangers may send in each of 4,096 sdoIds, so there is room for a number of them. Those that have none are left out. */
 enum { MOST_SDOS = 8 };
 
-struct domains { size_t sdo_count; uint16_t sdos[MOST_SDOS]; bool is_in[MOST_SDOS][DOMAINS]; };
+struct domains { size_t sdo_count; uint16_t sdos[MOST_SDOS]; bool is_in[MOST_SDOS][DOMAINS], has_left_out; };
 
 /* Finds them. It listens as long as the task says, and with `all` domains, or `all` sdoIds, adds those that are heard. With `all` domains it
    then asks once in each domain, and adds those in which a clock answers. On a Unix socket none comes in: there it takes each of the 256 of

@@ -25,7 +25,7 @@ static struct seen_clock clocks[MOST_CLOCKS];
 static struct expected_clock { uint8_t identity[8]; struct domain domain; uint32_t collections; } expected[MOST_EXPECTED];
 static uint32_t clock_places[CLOCK_PLACES];         /* of a clock, plus one; past MOST_CLOCKS of an expected one that has not answered */
 static struct first_answer answers[ANSWER_PLACES];
-static size_t clock_count, answer_count;
+static size_t clock_count, answer_count, expected_count;
 static size_t known_count, known_to_come, answers_of_known;     /* expected clocks that have room; those that have not answered */
 static size_t first_of_rounds;                      /* the place of the first clock of these rounds */
 static bool is_later_round;
@@ -56,19 +56,34 @@ static size_t place_of_clock(struct domain domain, const uint8_t clock[8]) {
     return place;
 }
 
-void see_none(const struct seen_clock *before, size_t count) {
+void see_none(bool has_expected) {
     if (seed == 0) draw_octets((uint8_t *)&seed, sizeof seed);
     memset(clock_places, 0, sizeof clock_places);
     memset(answers, 0, sizeof answers);
     clock_count = answer_count = known_count = answers_of_known = 0;
     not_kept = 0;
-    for (size_t i = 0; i < count; i++) {
-        expected[i] = (struct expected_clock){ .domain = before[i].domain, .collections = before[i].collections };
-        memcpy(expected[i].identity, before[i].identity, 8);
-        clock_places[place_of_clock(before[i].domain, before[i].identity)] = (uint32_t)(MOST_CLOCKS + 1 + i);
-        known_count += known_count < MOST_CLOCKS && before[i].collections >= KNOWN_AFTER;
+    for (size_t i = 0; has_expected && i < expected_count; i++) {
+        clock_places[place_of_clock(expected[i].domain, expected[i].identity)] = (uint32_t)(MOST_CLOCKS + 1 + i);
+        known_count += known_count < MOST_CLOCKS && expected[i].collections >= KNOWN_AFTER;
     }
     known_to_come = known_count;
+}
+
+/* A clock that was expected has answered in more collections than this one. */
+void expect_seen(bool is_also) {
+    if (!is_also) expected_count = 0;
+    for (size_t place = 0; place < clock_count && expected_count < MOST_EXPECTED; place++) {
+        const struct seen_clock *clock = &clocks[place];
+        if (is_also && clock->collections > 1) continue;
+        expected[expected_count] = (struct expected_clock){ .domain = clock->domain, .collections = clock->collections };
+        memcpy(expected[expected_count++].identity, clock->identity, 8);
+    }
+}
+
+const uint8_t *expected_clock(size_t place, struct domain *domain) {
+    if (place >= expected_count) return NULL;
+    *domain = expected[place].domain;
+    return expected[place].identity;
 }
 
 /* The number of a clock, which is a new one if it wasn't seen yet: from 1 on; 0 if there is no room. */
@@ -225,3 +240,5 @@ double lost_share(void) {
 }
 
 unsigned long unseen_answers(void) { return not_kept; }
+
+void add_unseen(unsigned long count) { not_kept += count; }

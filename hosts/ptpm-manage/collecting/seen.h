@@ -45,8 +45,14 @@ struct seen_answer {
    that differs. Or there is no room for it. */
 enum seen { FIRST_SEEN, DIFFERENT, SEEN_BEFORE, NO_PLACE };
 
-/* From now on no clock was seen. These are the clocks of the collection before, MOST_EXPECTED at most. */
-void see_none(const struct seen_clock *before, size_t count);
+/* From now on no clock was seen. Those that are expected have room, if they are to have it. */
+void see_none(bool has_expected);
+
+/* From now on the clocks of the latest collection are expected; also those that are so by now, if they are to stay. */
+void expect_seen(bool is_also);
+
+/* The clock at a place among those that are expected; NULL after the last. */
+const uint8_t *expected_clock(size_t place, struct domain *domain);
 
 /* Notes an answer. */
 enum seen see_answer(const struct seen_answer *answer);
@@ -86,7 +92,8 @@ bool are_all_present(void);
 size_t late_answers(void);
 double lost_share(void);
 
-/* How many answers found no room. */
+/* How many answers found no room, here or where they are kept otherwise. */
 unsigned long unseen_answers(void);
+void add_unseen(unsigned long count);
 
 #endif

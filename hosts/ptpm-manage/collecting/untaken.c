@@ -82,6 +82,7 @@ void write_untaken(FILE *to) {
         });
     }
     if (without_room > 0) complain("%lu more ignored answers have no line", without_room);
+    add_unseen(without_room);
     count = 0;
     without_room = 0;
 }

@@ -20,7 +20,7 @@ void note_untaken(enum untaken why, const uint8_t *datagram, size_t size);
 /* Says once that a clock answers late, if it is not seen. */
 void tell_late(const struct task *task);
 
-/* Writes a line of each whose clock is not seen, and forgets them. */
+/* Writes a line of each whose clock is not seen, and forgets them. Those that found no room are among the unseen answers then. */
 void write_untaken(FILE *to);
 
 #endif

@@ -58,7 +58,7 @@ static void tell_first_run(const struct run *run) {
     if (is_told || run->task->has_manager || run->task->path != NULL) return;
     is_told = true;
     write_identity(identity, run->task->settings.clock);
-    complain("it asks as manager %s/%u, by the MAC of the interface: a ptpm-clock takes its changes with -m %s/%u", identity,
+    complain("this manager is %s/%u, from the MAC of the interface: ptpm-clock accepts its changes with -m %s/%u", identity,
              run->task->settings.port, identity, run->task->settings.port);
 }
 

@@ -36,34 +36,11 @@ enum { RETURNED = 131072 };
 static struct output_file printed_file, lines_file;
 static bool has_lost_lines;
 
-/* The clocks of the look before, and after them those that the first of two looks has beside them. */
-static struct seen_clock clocks_before[MOST_EXPECTED];
-static size_t count_before;
-
 /* Whether a socket may be made beside it. */
 static bool may_write_beside(const char *path) {
     char folder[PATH_MAX];
     snprintf(folder, sizeof folder, "%s", path);
     return access(dirname(folder), W_OK) == 0;
-}
-
-static bool was_seen(const struct seen_clock *clock) {
-    for (size_t i = 0; i < count_before; i++) {
-        const struct seen_clock *before = &clocks_before[i];
-        if (is_same_domain(before->domain, clock->domain) && memcmp(before->identity, clock->identity, 8) == 0) return true;
-    }
-    return false;
-}
-
-/* From now on the clocks of the latest look are asked by themselves too. Those of earlier ones are so if it is the second of two. */
-static void expect_seen(bool is_second) {
-    if (!is_second) count_before = 0;
-    size_t count = count_before;
-    for (size_t i = 0; i < seen_count(); i++) {
-        if (!is_second || !was_seen(seen_clock(i))) clocks_before[count++] = *seen_clock(i);
-    }
-    if (!is_second) count_before = count;
-    expect_clocks(clocks_before, count);
 }
 
 /* Writes what is known of a look beside its lines: when it ended, what was left out, the ways, and the clocks that answered. */
