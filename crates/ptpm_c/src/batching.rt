@@ -18,8 +18,8 @@ use crate::device::Taken;
 use crate::handle::{Handle, held};
 use crate::kept::Hosted;
 use ptpm_host::{
-    ACT_NOW, HostedClock, ImageRefusal, NO_CLOCK, NO_MEMORY, NO_ROOM, Saved, SavingClock, SavingRefusal, Say,
-    Sent, decide_number, saved_number, take_number, verdict_number,
+    ACT_NOW, HostedClock, ImageRefusal, NO_CLOCK, NO_MEMORY, NO_ROOM, Saved, SavingClock,
+    SavingRefusal, Say, Sent, decide_number, saved_number, take_number, verdict_number,
 };
 use std::alloc::Global;
 use std::mem;

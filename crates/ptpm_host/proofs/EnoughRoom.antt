@@ -1,5 +1,5 @@
 -- Places that are enough for a turn with what the device says are enough for the turn that is taken for it.
-use Rattle.std.proofs.Common.{arith, ◌≡◌, ◌≤◌, ◌<◌, ℕ, Bool, true, false, List, ap, length, refl}
+use Rattle.std.proofs.Common.{arith, ◌≡◌, ◌≤◌, ◌<◌, ℕ, true, false, List, ap, length, refl}
 use Rattle.std.specs.Prelude.{IfSome, is_some}
 use Rattle.ptpm_agent.specs.Agent.{IsTurned}
 use Rattle.ptpm_agent.specs.Turn.{Clock, State, Turned, outbox_of, turn}

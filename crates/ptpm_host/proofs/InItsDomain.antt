@@ -17,7 +17,6 @@ use Rattle.ptpm_data.specs.declared.rights.Rights.{Rights}
 use Rattle.ptpm_data.specs.Changes.{applied, changed_at, changed_by, commanded, set_members, unless_refused}
 use Rattle.ptpm_data.specs.ManagementId.{RowValue, id_table, row_of}
 use Rattle.ptpm_data.specs.Members.{DataSetsValue}
-use Rattle.ptpm_data.specs.Observation.{observed}
 use Rattle.ptpm_data.specs.ObservationBack.{Observation}
 use Rattle.ptpm_data.specs.Refusals.{refusal_of, row_refusal}
 use Rattle.ptpm_data.specs.Request.{RequestValue}
@@ -32,7 +31,7 @@ use Rattle.ptpm_agent.specs.declared.verdict.Verdict.TheVariants as verdicts
 use Rattle.ptpm_agent.specs.Addressing.{is_addressed, is_own, is_request, request_of}
 use Rattle.ptpm_agent.specs.Observing.{moved_state}
 use Rattle.ptpm_agent.specs.Turn.{Clock, State, is_in_domain, judged, look, next_by, numbered_from, turn, turn_by, verdict_at}
-use Rattle.ptpm_agent.proofs.Turns.{reading-message_of, turn-next}
+use Rattle.ptpm_agent.proofs.Turns.{turn-next}
 use Rattle.ptpm_device.specs.Asking.{asked, asked_by, is_asked, is_change, is_new, is_permitted}
 use Rattle.ptpm_device.specs.Saying.{Say, turn_said}
 use Rattle.ptpm_device.proofs.Judged.{judged-asked, turn_said-verdict}

@@ -20,7 +20,7 @@ use Rattle.ptpm_agent.specs.declared.verdict.Verdict.{Verdict}
 use Rattle.ptpm_agent.specs.declared.verdict.Verdict.TheVariants as verdicts
 use Rattle.ptpm_agent.specs.Addressing.{heard_of, request_of}
 use Rattle.ptpm_agent.specs.Turn.{Clock, State, judged, outbox_of, turn}
-use Rattle.ptpm_agent.proofs.MostSent.{both_few, kept_few, rendered_count, turn_few}
+use Rattle.ptpm_agent.proofs.MostSent.{both_few, rendered_count, turn_few}
 use Rattle.ptpm_agent.proofs.Turns.{reading-message_of}
 use Rattle.ptpm_device.specs.Asking.{is_lacked, is_permitted}
 use Rattle.ptpm_device.specs.Saying as says

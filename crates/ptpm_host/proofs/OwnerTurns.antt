@@ -9,7 +9,6 @@ use Rattle.ptpm_codec.specs.Identity.{identity_cmp, same_clock}
 use Rattle.ptpm_codec.specs.Reading.{message_of}
 use Rattle.ptpm_data.specs.declared.rights.Rights.{Rights}
 use Rattle.ptpm_data.specs.Changes.{changed_by}
-use Rattle.ptpm_data.specs.Members.{DataSetsValue}
 use Rattle.ptpm_data.specs.Replies.{reply_to}
 use Rattle.ptpm_data.specs.Reply.{ReplyValue}
 use Rattle.ptpm_data.specs.Rights.{all_rights, no_rights}
@@ -24,9 +23,9 @@ use Rattle.ptpm_agent.specs.declared.verdict.Verdict.TheVariants as verdicts
 use Rattle.ptpm_agent.specs.Addressing.{heard_of, is_addressed, is_own, is_request, request_of}
 use Rattle.ptpm_agent.specs.Agent.{IsTurned}
 use Rattle.ptpm_agent.specs.Forwarding.{forwarded}
-use Rattle.ptpm_agent.specs.Turn.{Clock, State, Turned, carried_out, is_repeat, judged, look, next_by, outbox_of, reply_by, reply_messages, turn, turn_by, verdict_at}
+use Rattle.ptpm_agent.specs.Turn.{Clock, State, Turned, carried_out, is_repeat, judged, look, next_by, reply_by, reply_messages, turn, turn_by, verdict_at}
 use Rattle.ptpm_agent.proofs.Turns.{forwarded-copy, reading-message_of, turn-message, turned_new, turned_other}
-use Rattle.ptpm_host.specs.Changing.{owned_at, owner_by, owner_clock, owner_turn, owner_turned, owner_verdict}
+use Rattle.ptpm_host.specs.Changing.{owned_at, owner_by, owner_clock, owner_turn, owner_verdict}
 
 pub owner_turned_is : (c k : Clock) (s t next after : State) (port : ℕ) (datagram : List ℕ) (v : Message) (w verdict : Verdict) (out : List (ℕ × List ℕ))
     → message_of datagram ≡ Some v

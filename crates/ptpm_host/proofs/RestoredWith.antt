@@ -1,5 +1,5 @@
 -- A clock that goes on from an image that may have what is under way.
-use Rattle.std.proofs.Common.{arith, ◌≡◌, ◌∙◌, ◌≤◌, ◌+◌, ◌&&◌, ◌==◌, Bool, true, false, ap, refl, subst, sym, List, ◌++◌, ℕ, length, length-append, All, Option, Some, None, Result, Ok, Err}
+use Rattle.std.proofs.Common.{arith, ◌≡◌, ◌∙◌, ◌≤◌, ◌&&◌, ◌==◌, Bool, true, false, ap, refl, subst, sym, List, ℕ, length, All, Option, Some, None, Result, Ok, Err}
 use Rattle.std.specs.Prelude.{IfErr, IfOk, MatchResult, bytes_eq, nat_le, take}
 use Rattle.std.specs.FinMap.{entries}
 use Rattle.std.proofs.lemmas.Bool.{false≢true, le-leb}
@@ -8,9 +8,8 @@ use Rattle.ptpm_codec.specs.Layout.{octet}
 use Rattle.ptpm_manager.specs.Image.{image_head, image_version, mark}
 use Rattle.ptpm_table.specs.Entries.{is_known}
 use Rattle.ptpm_table.specs.Managers.{identities}
-use Rattle.ptpm_saved.specs.declared.error.RestoreError.{RestoreError}
 use Rattle.ptpm_saved.specs.declared.error.RestoreError.TheVariants as images
-use Rattle.ptpm_saved.specs.Image.{SavedClock, body_image, saved_image, saved_of}
+use Rattle.ptpm_saved.specs.Image.{SavedClock, saved_image, saved_of}
 use Rattle.ptpm_saved.specs.Restoring.{IsImageOf, IsRefused}
 use Rattle.ptpm_saved.specs.SavingClock.{Datagram}
 use Rattle.ptpm_host.specs.declared.clock.HostedClock.{HostedClock}

@@ -7,16 +7,14 @@ use Rattle.ptpm_agent.specs.declared.verdict.Verdict.TheVariants as verdicts
 use Rattle.ptpm_agent.specs.Agent.{IsTurned}
 use Rattle.ptpm_agent.specs.Turn.{Clock, State, outbox_of}
 use Rattle.ptpm_data.specs.Members.{DataSetsValue}
-use Rattle.ptpm_data.specs.ObservationBack.{Observation}
 use Rattle.ptpm_device.specs.Saying.{Say, turn_said}
-use Rattle.ptpm_saved.specs.Batching.{Call, Confirms, Handles, calls, is_held, live, shown, waits}
+use Rattle.ptpm_saved.specs.Batching.{Confirms, Handles, is_held, live, shown, waits}
 use Rattle.ptpm_saved.specs.BatchingClock.{is_of_manager}
-use Rattle.ptpm_saved.specs.Saving.{Process}
 use Rattle.ptpm_saved.specs.SavingClock.{is_new}
 use Rattle.ptpm_host.specs.declared.clock.HostedClock.{HostedClock}
 use Rattle.ptpm_host.specs.declared.saving_clock.SavingClock.{SavingClock}
 use Rattle.ptpm_host.specs.Clock.{clock_in, state_in}
-use Rattle.ptpm_host.specs.Coming.{ClockBatch, ClockState, Coming, Heard, coming_process, datagram_in, is_held_by, messages_for, turn_of}
+use Rattle.ptpm_host.specs.Coming.{ClockBatch, ClockState, Coming, Heard, coming_process, datagram_in, is_held_by, turn_of}
 use Rattle.ptpm_host.specs.KeptBatch.{IsKept, KeptBatch, LeadsTo, kept_confirmed, kept_held}
 use Rattle.ptpm_host.specs.Queue.{queued}
 use Rattle.ptpm_host.specs.SavingClock.{called_at, clock_state_in, kept_of, request_under_way, shown_sets, shown_state}

@@ -32,8 +32,6 @@ fn copied_by_image(alloc: Global, sets: &DataSets) -> Result<DataSets, OutOfMemo
         unreachable!()
     };
     let restored = DataSets::restored(alloc, &image)?;
-    let Some(copy) = restored else {
-        unreachable!()
-    };
+    let Some(copy) = restored else { unreachable!() };
     Ok(copy)
 }

@@ -679,11 +679,7 @@ impl SavingClock {
     /// Leaves the clock's image at the head of `octets`, as `HostedClock::image` does. Answers how many octets it has, and its
     /// token, by which `saved` knows it. No earlier image counts from then on. Takes memory for more than `INLINE_PORTS` ports alone,
     /// for the copy of the data sets. If it is refused, nothing changes.
-    pub fn image(
-        &mut self,
-        alloc: Global,
-        octets: &mut [u8],
-    ) -> Result<(usize, u64), ImageRefusal>
+    pub fn image(&mut self, alloc: Global, octets: &mut [u8]) -> Result<(usize, u64), ImageRefusal>
         ensures called { IfOk result (λ _. (b : ClockBatch) (count : ℕ)
             → IsAsBatch self.old b count → IsAsBatch self.new b (length b.since)) }
         ensures room { OnOk result

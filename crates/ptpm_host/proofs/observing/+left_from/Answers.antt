@@ -16,7 +16,7 @@ overflow_add-result t c =
     omega (
       arith,
       in_word c.args.count _ few
-      (twice_fits c.args.count (from_bool c.contains.result) c.left_from.result some (bit_small c.contains.result) c.left_from.ensures.small),
+          (twice_fits c.args.count (from_bool c.contains.result) c.left_from.result some (bit_small c.contains.result) c.left_from.ensures.small),
     )
 
 pub returns-clause-small : goal.returns-clause-small

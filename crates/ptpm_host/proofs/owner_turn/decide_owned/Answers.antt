@@ -1,4 +1,4 @@
-use Rattle.std.proofs.Common.{arith, [], ◌≡◌, ◌∙◌, ℕ, List, ap, length, refl, rules}
+use Rattle.std.proofs.Common.{[], ◌≡◌, ◌∙◌, ap, refl, rules}
 use Rattle.ptpm_codec.specs.Message.{reply_action}
 use Rattle.ptpm_data.specs.Replies.{reply_to}
 use Rattle.ptpm_data.specs.Rights.{all_rights}

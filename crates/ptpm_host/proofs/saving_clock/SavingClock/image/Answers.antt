@@ -1,5 +1,4 @@
-use Rattle.std.proofs.Common.{◌≡◌, ◌-◌, ◌∙◌, ap, arith, false, length, rules, subst, sym, true}
-use Rattle.std.proofs.lemmas.Grind.{common_steps}
+use Rattle.std.proofs.Common.{◌≡◌, ◌-◌, ◌∙◌, ap, false, length, rules, subst, sym, true}
 use Rattle.ptpm_host.specs.Clock.{clock_in}
 use Rattle.ptpm_host.specs.Coming.{coming_process, is_held_by}
 use Rattle.ptpm_host.specs.KeptBatch.{IsKept}
