@@ -69,8 +69,9 @@ static const char help[] =
     "  --no-forward        nothing is forwarded between the ports\n"
     "  --transit           management messages whose TLVs the clock does not read are forwarded too\n"
     "  --rate N            how many messages a port forwards a second, and how many answers it sends to anyone but\n"
-    "                      managers (1000). Each address has a few more\n"
-    "  --manager-rate N    how many requests of managers a port takes a second (100). Each address has a few more\n"
+    "                      managers (1000). Each address also has a few of its own\n"
+    "  --manager-rate N    how many requests of managers a port takes a second (100). Each address also has a few\n"
+    "                      of its own\n"
     "  --any-source        datagrams from addresses that are not on the link are heard too\n"
     "  --ttl-security      unicast with a TTL below 255 is ignored, since a router has forwarded it\n"
     "\n"
@@ -134,7 +135,7 @@ static gid_t group_named(void) {
     return found->gr_gid;
 }
 
-/* Whether there is such a user; whom the program then becomes. */
+/* Whether there is such a user. If so, the program becomes that one. */
 static bool find_user(struct privileges *privileges, const char *name) {
     const struct passwd *found = getpwnam(name);
     if (found == NULL) return false;
@@ -310,7 +311,9 @@ static void refuse_alone(const struct options *options) {
 static void refuse_port(const struct options *options) {
     for (size_t i = 0; i < options->value_count; i++) {
         unsigned port = options->values[i].port;
-        if (port > ports_of(options)) refuse_command_line("--give: there is no port %u, but %zu", port, ports_of(options));
+        if (port > ports_of(options)) {
+            refuse_command_line("--give: there is no port %u; the number of ports is %zu", port, ports_of(options));
+        }
     }
 }
 

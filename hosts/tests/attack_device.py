@@ -362,8 +362,9 @@ def values_of_ports():
     check("it ends in order", clock.end()[0] == 0)
     for wire in wires:
         wire.remove()
-    for given, said in [("2014/65", "a port has a number from 1 to 64"), ("2014/", "a port has a number"), ("2014/2", "there is no port 2, but 1"),
-                        ("c000", "it is an id of ptp4l"), ("TIME_STATUS_NP", "it is an id of ptp4l"), ("2005", "the clock has a value of its own")]:
+    for given, said in [("2014/65", "a port has a number from 1 to 64"), ("2014/", "a port has a number"),
+                        ("2014/2", "there is no port 2; the number of ports is 1"), ("c000", "it is an id of ptp4l"),
+                        ("TIME_STATUS_NP", "it is an id of ptp4l"), ("2005", "the clock has a value of its own")]:
         clock = Clock("-u", path, "--give", given, "value", ME)
         check(f"{given} is refused", clock.end(None)[0] == 2 and said in clock.text())
     for one, other in [("2014", "2014/1"), ("2014/1", "2014")]:

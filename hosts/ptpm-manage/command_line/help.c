@@ -116,9 +116,9 @@ static const char asking_text[] =
     "                          Ethernet. With -m it does so for everything except a survey\n"
     "      --give-up           abandons the unanswered request of an earlier run, which is otherwise\n"
     "                          sent again first\n"
-    "  -w, --wait MILLIS       how long it waits if there is no such file, in milliseconds (3000)\n"
+    "  -w, --wait MILLIS       how many milliseconds a session without a file waits before it asks (3000)\n"
     "  -a, --attempts N        how often a request is sent at most, 1 to 255 (30). For collect and status,\n"
-    "                          how often a clock is asked for what it lacks (10)\n"
+    "                          how often a clock is asked for what it has not answered (10)\n"
     "  -t, --timeout MILLIS    how long each answer is waited for, in milliseconds (200)\n"
     "  -n, --times N           makes the request N times, for trials (1)\n"
     "  -q, --quiet             shows no progress. Without it, progress is shown on a terminal\n"
@@ -127,11 +127,11 @@ static const char asking_text[] =
     "\n";
 
 static const char help_end[] =
-    "Exit status: 0 answered, and of status nothing was found. 1 the clock refuses, or there are findings.\n"
+    "Exit status: 0 answered; for status, no findings. 1 the clock refuses, or there are findings.\n"
     "2 nothing was asked or sent; 3 no answer came; 4 the answer could not be printed. 5 a set was\n"
-    "answered with a different value. 128 and its number: a signal ended it.\n"
+    "answered with a different value. 128 plus a signal's number: that signal ended it.\n"
     "\n"
-    "Of plan, apply, resume and rollback: 0 done, or nothing to do; 1 refused by a clock. 2 the command\n"
+    "For plan, apply, resume and rollback: 0 done, or nothing to do; 1 refused by a clock. 2 the command\n"
     "line or FILE is refused; 3 nothing was sent. 4 a file could not be read or written; 5 somebody else\n"
     "changed a value; 6 the apply is open, for resume. 7 done in part; 8 there are changes.\n";
 
