@@ -103,8 +103,10 @@ static void undertake(struct ptpm_clock *clock, const struct base *base) {
     check(ptpm_clock_saving(clock, PLACES) == PTPM_SAVING && ptpm_clock_image_of(clock, image, sizeof image, &size, &token) == PTPM_SAVED
           && ptpm_clock_saved(clock, token) == PTPM_SAVED, "a clock that saves");
     if (base->manager_count == 0) return;
-    size = draw_request(request, base->managers, NEW, base->port_count);
-    ptpm_clock_undertake(clock, 1, request, size, &asked);
+    for (int i = 0; i < REQUESTS; i++) {
+        size = draw_request(request, base->managers, (uint16_t)(NEW + i), base->port_count);
+        if (ptpm_clock_undertake(clock, 1, request, size, &asked) == PTPM_ASKED_CHANGE) return;
+    }
 }
 
 static void draw_base(struct base *base, size_t place) {
