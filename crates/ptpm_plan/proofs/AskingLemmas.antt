@@ -1,6 +1,7 @@
--- The rows of one wish more, and of one table more.
-use Rattle.std.proofs.Common.{◌≡◌, ℕ, ◌+◌, ◌<◌, List, [], ◌∷◌, ◌++◌, length, take, get_or, map, flat_map, fold, ap, sym, refl, ◌∙◌, append_assoc, append-nil}
+-- The rows of one wish more, of one table more, and of one port more.
+use Rattle.std.proofs.Common.{◌≡◌, ℕ, zero, suc, arith, ◌+◌, ◌<◌, List, [], ◌∷◌, ◌++◌, length, take, get_or, map, flat_map, fold, ap, sym, refl, ◌∙◌, append_assoc, append-nil}
 use Rattle.std.proofs.lemmas.List.{take_more}
+use Rattle.std.specs.List.{range_with_len}
 use Rattle.std.proofs.lemmas.List.Sums.{fold_push, fold-append}
 use Rattle.ptpm_plan.specs.Asking.{row_for, rows_of_wishes}
 use Rattle.ptpm_plan.specs.Rows.{with_row}
@@ -35,3 +36,22 @@ flat_more f rows xs i x below is =
     ap (λ ys. fold with_row rows (flat_map f ys)) more
     ∙ ap (fold with_row rows) (flat_map_push f (take i xs) x)
     ∙ fold-append with_row rows (flat_map f (take i xs)) (f x)
+
+range_more : (a n : ℕ) → range_with_len a (suc n) ≡ range_with_len a n ++ (a + n) ∷ []
+range_more a zero = let here : a ≡ a + 0 = omega arith in ap (λ k. k ∷ []) here
+range_more a (suc n) =
+    let there : (a + 1) + n ≡ a + suc n = omega arith in
+    ap (λ (xs : List ℕ). a ∷ xs) (range_more (a + 1) n ∙ ap (λ k. range_with_len (a + 1) n ++ k ∷ []) there)
+
+-- the rows of one port more
+pub ports_more : (f : ℕ → List Row) (rows : List Row) (place : ℕ)
+    → fold with_row rows (flat_map f (range_with_len 1 (place + 1)))
+    ≡ fold with_row (fold with_row rows (flat_map f (range_with_len 1 place))) (f (place + 1))
+ports_more f rows place =
+    let on : place + 1 ≡ suc place = omega arith in
+    let next : 1 + place ≡ place + 1 = omega arith in
+    let more : range_with_len 1 (place + 1) ≡ range_with_len 1 place ++ (place + 1) ∷ []
+    = ap (range_with_len 1) on ∙ (range_more 1 place ∙ ap (λ k. range_with_len 1 place ++ k ∷ []) next) in
+    ap (λ ys. fold with_row rows (flat_map f ys)) more
+    ∙ ap (fold with_row rows) (flat_map_push f (range_with_len 1 place) (place + 1))
+    ∙ fold-append with_row rows (flat_map f (range_with_len 1 place)) (f (place + 1))

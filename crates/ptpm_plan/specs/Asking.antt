@@ -1,6 +1,6 @@
 -- What the tables of a plan file ask for, member by member.
-use Rattle.std.specs.Prelude.{ℕ, ◌==◌, Bool, true, false, not, ◌&&◌, List, [], ◌++◌, flat_map, map, Option, Some, None}
-use Rattle.std.specs.List.{list_any}
+use Rattle.std.specs.Prelude.{ℕ, ◌==◌, nat_lt, Bool, true, false, not, ◌&&◌, if◌then◌else◌, List, [], ◌++◌, flat_map, map, Option, Some, None}
+use Rattle.std.specs.List.{list_any, range_with_len}
 use Rattle.ptpm_codec.specs.Identity.{same_clock}
 use Rattle.ptpm_codec.specs.declared.identity.ClockIdentity.{ClockIdentity}
 use Rattle.ptpm_plan.specs.Naming.{clock_named}
@@ -14,11 +14,11 @@ use Rattle.ptpm_plan.specs.declared.rows.Row.{Row}
 use Rattle.ptpm_plan.specs.declared.subject.Subject.{Subject}
 use Rattle.ptpm_plan.specs.declared.surveyed.Surveyed.{Surveyed}
 use Rattle.ptpm_plan.specs.declared.surveyed.SurveyedClock.{SurveyedClock}
-use Rattle.ptpm_plan.specs.declared.surveyed.SurveyedPort.{SurveyedPort}
 use Rattle.ptpm_plan.specs.declared.wish.ClockWishes.{ClockWishes}
 use Rattle.ptpm_plan.specs.declared.wish.EveryWishes.{EveryWishes}
 use Rattle.ptpm_plan.specs.declared.wish.PlanFile.{PlanFile}
 use Rattle.ptpm_plan.specs.declared.wish.PortWishes.{PortWishes}
+use Rattle.ptpm_plan.specs.declared.wish.Target.{Target}
 use Rattle.ptpm_plan.specs.declared.wish.Wish.{Wish}
 
 -- ---- a table of a clock
@@ -66,13 +66,14 @@ unnamed_of answers clocks c = unnamed_if c (clock_named clocks answers c.domain 
 
 -- ---- a table of every clock
 
-abbrev pub is_one : ClockIdentity → Named → Bool
-is_one clock (names.One other) = same_clock other clock
-is_one clock (names.Other count) = false
+-- it is this clock, or may be: what is named is not one clock
+abbrev pub may_be : ClockIdentity → Named → Bool
+may_be clock (names.One other) = same_clock other clock
+may_be clock (names.Other count) = true
 
--- `except` names a clock
+-- `except` names a clock, or may name it
 abbrev pub is_left_out : List Answer → List SurveyedClock → EveryWishes → ClockIdentity → Bool
-is_left_out answers clocks e clock = list_any (λ t. is_one clock (clock_named clocks answers e.domain t)) e.except.items
+is_left_out answers clocks e clock = list_any (λ t. may_be clock (clock_named clocks answers e.domain t)) e.except.items
 
 -- a clock of the domain that `except` does not name
 abbrev pub is_included : List Answer → List SurveyedClock → EveryWishes → SurveyedClock → Bool
@@ -81,33 +82,55 @@ is_included answers clocks e c = (c.domain == e.domain) && not (is_left_out answ
 abbrev pub of_every : EveryWishes → SurveyedClock → Of
 of_every e c = record { place = e.place; domain = e.domain; clock = c.identity }
 
-abbrev pub is_port_of : Of → SurveyedPort → Bool
-is_port_of of p = (p.domain == of.domain) && same_clock p.clock of.clock
+-- numberPorts of a clock, if a session can name each of these ports: it names ports 1 to 255
+abbrev pub ports_known : Option ℕ → ℕ
+ports_known None = 0
+ports_known (Some ports) = if nat_lt 255 ports then 0 else ports
+
+abbrev pub rows_of_every_port : List Answer → Of → EveryWishes → ℕ → List Row
+rows_of_every_port answers of e port = rows_of_wishes answers of port e.port_wishes.items
+
+abbrev pub rows_of_every_clock : List Answer → EveryWishes → SurveyedClock → List Row
+rows_of_every_clock answers e c =
+    rows_of_wishes answers (of_every e c) 0 e.wishes.items
+    ++ flat_map (rows_of_every_port answers (of_every e c) e) (range_with_len 1 (ports_known c.number_ports))
 
 abbrev pub rows_if : Bool → List Row → List Row
 rows_if true rows = rows
 rows_if false rows = []
 
-abbrev pub rows_of_every_port : List Answer → Of → EveryWishes → SurveyedPort → List Row
-rows_of_every_port answers of e p = rows_if (is_port_of of p) (rows_of_wishes answers of p.number e.port_wishes.items)
-
-abbrev pub rows_of_every_clock : List Answer → Surveyed → EveryWishes → SurveyedClock → List Row
-rows_of_every_clock answers s e c =
-    rows_of_wishes answers (of_every e c) 0 e.wishes.items
-    ++ flat_map (rows_of_every_port answers (of_every e c) e) s.ports.items
-
-abbrev pub rows_if_included : List Answer → Surveyed → EveryWishes → SurveyedClock → List Row
-rows_if_included answers s e c = rows_if (is_included answers s.clocks.items e c) (rows_of_every_clock answers s e c)
+abbrev pub rows_if_included : List Answer → List SurveyedClock → EveryWishes → SurveyedClock → List Row
+rows_if_included answers clocks e c = rows_if (is_included answers clocks e c) (rows_of_every_clock answers e c)
 
 -- what is asked of every clock, and of each of its ports
-abbrev pub rows_of_every : List Answer → Surveyed → EveryWishes → List Row
-rows_of_every answers s e = flat_map (rows_if_included answers s e) s.clocks.items
+abbrev pub rows_of_every : List Answer → List SurveyedClock → EveryWishes → List Row
+rows_of_every answers clocks e = flat_map (rows_if_included answers clocks e) clocks
 
-abbrev pub rows_of_all : List Answer → Surveyed → List EveryWishes → List Row
-rows_of_all answers s es = flat_map (rows_of_every answers s) es
+abbrev pub rows_of_all : List Answer → List SurveyedClock → List EveryWishes → List Row
+rows_of_all answers clocks es = flat_map (rows_of_every answers clocks) es
+
+-- ---- what keeps such a table from being planned as a whole
+
+abbrev pub is_not_one : Named → Bool
+is_not_one (names.One clock) = false
+is_not_one (names.Other count) = true
+
+-- what `except` names is not one clock
+abbrev pub is_unclear : List Answer → List SurveyedClock → EveryWishes → Target → Bool
+is_unclear answers clocks e t = is_not_one (clock_named clocks answers e.domain t)
+
+abbrev pub asks_some : List Wish → Bool
+asks_some [] = false
+asks_some (w ∷ ws) = true
+
+-- something is asked of the ports of a clock, and these are not known
+abbrev pub lacks_ports : List Answer → List SurveyedClock → EveryWishes → SurveyedClock → Bool
+lacks_ports answers clocks e c =
+    asks_some e.port_wishes.items && (is_included answers clocks e c && (ports_known c.number_ports == 0))
 
 -- ---- the file
 
 -- what a file asks for: its clocks first
 abbrev pub rows_of_file : List Answer → Surveyed → PlanFile → List Row
-rows_of_file answers s f = rows_of_clocks answers s.clocks.items f.clocks.items ++ rows_of_all answers s f.every.items
+rows_of_file answers s f =
+    rows_of_clocks answers s.clocks.items f.clocks.items ++ rows_of_all answers s.clocks.items f.every.items

@@ -1,6 +1,8 @@
 -- What comes of a plan.
-use Rattle.std.specs.Prelude.{ℕ, ◌==◌, nat_lt, Bool, true, false, not, ◌||◌, if◌then◌else◌, count_by, List, [], ◌∷◌, Option, None, Some}
+use Rattle.std.specs.Prelude.{ℕ, ◌+◌, ◌==◌, nat_lt, Bool, true, false, not, ◌||◌, if◌then◌else◌, count_by, List, [], ◌∷◌, Option, None, Some}
 use Rattle.std.specs.List.{list_any}
+use Rattle.ptpm_plan.specs.Asking.{is_unclear, lacks_ports}
+use Rattle.ptpm_plan.specs.declared.answer.Answer.{Answer}
 use Rattle.ptpm_plan.specs.declared.asking.Unnamed.{Unnamed}
 use Rattle.ptpm_plan.specs.declared.change.Change.{Change}
 use Rattle.ptpm_plan.specs.declared.every.FoundClocks.{FoundClocks}
@@ -40,16 +42,22 @@ abbrev pub is_in : ℕ → SurveyedClock → Bool
 is_in domain c = c.domain == domain
 
 -- all that answered in its domain, those that it leaves out among them
-abbrev pub found_by : List SurveyedClock → EveryWishes → FoundClocks
-found_by clocks e = record { domain = e.domain; count = count_by (is_in e.domain) clocks; expected = e.clocks }
+abbrev pub found_by : List Answer → List SurveyedClock → EveryWishes → FoundClocks
+found_by answers clocks e = record {
+  domain = e.domain;
+  count = count_by (is_in e.domain) clocks;
+  expected = e.clocks;
+  unclear = count_by (is_unclear answers clocks e) e.except.items;
+  uncounted = count_by (lacks_ports answers clocks e) clocks;
+}
 
 abbrev pub is_not_of : ℕ → Option ℕ → Bool
 is_not_of count None = count == 0
 is_not_of count (Some expected) = not (count == expected)
 
--- another number than the table says, or none
+-- another number than the table says, or none; or not all that it asks for can be planned
 abbrev pub is_short : FoundClocks → Bool
-is_short f = is_not_of f.count f.expected
+is_short f = is_not_of f.count f.expected || nat_lt 0 (f.unclear + f.uncounted)
 
 -- ---- the status
 

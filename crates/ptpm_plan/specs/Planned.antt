@@ -17,4 +17,4 @@ pub record IsPlanOf (file : PlanFile) (answers : List Answer) (p : Plan) : Type 
   pub rows : p.rows.items ≡ fold with_row [] (rows_of_file answers p.surveyed file)
   pub changes : IsPermutation (filter_map change_of p.rows.items) p.changes.items
   pub unnamed : p.unnamed.items ≡ filter_map (unnamed_of answers p.surveyed.clocks.items) file.clocks.items
-  pub found : p.found.items ≡ map (found_by p.surveyed.clocks.items) file.every.items
+  pub found : p.found.items ≡ map (found_by answers p.surveyed.clocks.items) file.every.items

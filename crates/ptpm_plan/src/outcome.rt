@@ -124,7 +124,7 @@ impl fmt::Display for Why<'_> {
 }
 
 /// A line for each table that names no clock, and for each clock that gave no answer. So has each table of every clock that found
-/// another number than it says, or none. A last one is of the answers that were left out.
+/// another number than it says, or none, or that can't be planned as a whole. A last one is of the answers that were left out.
 pub(crate) fn not_reached(
     alloc: Global,
     plan: &Plan,
@@ -167,9 +167,18 @@ impl fmt::Display for FoundClocks {
         let clocks = Counted(self.count, "clock");
         write!(f, "{clocks} found in domain {}", self.domain)?;
         match self.expected {
-            Some(expected) if self.is_short() => write!(f, ", not {expected}"),
-            _ => Ok(()),
+            Some(expected) if self.is_other_count() => write!(f, ", not {expected}")?,
+            _ => {}
         }
+        if 0 < self.unclear {
+            let names = Counted(self.unclear, "name");
+            write!(f, "; {names} in `except` not of one clock")?;
+        }
+        if 0 < self.uncounted {
+            let clocks = Counted(self.uncounted, "clock");
+            write!(f, "; {clocks} with ports not known")?;
+        }
+        Ok(())
     }
 }
 

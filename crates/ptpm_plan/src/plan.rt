@@ -63,7 +63,7 @@ impl Plan {
         let rows = rows_of_file(alloc, file, answers, &surveyed)?;
         let clocks = surveyed.clocks.as_slice();
         let unnamed = all_unnamed(alloc, answers, clocks, file.clocks.as_slice())?;
-        let found = all_found(alloc, clocks, file.every.as_slice())?;
+        let found = all_found(alloc, answers, &surveyed, file.every.as_slice())?;
         let changes = changes_of(alloc, rows.as_slice())?;
         let changes = in_order(alloc, changes, &surveyed)?;
         let best = best_clocks(alloc, changes.as_slice(), &surveyed)?;
@@ -116,17 +116,23 @@ fn all_unnamed(
         .collect(alloc)
 }
 
-/// How many clocks each table of every clock found.
+/// What each table of every clock found.
 fn all_found(
     alloc: Global,
-    clocks: &[SurveyedClock],
+    answers: &Answers,
+    surveyed: &Surveyed,
     tables: &[EveryWishes],
 ) -> Result<Vec<FoundClocks>, AllocError>
-    ensures { IfOk result (λ v. v.items ≡ map (found_by clocks.now) tables.now) }
+    ensures { IfOk result (λ v. v.items ≡ map (found_by answers.now.list.items surveyed.now.clocks.items) tables.now) }
 {
+    let known = Known {
+        alloc,
+        answers,
+        surveyed,
+    };
     tables
         .iter()
-        .map(|table| FoundClocks::by(clocks, table))
+        .map(|table| known.found_by(table))
         .collect(alloc)
 }
 
