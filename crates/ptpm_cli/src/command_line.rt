@@ -157,7 +157,7 @@ static DRAW: [Argument; 2] = [
     ),
 ];
 
-/// What says how a look at a site is judged and shown.
+/// What says how a poll of a site is judged and shown.
 static LOOK: [Argument; 14] = [
     JSON,
     Argument("draw", Nothing, "Draws the tree, as a picture in SVG"),
@@ -232,7 +232,7 @@ static SITE: [Argument; 2] = [
     Argument(
         "before",
         Text("FILE"),
-        "What may be there only for a moment counts if the lines in FILE, of the look before, show it too",
+        "What may be there only for a moment counts if the lines in FILE, of the poll before, show it too",
     ),
 ];
 
@@ -250,17 +250,17 @@ static MONITOR: [Argument; 8] = [
     Argument(
         "once",
         Nothing,
-        "What may pass is not looked at a second time",
+        "A finding that may be momentary is not polled a second time",
     ),
     Argument(
         "for",
         Number("MS", U64),
-        "Looks again for MS milliseconds, and shows what all these looks find",
+        "Polls again for MS milliseconds, and shows what all these polls find",
     ),
     Argument(
         "watch",
         Number("MS", U64),
-        "Looks again and again, MS milliseconds after each look",
+        "Polls again and again, MS milliseconds after each poll",
     ),
     Argument(
         "forget",

@@ -21,7 +21,7 @@ pub(crate) struct SiteWords<'a> {
     pub(crate) profile: Option<Profile>,
     /// The path of an inventory.
     pub(crate) expect: Option<&'a str>,
-    /// The path of the lines of the look before.
+    /// The path of the lines of the poll before.
     pub(crate) before: Option<&'a str>,
     pub(crate) ignored: Ignored,
     /// Whether the text has all lines.
@@ -63,16 +63,16 @@ pub(crate) fn show_site<F: Files, R: Read, O: Write, E: Write>(
         }
     }
     if let Some(path) = words.before {
-        known.before = look_at(alloc, files, path, err)?;
+        known.before = poll_at(alloc, files, path, err)?;
         if known.before.is_none() {
-            return end_refused(words.shown, "the look before", out);
+            return end_refused(words.shown, "the poll before", out);
         }
     }
     show(alloc, words, &known, reader, out)
 }
 
-/// The look whose lines are at a path. If there is none, `err` has a line that says why.
-fn look_at<F: Files, E: Write>(
+/// The poll whose lines are at a path. If there is none, `err` has a line that says why.
+fn poll_at<F: Files, E: Write>(
     alloc: Global,
     files: &F,
     path: &str,

@@ -32,7 +32,7 @@ const SETTLE: u32 = 10;
 /// How many milliseconds a clock is gone without `--forget`.
 const FORGET: u64 = 86_400_000;
 
-/// The findings that say what differs from the look before.
+/// The findings that say what differs from the poll before.
 const CHANGES: &str = "changed,grandmaster_changed";
 
 /// What the words ask for.
@@ -250,7 +250,7 @@ fn site_words<'a>(alloc: Global, values: &ArgMatches<'a>) -> Result<SiteWords<'a
 
 fn monitor_settings<'a>(alloc: Global, values: &ArgMatches<'a>) -> Result<Settings<'a>, NoTask> {
     Ok(Settings {
-        judging: look_judging(alloc, values)?,
+        judging: poll_judging(alloc, values)?,
         times: Times {
             watch: values.get_one("watch"),
             duration: values.get_one("for").unwrap_or(0),
@@ -264,8 +264,8 @@ fn monitor_settings<'a>(alloc: Global, values: &ArgMatches<'a>) -> Result<Settin
     })
 }
 
-/// How the looks of `monitor` are judged and shown.
-fn look_judging<'a>(alloc: Global, values: &ArgMatches<'a>) -> Result<Judging<'a>, NoTask> {
+/// How the polls of `monitor` are judged and shown.
+fn poll_judging<'a>(alloc: Global, values: &ArgMatches<'a>) -> Result<Judging<'a>, NoTask> {
     let mut ignored_at_first = site_ignored(alloc, values)?;
     if !ignored_at_first.add(CHANGES)? {
         return Err(NoTask::BadFinding);
