@@ -24,10 +24,10 @@ use Rattle.ptpm_apply.specs.declared.stage.Then.{Then}
 use Rattle.ptpm_apply.specs.declared.stage.Then.TheVariants as thens
 use Rattle.ptpm_apply.specs.declared.standing.Standing.{Standing}
 use Rattle.ptpm_apply.specs.declared.standing.Standing.TheVariants as standings
-use Rattle.ptpm_apply.specs.Going.{AreDone, ChangingBy, EndsBy, FailingBy, Going, Looks, Checks, Reads, Leaves, Verifies, Ends, Waits, Settles}
+use Rattle.ptpm_apply.specs.Going.{AreDone, BegunIn, ChangingBy, EndsBy, FailingBy, Going, Looks, Checks, Reads, Leaves, Verifies, Ends, Waits, Settles}
 use Rattle.ptpm_apply.specs.Moves.{IsFit, IsMove, IsMoveTo, IsReadAll, IsVerified}
 use Rattle.ptpm_apply.specs.Rollout.{Fits, IsBegun, RolloutValue, at, domain_of, ended, held, lane_of, noted_with, place_of}
-use Rattle.ptpm_apply.specs.Turning.{BegunAt, BegunIn, CheckedAt, DoneAt, Follows, FoundAt, GivesUp, HeardAt, SeekingBy, SeekingIn, SeesBy, SeesTo, Turned, Yields, heard_value, is_wanted, is_wanted_at, numbered, seen_at, told, yielded}
+use Rattle.ptpm_apply.specs.Turning.{BegunAt, CheckedAt, DoneAt, Follows, FoundAt, GivesUp, HeardAt, SeekingBy, SeekingIn, SeesBy, SeesTo, Turned, Yields, heard_value, is_wanted, is_wanted_at, numbered, seen_at, told, yielded}
 
 -- another value with the same journal and the same steps
 record IsAlike (o x : RolloutValue) : Type 0 where
@@ -78,14 +78,14 @@ read_all o x e endings.InPart step like h = tt
 
 going_moves : (o x v : RolloutValue) (e : Event) (time : ℕ) → IsAlike o x → Going time x v → IsMove o e v
 going_moves o x v e time like (Looks lane h a b c) = moved o x v e (stages.Looking lane) h like.journal
-going_moves o x v e time like (Checks step h a b c) = moved o x v e (stages.Checking step) h like.journal
-going_moves o x v e time like (Reads step h a b c) = moved o x v e (stages.Reading step) h like.journal
+going_moves o x v e time like (Checks step h a b c d) = moved o x v e (stages.Checking step) h like.journal
+going_moves o x v e time like (Reads step h a b c d) = moved o x v e (stages.Reading step) h like.journal
 going_moves o x v e time like (Leaves lane h a b c d) = subst (λ (y : RolloutValue). IsMove o e y) (sym h) like.journal
 going_moves o x v e time like (Verifies h a done c d) =
     moved o x v e (stages.Verifying 0) h (like.journal, inl (refl, subst (λ (s : State). AreDone s) like.journal done))
 going_moves o x v e time like (Ends ending step h by a) = ending_moves o x v e time ending step like (read_all o x e ending step like by) h
-going_moves o x v e time like (Waits h a b c d) = moved o x v e (stages.Over (overs.Open whys.Silent None)) h (like.journal, tt)
-going_moves o x v e time like (Settles h a) = moved o x v e (stages.Over overs.Settled) h (like.journal, tt)
+going_moves o x v e time like (Waits h a b c d f) = moved o x v e (stages.Over (overs.Open whys.Silent None)) h (like.journal, tt)
+going_moves o x v e time like (Settles h a n) = moved o x v e (stages.Over overs.Settled) h (like.journal, tt)
 
 failing_moves : (c : Choice) (o x v : RolloutValue) (e : Event) (time : ℕ) (why : Why) (lane : ℕ) (step : Option ℕ) → IsAlike o x
     → FailingBy c time x why lane step v → IsMove o e v

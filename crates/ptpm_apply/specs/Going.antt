@@ -13,7 +13,7 @@ use Rattle.ptpm_apply.specs.declared.choice.Choice.{Choice}
 use Rattle.ptpm_apply.specs.declared.choice.Choice.TheVariants as choices
 use Rattle.ptpm_apply.specs.declared.lane.Lane.{Lane}
 use Rattle.ptpm_apply.specs.declared.stage.Stage.TheVariants as stages
-use Rattle.ptpm_apply.specs.Rollout.{CanBegin, RolloutValue, at, clock_in, clock_of, ended, held, is_held_at, lane_of}
+use Rattle.ptpm_apply.specs.Rollout.{CanBegin, IsBegun, RolloutValue, at, clock_in, clock_of, ended, held, is_held_at, lane_of}
 
 -- every lane was looked at
 abbrev pub AreSeen : RolloutValue → Type 0
@@ -74,20 +74,43 @@ EndsBy o endings.RolledBack step = ⊥
 EndsBy o endings.Stopped step = ⊥
 EndsBy o endings.InPart step = (step ≡ None) × (o.choice ≡ choices.KeepGoing) × HasNoNext o
 
+-- the step of a lane that is begun and has no answer
+abbrev pub BegunIn : RolloutValue → ℕ → Option ℕ → Type 0
+BegunIn o lane None = (step : ℕ) → step < length o.steps → clock_of o step ≡ clock_in o lane → IsBegun o.journal step → ⊥
+BegunIn o lane (Some step) = (step < length o.steps) × (clock_of o step ≡ clock_in o lane) × IsBegun o.journal step
+
+-- no lane that was not looked at has such a step
+abbrev pub HasNoneLeft : RolloutValue → Type 0
+HasNoneLeft o = (lane : ℕ) → o.seen ≤ lane → lane < length o.lanes → BegunIn o lane None
+
+-- it was refused, or answered by another value
+abbrev pub HasFailed : RolloutValue → ℕ → Type 0
+HasFailed o step = (slice_get o.journal.marks step ≡ Some marks.Refused) ⊎ (slice_get o.journal.marks step ≡ Some marks.Answered)
+
+-- no step failed, and no other program's request has changed a clock
+pub record IsFaultless (o : RolloutValue) : Type 0 where
+  pub unchanged : o.is_changed ≡ false
+  pub none_failed : (step : ℕ) → step < length o.steps → HasFailed o step → ⊥
+
+-- a run that stops at the first fault has none
+abbrev pub MayGoOn : RolloutValue → Type 0
+MayGoOn o = o.choice ≡ choices.Stop → IsFaultless o
+
 -- First each lane is looked at, in order; then comes the next step, and after the last one its members are read.
 pub data Going (time : ℕ) (o v : RolloutValue) : Type 0 where
   Looks : (lane : ℕ) → v ≡ at o (stages.Looking lane) → o.seen ≤ lane → lane < length o.lanes
       → (o.choice ≢ choices.Settle → lane ≡ o.seen) → Going time o v
-  Checks : (step : ℕ) → v ≡ at o (stages.Checking step) → AreSeen o → IsNext o step → IsElsewhere o step → Going time o v
-  Reads : (step : ℕ) → v ≡ at o (stages.Reading step) → AreSeen o → IsNext o step → (IsElsewhere o step → ⊥) → Going time o v
+  Checks : (step : ℕ) → v ≡ at o (stages.Checking step) → AreSeen o → IsNext o step → IsElsewhere o step → MayGoOn o → Going time o v
+  Reads : (step : ℕ) → v ≡ at o (stages.Reading step) → AreSeen o → IsNext o step → (IsElsewhere o step → ⊥)
+      → MayGoOn o → Going time o v
   Leaves : (lane : ℕ) → v ≡ left o lane → AreSeen o → o.choice ≡ choices.KeepGoing
       → is_left_lane (slice_get o.lanes lane) ≡ false
       → ((step : ℕ) → step < length o.steps → IsToCome o lane step → ⊥) → Going time o v
   Verifies : v ≡ at o (stages.Verifying 0) → AreSeen o → AreDone o.journal → o.is_changed ≡ false → 0 < length o.steps → Going time o v
   Ends : (ending : Ending) (step : Option ℕ) → v ≡ ended time o ending step → EndsBy o ending step → AreSeen o → Going time o v
   Waits : v ≡ at o (stages.Over (overs.Open whys.Silent None)) → AreSeen o → o.choice ≡ choices.Stop → HasNoNext o
-      → (AreDone o.journal → ⊥) → Going time o v
-  Settles : v ≡ at o (stages.Over overs.Settled) → o.choice ≡ choices.Settle → Going time o v
+      → (AreDone o.journal → ⊥) → IsFaultless o → Going time o v
+  Settles : v ≡ at o (stages.Over overs.Settled) → o.choice ≡ choices.Settle → HasNoneLeft o → Going time o v
 
 -- ---- a clock that gives no answer, or has another value
 

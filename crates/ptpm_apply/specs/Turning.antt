@@ -29,9 +29,9 @@ use Rattle.ptpm_apply.specs.declared.stage.Then.{Then}
 use Rattle.ptpm_apply.specs.declared.stage.Then.TheVariants as thens
 use Rattle.ptpm_apply.specs.declared.standing.Standing.{Standing}
 use Rattle.ptpm_apply.specs.declared.standing.Standing.TheVariants as standings
-use Rattle.ptpm_apply.specs.Going.{ChangingAt, Failing, FailingAt, Going}
+use Rattle.ptpm_apply.specs.Going.{BegunIn, ChangingAt, Failing, FailingAt, Going}
 use Rattle.ptpm_apply.specs.InFile.{in_file_of, session_in}
-use Rattle.ptpm_apply.specs.Rollout.{IsBegun, RolloutValue, at, clock_in, clock_of, domain_of, ended, held, is_after, is_before, lane_of, last_domain, moved_by, noted_with}
+use Rattle.ptpm_apply.specs.Rollout.{RolloutValue, at, clock_in, clock_of, domain_of, ended, held, is_after, is_before, lane_of, last_domain, moved_by, noted_with}
 use Rattle.ptpm_apply.specs.Standing.{standing_of}
 
 -- ---- which action is handed out at a stage
@@ -203,10 +203,6 @@ abbrev pub is_heard : Stage → Bool
 is_heard s = awaits_answer s || awaits_value s || awaits_number s
 
 -- ---- what an earlier run left
-
-abbrev pub BegunIn : RolloutValue → ℕ → Option ℕ → Type 0
-BegunIn o lane None = (step : ℕ) → step < length o.steps → clock_of o step ≡ clock_in o lane → IsBegun o.journal step → ⊥
-BegunIn o lane (Some step) = (step < length o.steps) × (clock_of o step ≡ clock_in o lane) × IsBegun o.journal step
 
 abbrev pub LetGoIn : RolloutValue → ℕ → Option ℕ → Type 0
 LetGoIn o lane None = (step : ℕ) → step < length o.steps → clock_of o step ≡ clock_in o lane

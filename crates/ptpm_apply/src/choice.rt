@@ -1,5 +1,7 @@
 //! What a run of a change is to do, and why it can't.
 
+use std::alloc::AllocError;
+
 /// What a run is to do.
 #[derive(Clone, Copy)]
 pub enum Choice {
@@ -21,6 +23,17 @@ pub enum OpenError {
     /// It has its end.
     Ended,
     OutOfMemory,
+}
+
+impl From<AllocError> for OpenError {
+    ghost use Rattle.std.specs.Prelude.{◌≡◌};
+    ghost use Rattle.ptpm_apply.specs.declared.choice.OpenError.TheVariants as opens;
+
+    ghost from_gives = { λ _ e. e ≡ opens.OutOfMemory };
+
+    fn from(_refused: AllocError) -> OpenError {
+        OpenError::OutOfMemory
+    }
 }
 
 /// Why an event is refused.

@@ -14,7 +14,7 @@ impl Rollout {
     ghost use Rattle.std.specs.Prelude.{◌≡◌, ◌≢◌, ◌<◌, ◌≤◌, ◌⊎◌, ◌↔◌, ℕ, IfSome, IfNone, IsTrue, Some, None, false, true, length, slice_get};
     ghost use Rattle.ptpm_apply.specs.declared.choice.Choice.{Choice};
     ghost use Rattle.ptpm_apply.specs.declared.stage.Stage.{Stage};
-    ghost use Rattle.ptpm_apply.specs.Going.{AreDone, AreSeen, EndsBy, FirstLetGo, Going, HasNoNext, IsElsewhere, IsNext, IsToCome, is_left_lane, left};
+    ghost use Rattle.ptpm_apply.specs.Going.{AreDone, AreSeen, BegunIn, EndsBy, FirstLetGo, Going, HasFailed, HasNoNext, HasNoneLeft, IsElsewhere, IsNext, IsToCome, MayGoOn, is_left_lane, left};
     ghost use Rattle.ptpm_apply.specs.Rollout.{CanBegin, is_held_at};
     ghost use Rattle.ptpm_apply.specs.Turning.{BegunAt, CheckedAt, DoneAt, Follows, awaits_check, awaits_done, awaits_number};
 
@@ -104,6 +104,7 @@ impl Rollout {
         ensures later { IfSome result (λ lane. (self.now.seen ≤ lane) × (lane < length self.now.lanes)) }
         ensures next { IfSome result (λ lane. self.now.choice ≢ Choice.Settle → lane ≡ self.now.seen) }
         ensures none { IfNone result (self.now.choice ≢ Choice.Settle → AreSeen self.now) }
+        ensures left { IfNone result (HasNoneLeft self.now) }
     {
         for lane in self.seen..self.lane_count() {
             if !matches!(self.choice, Choice::Settle) || self.is_touched(lane) {
@@ -114,7 +115,9 @@ impl Rollout {
     }
 
     /// Whether a step of it was begun.
-    fn is_touched(&self, lane: u16) -> bool {
+    fn is_touched(&self, lane: u16) -> bool
+        ensures { result ≡ false → BegunIn self.now lane None }
+    {
         self.begun_in(lane).is_some() || self.latest_told(lane).is_some()
     }
 
@@ -165,7 +168,8 @@ impl Rollout {
 
     /// The first step whose answer is not what was asked, and the end that it makes.
     fn failed(&self) -> Option<(u16, Ending)>
-        ensures { IfSome result (λ f. self.now.choice ≡ Choice.Stop → EndsBy self.now f.1 (Some f.0)) }
+        ensures found { IfSome result (λ f. self.now.choice ≡ Choice.Stop → EndsBy self.now f.1 (Some f.0)) }
+        ensures none { IfNone result ((step : ℕ) → step < length self.now.steps → HasFailed self.now step → ⊥) }
     {
         for step in 0..self.step_count() {
             if self.has_mark(step, Mark::Refused) {
@@ -272,6 +276,7 @@ impl Rollout {
     fn take(&mut self, time: u64, step: u16)
         requires seen { AreSeen self.old }
         requires next { IsNext self.old step }
+        requires goes_on { MayGoOn self.old }
         ensures { Going time self.old self.new }
     {
         if self.is_elsewhere(step) {

@@ -1,8 +1,8 @@
 //! How a change begins, or goes on: with what its journal has.
 
-ghost use Rattle.std.specs.Prelude.{◌≡◌, ◌≤◌, ◌+◌, length, IfOk, IsTrue};
+ghost use Rattle.std.specs.Prelude.{◌≡◌, ◌≤◌, ◌+◌, drop, length, take, IfOk, IsTrue, OnOk};
 ghost use Rattle.ptpm_journal.specs.State.{state_of};
-ghost use Rattle.ptpm_apply.specs.Opening.{AreRead, IsBelow, chosen};
+ghost use Rattle.ptpm_apply.specs.Opening.{AreRead, IsBelow, IsPlanned, Takes, chosen, noted_number};
 
 use crate::choice::{Choice, OpenError};
 use crate::going::first_let_go;
@@ -10,7 +10,7 @@ use crate::lane::Lane;
 use crate::planned::Planned;
 use crate::rollout::Rollout;
 use crate::stage::Stage;
-use ptpm_journal::{Journal, Next, NextError, Note, RECORD_OCTETS, Record};
+use ptpm_journal::{Found, Journal, Next, NextError, Note, RECORD_OCTETS, Record, Step};
 use std::alloc::{AllocError, Global};
 
 /// How many octets frame a record's body.
@@ -30,19 +30,21 @@ struct Reading {
 }
 
 impl Rollout {
-    ghost use Rattle.std.specs.Prelude.{◌≡◌, false, true, IfOk, IsTrue};
+    ghost use Rattle.std.specs.Prelude.{◌≡◌, ◌<◌, ℕ, false, length, true, IfOk, IsTrue};
     ghost use Rattle.ptpm_journal.specs.Journal.{goes_on};
     ghost use Rattle.ptpm_apply.specs.declared.stage.Stage.{Stage};
-    ghost use Rattle.ptpm_apply.specs.Opening.{AreApart, AreCovered, AreRead, IsChosen};
+    ghost use Rattle.ptpm_apply.specs.Opening.{AreApart, AreCovered, AreNewLanes, AreRead, IsChosen, IsNewLane};
+    ghost use Rattle.ptpm_apply.specs.Rollout.{clock_in, clock_of};
 
     /// A change with the journal that a file has, and how many octets of it were written whole. It is refused for the first reason that holds.
     /// If a step is given up, the change can only be given up.
     pub fn open(alloc: Global, octets: &[u8], choice: Choice) -> Result<(Rollout, usize), OpenError>
-        ensures read { IfOk result (λ r. AreRead octets.now r.1 r.0.journal r.0.crc) }
+        ensures read { IfOk result (λ r. AreRead octets.now r.1 r.0.journal r.0.crc r.0.steps r.0.numbers) }
         ensures goes_on { IfOk result (λ r. goes_on r.0.journal ≡ true) }
         ensures fresh { IfOk result (λ r. (r.0.stage ≡ Stage.Fresh) × (r.0.seen ≡ 0) × (r.0.is_changed ≡ false)) }
         ensures covered { IfOk result (λ r. AreCovered r.0) }
         ensures apart { IfOk result (λ r. AreApart r.0) }
+        ensures new { IfOk result (λ r. AreNewLanes r.0) }
         ensures choice { IfOk result (λ r. IsChosen r.0 choice) }
     {
         let reading = read(alloc, octets)?;
@@ -55,16 +57,12 @@ impl Rollout {
         if !journal.may_take(Record::Text { what: 0 }) {
             return Err(OpenError::Ended);
         }
-        let Ok(lanes) = lanes_of(alloc, steps.as_slice()) else {
-            return Err(OpenError::OutOfMemory);
-        };
+        let lanes = lanes_of(alloc, steps.as_slice())?;
         if steps.len() > STEPS || lanes.len() > STEPS {
             return Err(OpenError::Damaged);
         }
         let choice = choice_of(choice, first_let_go(&journal, steps.as_slice()));
-        let Ok(room) = vec![in alloc; 0; RECORD_OCTETS] else {
-            return Err(OpenError::OutOfMemory);
-        };
+        let room = vec![in alloc; 0; RECORD_OCTETS]?;
         let rollout = Rollout {
             alloc,
             choice,
@@ -78,7 +76,7 @@ impl Rollout {
             room,
             size: 0,
         };
-        if rollout.are_covered() && rollout.are_apart() {
+        if rollout.are_covered() && rollout.are_apart() && rollout.are_new() {
             Ok((rollout, whole))
         } else {
             Err(OpenError::Damaged)
@@ -108,6 +106,39 @@ impl Rollout {
         }
         true
     }
+
+    /// Whether each lane is the clock of a step, and nothing is known of it yet.
+    fn are_new(&self) -> bool
+        ensures { IsTrue result → AreNewLanes self.now }
+    {
+        for lane in 0..self.lane_count() {
+            if !self.is_new(lane) {
+                return false;
+            }
+        }
+        true
+    }
+
+    fn is_new(&self, lane: u16) -> bool
+        ensures { IsTrue result → IsNewLane self.now lane }
+    {
+        match self.lanes.as_slice().get(usize::from(lane)) {
+            Some(found) => !found.is_held && !found.is_left && self.has_step(lane),
+            None => false,
+        }
+    }
+
+    fn has_step(&self, lane: u16) -> bool
+        ensures { IsTrue result
+            → ((step : ℕ) × (step < length self.now.steps) × (clock_of self.now step ≡ clock_in self.now lane)) }
+    {
+        for step in 0..self.step_count() {
+            if self.is_of(step, lane) {
+                return true;
+            }
+        }
+        false
+    }
 }
 
 /// What is to be done. If a step is given up, that is all that can be done.
@@ -131,7 +162,8 @@ fn is_below(one: Option<u64>, other: Option<u64>) -> bool
 
 /// Reads the records of a file.
 fn read(alloc: Global, octets: &[u8]) -> Result<Reading, OpenError>
-    ensures { IfOk result (λ r. AreRead octets.now r.whole (state_of r.journal) r.journal.crc) }
+    ensures { IfOk result
+        (λ r. AreRead octets.now r.whole (state_of r.journal) r.journal.crc r.steps.items r.numbers.items) }
 {
     let mut journal = Journal::new(alloc);
     let mut steps = Vec::new(alloc);
@@ -145,9 +177,7 @@ fn read(alloc: Global, octets: &[u8]) -> Result<Reading, OpenError>
             Err(refusal) => return Err(refusal_of(refusal)),
         };
         let (_, body) = rest.split_at(next.lead + 2);
-        if take(alloc, &mut steps, &mut numbers, next, body).is_err() {
-            return Err(OpenError::OutOfMemory);
-        }
+        take(alloc, &mut steps, &mut numbers, next, body)?;
         whole = whole + next.lead + next.size + FRAME_OCTETS;
     }
     Ok(Reading {
@@ -176,35 +206,68 @@ fn take(
 ) -> Result<(), AllocError>
     requires first { next.found.first + next.found.first_size ≤ length body.now }
     requires second { next.found.second + next.found.second_size ≤ length body.now }
+    ensures { OnOk result
+        (Takes next.found body.now steps.old.items steps.new.items numbers.old.items numbers.new.items) }
 {
     let found = next.found;
     match found.entry {
         Record::Step { step, port, id } => {
-            let planned = Planned {
-                clock: step.clock,
-                domain: step.domain,
-                port,
-                id,
-                before: Vec::from_slice(alloc, &body[found.first..found.first + found.first_size])?,
-                after: Vec::from_slice(
-                    alloc,
-                    &body[found.second..found.second + found.second_size],
-                )?,
-            };
-            steps.push(planned)?;
+            steps.push(planned_of(alloc, step, port, id, &found, body)?)?;
             numbers.push(0)?;
         }
-        Record::Note {
-            note: Note::Begun { step, number },
-            ..
-        } => {
-            if let Some(place) = numbers.as_mut_slice().get_mut(usize::from(step)) {
-                *place = number;
-            }
-        }
-        _ => {}
+        Record::Note { note, .. } => take_number(numbers.as_mut_slice(), note),
+        Record::Head { .. } | Record::Policy { .. } | Record::End { .. } | Record::Text { .. } => {}
     }
     Ok(())
+}
+
+/// The step of a record, with the values that the two groups of its octets are.
+fn planned_of(
+    alloc: Global,
+    step: Step,
+    port: u16,
+    id: u16,
+    found: &Found,
+    body: &[u8],
+) -> Result<Planned, AllocError>
+    requires first { found.now.first + found.now.first_size ≤ length body.now }
+    requires second { found.now.second + found.now.second_size ≤ length body.now }
+    ensures { IfOk result (λ p. IsPlanned step port id
+        (take found.now.first_size (drop found.now.first body.now))
+        (take found.now.second_size (drop found.now.second body.now)) p) }
+{
+    Ok(Planned {
+        clock: step.clock,
+        domain: step.domain,
+        port,
+        id,
+        before: group(alloc, body, found.first, found.first_size)?,
+        after: group(alloc, body, found.second, found.second_size)?,
+    })
+}
+
+/// A group of octets of a record.
+fn group(alloc: Global, body: &[u8], place: usize, size: usize) -> Result<Vec<u8>, AllocError>
+    requires { place + size ≤ length body.now }
+    ensures { IfOk result (λ octets. octets.items ≡ take size (drop place body.now)) }
+{
+    let (_, rest) = body.split_at(place);
+    Vec::from_slice(alloc, &rest[..size])
+}
+
+/// The number under which a step is begun.
+fn take_number(numbers: &mut [u16], note: Note)
+    ensures { numbers.new ≡ noted_number note numbers.old }
+{
+    match note {
+        Note::Begun { step, number } => {
+            let place = usize::from(step);
+            if place < numbers.len() {
+                numbers[place] = number;
+            }
+        }
+        Note::NotBegun { .. } | Note::LetGo { .. } | Note::Told { .. } => {}
+    }
 }
 
 /// The clocks of steps, each once, in the order of their identities.

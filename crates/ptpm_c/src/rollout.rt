@@ -33,7 +33,7 @@ pub extern "C" fn ptpm_rollout_open(
 ) -> u32
     ensures opened { (c : Choice) → choice_of choice ≡ Some c → result ≡ 0
         → IsSomeAnd (rollout_held handle.new.keeping)
-        (λ r. AreRead journal.now whole.new r.journal r.crc × (goes_on r.journal ≡ true)
+        (λ r. AreRead journal.now whole.new r.journal r.crc r.steps r.numbers × (goes_on r.journal ≡ true)
         × (r.stage ≡ Stage.Fresh) × (r.seen ≡ 0) × (r.is_changed ≡ false) × AreCovered r × AreApart r
         × IsChosen r c) }
     ensures no_choice { choice_of choice ≡ None → result ≡ no_choice }

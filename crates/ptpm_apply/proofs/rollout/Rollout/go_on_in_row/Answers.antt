@@ -11,4 +11,4 @@ returns-then-self c =
 
 pub returns-in-Some : goal.returns-in-Some
 returns-in-Some c =
-    Ends c.in-Some.ending (Some c.in-Some.step) c.end-in-Some.ensures (c.in-Some.ensures {u = tt} c.requires.stops) c.requires.seen
+    Ends c.in-Some.ending (Some c.in-Some.step) c.end-in-Some.ensures ((c.in-Some.ensures {u = tt}).found c.requires.stops) c.requires.seen
