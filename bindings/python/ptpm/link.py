@@ -185,7 +185,7 @@ class Link:
         interface without an address has no link that is known."""
         address = ipaddress.ip_address(sender.split("%")[0])
         if self._ttl_security and is_unicast and ttl != FULL_TTL:
-            return self._refuse(sender, "since a router may have passed it on: --ttl-security takes only TTL 255")
+            return self._refuse(sender, "since a router may have forwarded it: --ttl-security takes only TTL 255")
         if self._any_source or address == self._asked or self._is_on(address) or not self._has_address(address.version == 6):
             return True
         return self._refuse(sender, "which is not on the link: --any-source takes it")
@@ -205,7 +205,7 @@ class Link:
         if neighbour is not None and neighbour in stations:
             self.refused.pop(sender, None)
             return True
-        return self._refuse(sender, "since another machine sent it, or nobody is there")
+        return self._refuse(sender, "since another machine sent it, or none has that address")
 
     def _ask(self, address: Any) -> None:
         """Sends an empty datagram there, for nobody (RFC 863), so that the kernel asks who has the address."""

@@ -96,9 +96,9 @@ static void say_rest(const struct task *task, enum unanswered what, uint16_t num
     if (what == REQUEST) {
         complain("the next run sends %s again, under number %u, before its own; --give-up gives it up", words, number);
     } else if (what == EARLIER_REQUEST) {
-        complain("%s of an earlier run, number %u, comes before it; --give-up gives it up", words, number);
+        complain("%s of an earlier run, number %u, has to be answered first; --give-up gives it up", words, number);
     } else if (what == EARLIER_ELSEWHERE) {
-        complain("%s of an earlier run, number %u, was asked in domain %u, and comes before it; --give-up gives it up, and --domain "
+        complain("%s of an earlier run, number %u, was asked in domain %u, and has to be answered first; --give-up gives it up, and --domain "
                  "%u asks there", words, number, domain, domain);
     }
 }
