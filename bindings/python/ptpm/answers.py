@@ -1,4 +1,4 @@
-"""What calls of the library answer."""
+"""What calls of the library return."""
 
 from __future__ import annotations
 
@@ -29,13 +29,13 @@ class Error(PtpmError):
 
 
 def done(number: int) -> None:
-    """Refuses every number except that of a call that was done."""
+    """Raises an Error unless the number says that the call was done."""
     if number != 0:
         raise Error(number)
 
 
 def judged(number: int) -> int:
-    """Refuses the numbers of calls that were refused (ptpm_is_refusal)."""
+    """Raises an Error if the number says that the call was refused (ptpm_is_refusal)."""
     if number >= 32:
         raise Error(number)
     return number
