@@ -13,7 +13,7 @@ macro_rules! errors {
         #[repr(u32)]
         pub enum Error {
             $(#[doc = $text] $variant = sys::$number,)*
-            /// A number that a newer library answers.
+            /// A number that a newer library returns.
             Other(u32) = u32::MAX,
         }
 
@@ -110,7 +110,7 @@ errors! {
     BadSay = PTPM_BAD_SAY, "what a device says is of no kind, has an error that no device gives, or gives what is not a dataField";
 }
 
-/// The number of a call that was done is 0, and every other one an error.
+/// The result of a call: 0 if it was done, and otherwise an error.
 #[inline]
 pub(crate) fn done(number: u32) -> Result<(), Error> {
     match number {
@@ -119,7 +119,7 @@ pub(crate) fn done(number: u32) -> Result<(), Error> {
     }
 }
 
-/// A number that says what became of a datagram or of a request, or an error.
+/// The result of a call: what became of a datagram or of a request, or an error.
 #[inline]
 pub(crate) fn judged(number: u32) -> Result<u32, Error> {
     if sys::ptpm_is_refusal(number) {
