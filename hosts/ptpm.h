@@ -1458,7 +1458,7 @@ static inline enum ptpm_started ptpm_asker_start_sized(struct ptpm_asker *handle
 
 /* Puts an asker with the session of an image in the handle, instead of what it holds, which is then freed.
    Takes:   26 octets that are drawn at random, and size octets: what the file of the session has. Its first number is that of the
-            image. If a request has other hops than the settings say, the next one continues as a new session.
+            image. If the image has other hops than the settings, the next request begins a new session, at the next number.
    Returns: PTPM_ASKER_RESTORED; or why not, and then the handle holds what it held.
    Memory:  the asker, until it is stopped, and a copy of the dataField of its request.
    Caller:  looks at what ptpm_asker_earlier returns, and stops the asker. */
@@ -1669,7 +1669,8 @@ static inline size_t ptpm_newest_image(const uint8_t *octets, size_t place, size
    sourcePortIdentity, sequenceId, targetPortIdentity, actionField and managementId is recorded, and there is a place to
    record it. So a message that circulates is forwarded once. One that keeps coming is forwarded once in each such time.
    Takes:   the message, of size octets; a time; and for how long it is recorded, in the unit of that time. Both are the host's.
-   Returns: whether it is to be forwarded; false too for what is not a management message, read or not (ptpm_clock_transit).
+   Returns: whether it is to be forwarded; false too for what is not a management message. One that the library does not
+            read counts as one (ptpm_clock_transit).
    Writes:  one of the places of *table, if it returns true. */
 bool ptpm_passed_on_is_first(struct ptpm_passed_on *table, const uint8_t *message, size_t size, uint64_t now, uint64_t time);
 

@@ -18,10 +18,10 @@
 extern "C" {
 #endif
 
-/* What a clock takes that has this many ports, 1 to 64, and managers, 0 to 64, from its start or its restore on. Up to eight ports take
-   what one takes. PTPM_CLOCK_MEMORY is enough for any clock of up to eight ports and sixteen managers. A block that holds only clocks
-   needs no more than the sum, if all have the same number of managers. Those of over eight ports have the same number of ports too. They
-   may start and stop in any order. A restore in a live handle has both clocks for a moment. */
+/* What a clock with this many ports, 1 to 64, and managers, 0 to 64, takes from its start or restore on. Up to eight ports take
+   as much as one. PTPM_CLOCK_MEMORY is enough for any clock of up to eight ports and sixteen managers. A block that holds only
+   clocks needs no more than the sum, if all have the same number of managers. Those of over eight ports have the same number of
+   ports too. They may start and stop in any order. A restore in a live handle has both clocks for a moment. */
 #define PTPM_CLOCK_MEMORY_OF(ports, managers) \
     ((size_t)672 + ((managers) > 0 ? PTPM_PIECE((size_t)(managers) * 2144) : 0) \
      + ((ports) > 8 ? PTPM_OF_MANY_PORTS((size_t)(ports), (size_t)(managers)) : 0))
