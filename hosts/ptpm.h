@@ -1502,7 +1502,7 @@ enum ptpm_asked ptpm_asker_hear(struct ptpm_asker *asker, const uint8_t *datagra
    Memory:  a copy of the dataField of a question, until it is answered. */
 enum ptpm_asked ptpm_asker_wake(struct ptpm_asker *asker, uint64_t now, struct ptpm_handed *handed);
 
-/* Says that there was no way for the message of the latest PTPM_SEND_IT. If no message of the request left before, a request of
+/* Says that the message of the latest PTPM_SEND_IT could not be sent. If no message of the request left before, a request of
    this run is taken back. Its number is that of the next one, and PTPM_FAILED follows its save.
    Returns: PTPM_ASKED.
    Writes:  all of *handed. */

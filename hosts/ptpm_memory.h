@@ -30,8 +30,7 @@ extern "C" {
 #define PTPM_PIECE(octets) (((octets) + 31) / 16 * 16)
 #define PTPM_CLOCK_MEMORY 34992
 
-/* What a clock of this many ports takes besides once it is saved while it takes datagrams (ptpm_clock_saving), with places for this
-   many messages. */
+/* What ptpm_clock_saving takes in addition, for a clock of this many ports and with places for this many messages. */
 #define PTPM_SAVING_MEMORY_OF(ports, places) \
     ((size_t)1024 + PTPM_PIECE((size_t)(places) * 1476) + ((ports) > 8 ? 5 * PTPM_PIECE(16 * (size_t)(ports)) : 0))
 
@@ -42,9 +41,9 @@ extern "C" {
 /* Enough for an asker, whatever its requests and their answers are. */
 #define PTPM_ASKER_MEMORY 13424
 
-/* The most that a survey takes that has kept a number of answers, 1 to 16,384, each with a number of octets of dataField. Its
-   tables have room for a power of two of answers, and move as they grow. How much of the gaps is used again depends on the
-   answers. */
+/* The most that a survey takes after it has kept this many answers, 1 to 16,384, each with this many octets of dataField. Its
+   tables have room for a power of two of answers, and move as they grow. How much of the gaps that they leave is used again
+   depends on the answers. */
 #define PTPM_SURVEY_MEMORY(answers, octets) \
     (1088 + 130 * PTPM_SURVEY_PLACES(answers) + (size_t)(answers) * (((size_t)(octets) + ((octets) < 1) + 31) / 16 * 16))
 #define PTPM_SURVEY_PLACES(answers) \

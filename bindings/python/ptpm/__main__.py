@@ -316,7 +316,7 @@ def _run(given: List[str]) -> int:
 
 
 def main(arguments: Optional[List[str]] = None) -> int:
-    """Asks what a command line says; its status."""
+    """Asks what a command line says, and returns the exit status."""
     hold_streams()
     try:
         return _run(sys.argv[1:] if arguments is None else arguments)

@@ -407,7 +407,7 @@ static int end_standing(const struct probe *probe, const struct task *task, cons
     show_progress("does each clock take SETs of what is changed?");
     int status = read_member(task, step, step->domain, &answer);
     if (status == ANSWERED && !has_value(step->id, step->before.octets, step->before.size, &answer)) status = NOT_AS_ASKED;
-    if (status == NOT_AS_ASKED) complain("change %zu: the value before it has changed since", probe->number);
+    if (status == NOT_AS_ASKED) complain("change %zu: the value that it replaces has changed since", probe->number);
     if (status == ANSWERED) status = end_asked(probe->run);
     if (status == ANSWERED && refusal != 0) say_refusal(task, step);
     *refused += status == ANSWERED && refusal != 0;
