@@ -1084,7 +1084,7 @@ enum ptpm_handled ptpm_clock_take(struct ptpm_clock *clock, uint16_t port, const
    the host asks its device. ptpm_clock_decide then says what the device did. After a restart the host only looks whether its
    device has the change. While it is under way, ptpm_clock_take returns PTPM_UNDER_WAY for what the same manager asks of only
    this clock. It returns that too for any datagram for which ptpm_clock_ask would return PTPM_ASKED_CHANGE. Of the owner's
-   requests only a SET of DOMAIN gets it, from ptpm_clock_set too: in another domain the change would get no answer.
+   requests only a SET of DOMAIN is answered so, by ptpm_clock_set too: in another domain the change would get no answer.
    Takes:   what ptpm_clock_ask takes.
    Returns: PTPM_ASKED_CHANGE. PTPM_ASKED_VALUE and PTPM_ASKED_NOTHING as ptpm_clock_ask does, and nothing is kept. Or why not, the
             first of these: PTPM_NO_CLOCK, also for a clock that does not save, PTPM_NO_PORT, PTPM_UNSAVED and PTPM_UNDER_WAY. It
@@ -1239,7 +1239,7 @@ uint32_t ptpm_clock_unsaved(const struct ptpm_clock *clock);
    Writes:  *gone: the number of requests of the image whose managers are not among those that are given. They are forgotten. If
             the call is refused it is 0.
    Memory:  the clock, until it is stopped, as much as for a start. Over eight ports also 160 octets for each port until the call
-            returns, and PTPM_NO_MEMORY comes before what is refused after PTPM_OTHER_KIND.
+            returns, and PTPM_NO_MEMORY comes right after PTPM_OTHER_KIND.
    Caller:  stops the clock. */
 enum ptpm_restored ptpm_clock_restore(struct ptpm_clock *clock, const uint8_t identity[8], size_t port_count,
                                       const struct ptpm_manager_settings *managers, size_t manager_count,
@@ -1457,8 +1457,9 @@ static inline enum ptpm_started ptpm_asker_start_sized(struct ptpm_asker *handle
 }
 
 /* Puts an asker with the session of an image in the handle, instead of what it holds, which is then freed.
-   Takes:   26 octets that are drawn at random, and size octets: what the file of the session has. Its first number is that of the
-            image. If the image has other hops than the settings, the next request begins a new session, at the next number.
+   Takes:   26 octets that are drawn at random, and size octets: what the file of the session has. The first number is the
+            image's, not that of the settings. If the image has other hops than the settings, the next request begins a new
+            session, at the next number.
    Returns: PTPM_ASKER_RESTORED; or why not, and then the handle holds what it held.
    Memory:  the asker, until it is stopped, and a copy of the dataField of its request.
    Caller:  looks at what ptpm_asker_earlier returns, and stops the asker. */

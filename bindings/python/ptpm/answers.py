@@ -24,7 +24,7 @@ class Error(PtpmError):
 
     @property
     def name(self) -> str:
-        """The header's name of it without its PTPM_."""
+        """The answer's name in the header, without PTPM_."""
         return answer_name(self.number)
 
 

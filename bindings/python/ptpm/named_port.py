@@ -61,9 +61,9 @@ class NamedPort:
         return self._swapped(message, _TARGET)
 
     def comes_in(self, datagram: bytes) -> Iterator[bytes]:
-        """The datagrams as which the library judges one that came in, until one of them answers. A clock that is not one of ptpm
-        may refuse at the port where the request came in, not at the one that was named. So its error is judged as one of the
-        named port, too."""
+        """What the library is to judge when a datagram comes in, in this order, until it takes an answer. A clock that is not
+        one of ptpm may refuse at the port where the request came in, not at the one that was named. So its error is judged as
+        one of the named port, too."""
         heard = self._swapped(datagram, _SOURCE)
         yield heard
         if _is_error_of(heard, self._target[:_CLOCK]):

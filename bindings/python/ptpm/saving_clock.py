@@ -112,9 +112,9 @@ class SavingClock:
         return bytes(room[: size.value]), token.value
 
     def saved(self, token: int) -> Saved:
-        """Says once that a restart would find the latest image, whatever happens to the power. Returns the messages to be sent,
-        which waited when it was made. And whether the image has a change that is still under way: once for each change, and never
-        for one that a restore found."""
+        """Says once that a restart would find the latest image, whatever happens to the power. Returns the messages that waited
+        when that image was made, and are now to be sent. And whether the image has a change that is still under way: once for
+        each change, and never for one that a restore found."""
         with self._clock._turn:
             answer = judged(self._clock._call(library.ptpm_clock_saved, token))
             return Saved(list(self._clock._released()), answer == header.PTPM_ACT_NOW)

@@ -130,8 +130,8 @@ class Site:
 
     @property
     def silent_ways(self) -> Tuple[str, ...]:
-        """The interfaces at which no clock answered, of several that were asked, or the socket that was
-        asked beside one."""
+        """The interfaces, of several, at which no clock answered. A socket that was asked beside
+        them counts as one."""
         ways = [note[len(_SILENT_WAY):] for note in self.notes if note.startswith(_SILENT_WAY)]
         return tuple(way.partition(": nothing was sent: ")[0] for way in ways)
 

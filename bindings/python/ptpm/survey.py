@@ -53,7 +53,7 @@ class Survey(Handle):
     """What a survey asks, and its answers: the first of each port, of 16,384 ports at most.
 
     A session of the same portIdentity may treat an answer as its own. So the survey's manager has no session: it is another port
-    of the same clockIdentity, and with port 0 it is SURVEY_PORT.
+    of the same clockIdentity. Port 0 stands for SURVEY_PORT.
 
     With a target every port of that clock is asked, and no other clock answers. A clock treats such a GET from one of its
     managers as a numbered request, like one of a session. So a survey with a target must not ask as one of that clock's
