@@ -100,7 +100,7 @@ struct ptpm_clock_settings {
     uint8_t grandmaster_class;
     uint8_t grandmaster_accuracy;
     uint8_t grandmaster_priority2;
-    uint8_t leap61;                     /* not both of the two */
+    uint8_t leap61;                     /* at most one of the two leaps */
     uint8_t leap59;
     uint8_t utc_valid;
     uint8_t ptp_timescale;
@@ -145,8 +145,8 @@ struct ptpm_port_settings {
    flag is set if it is not 0. A grandmaster is observed as a whole. If is_grandmaster is set, the grandmaster is the clock
    itself, and the members of a grandmaster and of the parent port do not count. Otherwise, if has_grandmaster is set, it is the
    one that these members name. If neither is set, the quality of a clock that is its own grandmaster is shown as its
-   grandmaster's too. What only managers set can't be observed. clock_accuracy, utc_offset, the two leaps and utc_valid are both
-   set and observed, and the later value counts. */
+   grandmaster's too. What only managers set can't be observed. Managers may also set clock_accuracy, utc_offset, the two leaps
+   and utc_valid: the later value counts. */
 struct ptpm_observed_clock {
     PTPM_AT_EIGHT int64_t offset_from_master; /* in nanoseconds times 2^16 */
     int64_t mean_path_delay;            /* in nanoseconds times 2^16 */
@@ -166,7 +166,7 @@ struct ptpm_observed_clock {
     uint8_t grandmaster_class;
     uint8_t grandmaster_accuracy;
     uint8_t grandmaster_priority2;
-    uint8_t leap61;                     /* not both of the two afterwards */
+    uint8_t leap61;                     /* at most one of the two leaps afterwards */
     uint8_t leap59;
     uint8_t utc_valid;
     uint8_t ptp_timescale;
@@ -214,7 +214,7 @@ struct ptpm_manager_settings {
     uint8_t rights;                     /* a sum of the three above */
 };
 
-/* A message, and the port that it is to be sent at. The octets past size are what was there before. */
+/* A message, and the port that it is to be sent at. The octets past size stay as they were. */
 struct ptpm_sent {
     uint16_t port;
     uint16_t size;
@@ -261,7 +261,7 @@ struct ptpm_taken {
     struct ptpm_changed changed;        /* the members that have a different value than before */
 };
 
-/* What a device is asked (ptpm_clock_ask): to carry out a SET or a COMMAND, or for the value of a GET. All zeros if it is nothing. */
+/* What a device is asked (ptpm_clock_ask): to carry out a SET or a COMMAND, or for the value of a GET. All zeros: nothing. */
 struct ptpm_question {
     uint8_t manager[8];                 /* sourcePortIdentity of the request: the clock, and the port */
     uint16_t manager_port;
@@ -320,10 +320,10 @@ enum { PTPM_GET = 0, PTPM_SET = 1, PTPM_COMMAND = 3 };
 /* A survey of a manager: what it asks and its answers, at one pointer. All zeros hold no survey. */
 struct ptpm_survey { void *at; PTPM_TO_EIGHT bool live; bool restored; };
 
-/* One manager, and the GET that it sends to every port of every clock, or of one. A clock answers a GET for every clock
-   whatever numbers it took from this manager before. A late answer to an earlier GET with the same number and id counts for this
-   survey: use a number with nothing in flight. No session may have the same portIdentity. With port 0 that is PTPM_SURVEY_PORT, which
-   no session should have. */
+/* One manager, and the GET that it sends to every port of every clock, or of one. A clock answers a GET for every clock whatever
+   numbers it took from this manager before. A late answer to an earlier GET with the same number and id counts for this survey:
+   use a number with nothing in flight. No session may have the same portIdentity. Port 0 stands for PTPM_SURVEY_PORT, which no
+   session should have. */
 struct ptpm_survey_settings {
     uint16_t port;                      /* portNumber of the manager; 0 for PTPM_SURVEY_PORT */
     uint16_t number;                    /* sequenceId */
@@ -408,7 +408,7 @@ enum {
 /* The flags of a journal: the change goes on at other clocks if one fails; and each step comes after all those before it. */
 enum { PTPM_KEEPS_GOING = 1, PTPM_IN_ONE_ROW = 2 };
 
-/* What the answer to a step says; how a change ends; and the step of an ending that is at none. */
+/* What the answer to a step says; how a change ends; and the step of an ending without a step. */
 enum { PTPM_STEP_DONE = 1, PTPM_STEP_REFUSED = 2, PTPM_STEP_ANSWERED = 3 };
 enum {
     PTPM_END_COMPLETE = 1, PTPM_END_REFUSED = 2, PTPM_END_ANSWERED = 3, PTPM_END_CHANGED = 4, PTPM_END_GIVEN_UP = 5,
@@ -426,8 +426,8 @@ enum {
    zeros hold none. */
 struct ptpm_rollout { void *at; PTPM_TO_EIGHT bool live; bool restored; };
 
-/* How it goes on: it stops where a step fails, goes on at other clocks, or is given up, which sends nothing. PTPM_SETTLE_ALONE only
-   completes the step that an earlier run left without an answer, before a rollback. */
+/* How a change goes on: it stops where a step fails, goes on at other clocks, or is given up, which sends nothing.
+   PTPM_SETTLE_ALONE only completes the step that an earlier run left without an answer, before a rollback. */
 enum { PTPM_STOP_AT_FAILURE = 0, PTPM_KEEP_GOING = 1, PTPM_GIVE_UP = 2, PTPM_SETTLE_ALONE = 3 };
 
 /* The outcome of an action. A member that its kind lacks is not read. */
@@ -446,9 +446,9 @@ enum {
     PTPM_EVENT_VALUE = 4,               /* the clock answered: the octets are the dataField */
     PTPM_EVENT_REFUSED = 5,
     PTPM_EVENT_SILENT = 6,              /* there was no answer */
-    PTPM_EVENT_DONE = 7,                /* it is on the disk, or nothing is left to say */
-    PTPM_EVENT_PASSES = 8,              /* to PTPM_DO_CHECK: it goes on, or not */
-    PTPM_EVENT_STOPS = 9,
+    PTPM_EVENT_DONE = 7,                /* the action is done; what it writes is on the disk */
+    PTPM_EVENT_PASSES = 8,              /* to PTPM_DO_CHECK: the change goes on */
+    PTPM_EVENT_STOPS = 9,               /* to PTPM_DO_CHECK: it does not */
     PTPM_EVENT_NOT_WRITTEN = 10,        /* a file could not be written; to any action */
     PTPM_EVENT_INTERRUPTED = 11         /* the host ends; to any action */
 };
@@ -459,7 +459,7 @@ struct ptpm_rollout_action {
     uint16_t lane;
     uint16_t step;                      /* PTPM_NO_STEP if there is none */
     uint8_t domain;                     /* PTPM_DO_SETTLE, PTPM_DO_READ */
-    uint8_t ending;                     /* PTPM_DO_END: how it ended, or 0 if it is open, */
+    uint8_t ending;                     /* PTPM_DO_END: how the change ended, or 0 if it is open, */
     uint8_t why;                        /* and then why */
     uint8_t zero;
 };
@@ -618,8 +618,8 @@ enum { PTPM_MOST_ANSWERS = 16384, PTPM_SURVEY_PORT = 65534 };
 #define PTPM_TOO_MANY_MANAGERS 51       /* over PTPM_MOST_MANAGERS */
 #define PTPM_MANAGER_TWICE 52           /* or `nobody` of an asker is its manager's port */
 #define PTPM_IDENTITY_IS_ZERO 56        /* the clock's identity is all zeros */
-#define PTPM_UNSAVED 118                /* a clock was changed and not saved, and this comes only after a save */
-#define PTPM_UNDER_WAY 123              /* a change of the device is under way, and this comes only after ptpm_clock_decide */
+#define PTPM_UNSAVED 118                /* the clock is not saved, and this call needs a save first */
+#define PTPM_UNDER_WAY 123              /* a change of the device is under way, and this call has to wait for ptpm_clock_decide */
 #define PTPM_BAD_CLOCK_ACCURACY 70
 #define PTPM_BAD_LEAP59 88              /* both leaps */
 #define PTPM_BAD_STATE 94
@@ -633,11 +633,11 @@ enum { PTPM_MOST_ANSWERS = 16384, PTPM_SURVEY_PORT = 65534 };
 #endif
 
 /* The starts. A session is refused with PTPM_MANAGER_IS_EVERY, PTPM_TARGET_IS_EVERY, PTPM_SAME_CLOCK, PTPM_NO_PORTS,
-   PTPM_TOO_MANY_PORTS, PTPM_TARGET_IS_ZERO or PTPM_NO_MEMORY, in this order. A survey of every clock is refused with the first
-   or the last of these. A survey of one clock is refused with any of them except the two about ports. An asker is refused as a session
-   is, and with PTPM_MANAGER_TWICE before PTPM_NO_MEMORY if `nobody` is the manager's port. A clock is refused with all others,
-   PTPM_IDENTITY_IS_ZERO last, and with PTPM_NO_PORTS, PTPM_TOO_MANY_PORTS and PTPM_NO_MEMORY. PTPM_OTHER_SIZES comes before all of
-   them, and only for ptpm_clock_start_sized and the like. */
+   PTPM_TOO_MANY_PORTS, PTPM_TARGET_IS_ZERO or PTPM_NO_MEMORY, in this order. A survey of every clock is refused with the first or
+   the last of these. A survey of one clock is refused with any of them except the two about ports. An asker is refused as a
+   session is, and with PTPM_MANAGER_TWICE before PTPM_NO_MEMORY if `nobody` is the manager's port. A clock is refused with any of
+   the others, PTPM_IDENTITY_IS_ZERO last, and with PTPM_NO_PORTS, PTPM_TOO_MANY_PORTS and PTPM_NO_MEMORY. PTPM_OTHER_SIZES comes
+   before all of them, and only for ptpm_clock_start_sized and the like. */
 __extension__ enum PTPM_FOUR_OCTETS(ptpm_started) {
     PTPM_STARTED = 0,
     PTPM_START_NO_MEMORY = PTPM_NO_MEMORY,
@@ -664,7 +664,7 @@ __extension__ enum PTPM_FOUR_OCTETS(ptpm_started) {
     PTPM_BAD_LOG_MIN_PDELAY = 101
 };
 
-/* The members that are never out of range, since every value of their types is one of theirs. No call returns these names;
+/* The members that are never out of range, since every value of their types is in it. No call returns these names;
    ptpm_answer_name knows them. */
 enum {
     PTPM_BAD_DOMAIN = 65, PTPM_BAD_TWO_STEP = 67, PTPM_BAD_PRIORITY1, PTPM_BAD_CLOCK_CLASS, PTPM_BAD_VARIANCE = 71,
@@ -754,7 +754,7 @@ __extension__ enum PTPM_FOUR_OCTETS(ptpm_begun) {
     PTPM_BEGIN_NO_MEMORY = PTPM_NO_MEMORY,
     PTPM_BEGIN_NO_SESSION = PTPM_NO_SESSION,
     PTPM_BUSY = 38,                     /* a request is not answered yet */
-    PTPM_NEEDS_PORT = 39,               /* no port of the clock is named: for an id of a port, or at all by ptpm_session_begin_at */
+    PTPM_NEEDS_PORT = 39,               /* no port of the clock is named: for an id of a port, or for any id with ptpm_session_begin_at */
     PTPM_NOT_PERMITTED = 40,            /* the action is none of the three */
     PTPM_BAD_VALUE = 41,                /* the dataField has an odd number of octets, or over 1,418 */
     PTPM_COUNT_AT_MAXIMUM = 42          /* the session has begun 1,000,000 requests */
@@ -853,7 +853,7 @@ __extension__ enum PTPM_FOUR_OCTETS(ptpm_saved) {
     PTPM_SAVED = 0,
     PTPM_ACT_NOW = 31,                  /* ptpm_clock_saved: saved, and now the device is asked for what is under way */
     PTPM_SAVE_NO_CLOCK = PTPM_NO_CLOCK,
-    PTPM_SAVE_NO_ROOM = PTPM_NO_ROOM,   /* for fewer octets than the image has, or than both have with its seal */
+    PTPM_SAVE_NO_ROOM = PTPM_NO_ROOM,   /* for fewer octets than the image has, or than it has with its seal */
     PTPM_SAVE_NO_MEMORY = PTPM_NO_MEMORY, /* ptpm_clock_image_of, of a clock of over eight ports */
     PTPM_SAVE_NO_SESSION = PTPM_NO_SESSION,
     PTPM_OTHER_IMAGE = 119              /* not the latest image, or it counted already */
@@ -1055,7 +1055,7 @@ enum ptpm_handled ptpm_clock_handle(struct ptpm_clock *clock, uint16_t port, con
 enum ptpm_asking ptpm_clock_ask(const struct ptpm_clock *clock, uint16_t port, const uint8_t *datagram, size_t size,
                                 struct ptpm_question *asked);
 
-/* Like ptpm_clock_handle, with what the device says, and of the owner too. It also reports exactly the members that changed. If
+/* Like ptpm_clock_handle, with what the device says, and also for datagrams of the owner. It reports exactly the members that changed. If
    the device objects where ptpm_clock_ask would return PTPM_ASKED_CHANGE, the request is answered and kept with that error, and
    no member changes. If it gives a value where ptpm_clock_ask would return PTPM_ASKED_VALUE, this is the answer of the clock. For
    the GET of a manager the value has 130 octets at most, since the answer is kept. A longer one is answered with RESPONSE_TOO_BIG
@@ -1117,8 +1117,8 @@ enum ptpm_handled ptpm_clock_decide(struct ptpm_clock *clock, const struct ptpm_
    Writes:  all of limit->values. */
 void ptpm_limit_range(struct ptpm_limit *limit, int32_t least, int32_t most);
 
-/* Gives the error with which a device that has these values objects. Only limits of the id count, and of them those of a port
-   that the request names. A request for every port names each. An id without a limit is free.
+/* Gives the error by which a device with these limits objects. Only limits of the request's id, and of a port that it names,
+   count; a request for every port names each. An id without a limit is free.
    Takes:   limit_count limits; and what ptpm_clock_ask wrote.
    Returns: PTPM_ERROR_NOT_SETABLE for a SET, and PTPM_ERROR_NOT_SUPPORTED for a COMMAND, if such a limit has no value. Otherwise
             PTPM_ERROR_WRONG_VALUE if such a limit lacks the value of a SET. Otherwise 0. A SET of NULL_PTP_MANAGEMENT,
@@ -1213,7 +1213,8 @@ enum ptpm_saved ptpm_clock_image_of(struct ptpm_clock *clock, uint8_t *octets, s
    Caller:  calls ptpm_clock_next until that gives no message. After PTPM_ACT_NOW it asks its device (ptpm_clock_undertake). */
 enum ptpm_saved ptpm_clock_saved(struct ptpm_clock *clock, uint64_t token);
 
-/* Gives the first message that no longer waits for a save, in the order in which their datagrams came in.
+/* Gives the next message that no longer waits for a save. The messages come in the order of their
+   datagrams.
    Returns: 1; or 0 if there is none, and for a clock that does not save.
    Writes:  *message, as ptpm_clock_take writes each message. If the answer is 0, nothing of it.
    Caller:  sends it at its port, and acts on what changed with it. It calls again until the answer is 0: the clock takes no datagram
@@ -1367,8 +1368,8 @@ static inline void ptpm_session_stop_any(struct ptpm_session *session) {
 #define ptpm_session_stop(session) ptpm_session_stop_any(session)
 
 /* Starts a survey without answers instead of what the handle holds, which is freed first. A session of the same manager may treat
-   an answer to the survey's GET as its own. So the survey's manager has no session. It is another port of the same identity, and
-   with port 0 it is PTPM_SURVEY_PORT.
+   an answer to the survey's GET as its own. So the survey's manager has no session. It is another port of the same identity; port
+   0 stands for PTPM_SURVEY_PORT.
    Returns: PTPM_STARTED; or why not, and then the handle holds nothing.
    Memory:  the survey, until it is stopped.
    Caller:  stops the survey. */
@@ -1384,7 +1385,7 @@ static inline enum ptpm_started ptpm_survey_start_sized(struct ptpm_survey *hand
 /* Starts a survey of one clock, without answers, instead of what the handle holds, which is freed first. Every port of the
    clock is asked, and another clock's answer is ignored (PTPM_OTHER_SOURCE). A clock treats such a GET from one of its managers
    as a numbered request, like one of a session. And a session of the same manager may treat an answer as its own. So the
-   survey's manager is not one of the clock's, and has no session. It is another port of the same identity: with port 0
+   survey's manager is not one of the clock's, and has no session. It is another port of the same identity; port 0 stands for
    PTPM_SURVEY_PORT.
    Takes:   the identity of the clock: a different one than the manager's, and neither all ones nor all zeros.
    Returns: PTPM_STARTED; or why not, and then the handle holds nothing.
@@ -1476,8 +1477,9 @@ enum ptpm_asker_restored ptpm_asker_restore(struct ptpm_asker *asker, const stru
 enum ptpm_asked ptpm_asker_ask(struct ptpm_asker *asker, uint64_t now, uint64_t tag, uint8_t action, uint16_t id, uint16_t port,
                                const uint8_t *octets, size_t size, uint8_t domain, struct ptpm_handed *handed);
 
-/* Sends the request of an earlier run again, with its number, until it is answered. A SET or a COMMAND is sent in the domain in which
-   it was asked, whichever is given. A GET is sent in the one that is given, and so is a SET of DOMAIN to it.
+/* Sends the request of an earlier run again, with its number, until it is answered. A SET or a COMMAND is sent in the domain in
+   which it was asked, whichever is given. A GET is sent in the domain that is given, as is a SET that moves the clock to that
+   domain.
    Takes:   the time, a number by which the host names the request, and a domain.
    Returns: PTPM_ASKED; or PTPM_IDLE if there is none or the asker does not rest, and then nothing changes.
    Writes:  all of *handed. */
@@ -1541,7 +1543,7 @@ enum ptpm_asked ptpm_asker_image(const struct ptpm_asker *asker, uint8_t *octets
             nothing. */
 uint32_t ptpm_asker_earlier(const struct ptpm_asker *asker, uint8_t domain, uint8_t *there);
 
-/* Gives what the answer says that was handed out last with PTPM_NOTE_ANSWER.
+/* Gives what the answer of the latest PTPM_NOTE_ANSWER says.
    Takes:   room octets, as many as the dataField has or more: 1,418 are always enough.
    Returns: PTPM_VALUE, PTPM_DONE or PTPM_REFUSED; or why nothing is given.
    Writes:  *size, and as many octets from octets on: the dataField, after PTPM_VALUE. *size is 0 after every other answer.
@@ -1577,8 +1579,8 @@ enum ptpm_journaled ptpm_journal_add(struct ptpm_journal *journal, const struct 
                                      const uint8_t *first, size_t first_size, const uint8_t *second, size_t second_size,
                                      uint8_t *octets, size_t room, size_t *size);
 
-/* Takes the next record of a journal's file. A host begins with all octets of the file, and then gives those after the *size before,
-   until PTPM_JOURNAL_WHOLE. It cuts off what is left then. The journal goes on from there with ptpm_journal_add.
+/* Takes the next record of a journal's file. A host begins with all octets of the file, and leaves out *size more after each
+   call, until PTPM_JOURNAL_WHOLE. It cuts off what is left then. The journal goes on from there with ptpm_journal_add.
    Returns: PTPM_JOURNALED; PTPM_JOURNAL_WHOLE; or why not. PTPM_JOURNAL_DAMAGED is also the end of a file that lacks its head or
             a step. PTPM_JOURNAL_OTHER_VERSION comes only for the first record.
    Writes:  *record, all 0 unless one was taken. *size: how many octets it had, or 0.
@@ -1643,8 +1645,8 @@ static inline enum ptpm_saved ptpm_image_seal(uint8_t *octets, size_t size, size
     return ptpm_image_seal_in(octets, room, size, count, sealed);
 }
 
-/* Finds the image with its seal that octets begin with. Its head says how long it is, so what comes after the seal does not
-   matter.
+/* Finds the image and its seal at the start of the octets. The image's head says how long it is, so what comes after the
+   seal does not matter.
    Takes:   size octets, what a file or a place of a flash memory has.
    Returns: PTPM_RESTORED; PTPM_NOT_AN_IMAGE; or PTPM_DAMAGED if octets are missing, the seal is missing, or octets are not those
             that were sealed. The restore judges what the image is of.
@@ -1654,8 +1656,8 @@ enum ptpm_restored ptpm_image_unseal(const uint8_t *octets, size_t size, uint64_
 
 /* Finds the newest image of several places, each of as many octets. A host that writes only the oldest place has one image at any
    moment, whenever its power fails (docs/image.md).
-   Takes:   the octets of all places, one after the other; how many octets a place has, and how many places there are. Of a place
-            of a medium its head is enough: as many octets as the largest image and its seal.
+   Takes:   the octets of all places, one after the other; how many octets a place has, and how many places there are. The first
+            octets of each place are enough: as many as the largest image and its seal have.
    Returns: the place of the image with the highest count, counted from 0; of several such places, the first. The number of places
             if no place holds an image that ptpm_image_unseal takes.
    Writes:  *count and *image, as ptpm_image_unseal does for that place; both are 0 if no place holds one. */
@@ -1668,7 +1670,7 @@ static inline size_t ptpm_newest_image(const uint8_t *octets, size_t place, size
 
 /* Says whether a message is to be forwarded, and if it is, records it. It is if no message with the same
    sourcePortIdentity, sequenceId, targetPortIdentity, actionField and managementId is recorded, and there is a place to
-   record it. So a message that circulates is forwarded once. One that keeps coming is forwarded once in each such time.
+   record it. So a message that circulates is forwarded once, and one that keeps coming once in the time of a record.
    Takes:   the message, of size octets; a time; and for how long it is recorded, in the unit of that time. Both are the host's.
    Returns: whether it is to be forwarded; false too for what is not a management message. One that the library does not
             read counts as one (ptpm_clock_transit).
@@ -1689,8 +1691,8 @@ bool ptpm_passed_on_is_first_of(uint64_t seed, uint64_t (*places)[6], size_t cou
    Writes:  all of *rate. */
 void ptpm_rate_start(struct ptpm_rate *rate, uint64_t tokens, uint64_t now);
 
-/* Takes a token from a bucket, if there is one. In any stretch of time it gives at most the tokens of one second, and those for
-   the time that has passed.
+/* Takes a token from a bucket, if there is one. In any stretch of time a bucket gives at most the tokens of one second, and
+   those for the time that has passed.
    Takes:   a time in milliseconds. A time before the latest counts as the latest.
    Returns: whether there was one.
    Writes:  *rate. */
