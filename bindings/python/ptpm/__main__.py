@@ -181,7 +181,7 @@ class Task:
         return PortIdentity(UdpTransport.identity_at(words.interface, words.udp, ipv6=words.ipv6), 1)
 
     def ask(self) -> int:
-        """Asks, and prints what was answered; the status."""
+        """Asks, and prints what was answered; returns the status."""
         words = self.words
         seconds = words.timeout / 1000
         asked = {"domain": words.domain, "hops": words.hops, "attempts": words.attempts}

@@ -104,7 +104,7 @@ class Asker(Handle):
         return written(self._call, library.ptpm_asker_image, header.PTPM_SESSION_IMAGE_OCTETS)
 
     def earlier(self, domain: int) -> Tuple[int, int]:
-        """What an earlier run left, such as PTPM_QUESTION_LEFT, and in which domain it is finished if this run asks in that one."""
+        """What an earlier run left, such as PTPM_QUESTION_LEFT, and the domain in which a run that asks in `domain` finishes it."""
         there = ctypes.c_uint8()
         return self._call(library.ptpm_asker_earlier, domain, ctypes.byref(there)), there.value
 

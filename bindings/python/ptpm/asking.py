@@ -79,7 +79,7 @@ class Answerer:
         self._way = self._way or way.came_by
 
     def why_none(self, way: Transport) -> str:
-        """What is known if there is no answer, each after a semicolon."""
+        """What is known about a missing answer, each part after a semicolon."""
         why = [f"what came from {sender} is ignored, {reason}" for sender, reason in way.not_taken.items()]
         if self._guesses > _FEW:
             why.append(f"{self._guesses} answers had numbers that were not asked: someone guesses numbers, or also asks as this manager")

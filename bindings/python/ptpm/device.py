@@ -58,9 +58,9 @@ class Limit:
 
     @staticmethod
     def objection(limits: Sequence[Limit], asked: Asked) -> Optional[Objection]:
-        """The error with which a device that has these values objects, or None. Only limits of the id count, at the port that is
-        named. If one of them has no value, a SET is NOT_SETABLE, and a COMMAND is NOT_SUPPORTED. If one lacks the value of a SET,
-        that is a WRONG_VALUE."""
+        """The error by which a device with these limits objects, or None. Only limits of the request's id, and of a port that it
+        names, count. If one of them has no value, a SET is NOT_SETABLE, and a COMMAND is NOT_SUPPORTED. If one lacks the value of
+        a SET, that is a WRONG_VALUE."""
         places = (header.ptpm_limit * max(len(limits), 1))(*(limit._limit for limit in limits))
         error = library.ptpm_limits_say(places, len(limits), ctypes.byref(asked.as_in_c()))
         return Objection(error) if error else None

@@ -26,7 +26,7 @@ class Answer(IntEnum):
 
 
 class Enumeration(IntEnum):
-    """Numbers of an octet that the standard names. A number without a name is called such as `0x11`, as in every text and JSON of
+    """Numbers of an octet that the standard names. A number without a name is named like `0x11`, as in every text and JSON of
     ptpm."""
 
     @classmethod

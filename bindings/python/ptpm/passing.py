@@ -22,7 +22,7 @@ class PassedOn:
         self._turn = threading.RLock()
 
     def is_first(self, message: bytes, now: int, time: int) -> bool:
-        """Whether a message is to be forwarded, which is then recorded for a time. That time has the unit of the present time."""
+        """Whether a message is to be forwarded. If so, it is recorded for `time`, in the unit of `now`."""
         octets = octets_of(message)
         with self._turn:
             table = (self._seed, self._places, self._count)

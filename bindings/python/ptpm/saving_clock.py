@@ -74,8 +74,8 @@ class SavingClock:
         """Keeps a change as under way, so that the device is asked for it once, whatever happens to the power. A change is what
         `ask` would now ask of the device. It is in each image from then on. The next save returns `act_now` once, and the host
         asks its device. For any other datagram it returns what `ask` would, and keeps nothing. It is refused (UNSAVED) before the
-        first save. A second change is refused (UNDER_WAY). So is, until `decide`, everything else that the same manager asks of
-        this clock.
+        first save. A second change is refused (UNDER_WAY). Until `decide`, everything else that the same manager asks of this
+        clock is refused too.
 
         >>> from ptpm import Clock, ClockSettings, Manager, Objection, PortSettings
         >>> clock = SavingClock(Clock(ClockSettings("aabbccfffeddee01"), [PortSettings()], [Manager("0011223344556677/1")]))

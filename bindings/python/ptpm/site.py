@@ -98,7 +98,7 @@ class Lack(NamedTuple):
 
 
 class AskedDomain(NamedTuple):
-    """A domain in which the GETs among the lines ask, and how many boundary clocks forward one at most."""
+    """A domain in which the GETs among the lines ask, and how many boundary clocks forward a GET at most."""
 
     domain: DomainIdentity
     boundary_hops: int

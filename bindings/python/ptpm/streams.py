@@ -1,4 +1,4 @@
-"""The standard streams of a program whose reports must be written, or it says that they were not."""
+"""The standard streams of a program that writes each report, or says that it could not."""
 
 from __future__ import annotations
 
@@ -59,7 +59,7 @@ def complain(what: object) -> bool:
 
 @contextmanager
 def flush() -> Iterator[None]:
-    """Writes what is printed in its `with` at the end of that, or raises NotWritten."""
+    """At the end of its `with`, writes what was printed in it, or raises NotWritten."""
     try:
         yield
         sys.stdout.flush()

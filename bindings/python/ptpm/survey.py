@@ -29,8 +29,8 @@ _SOURCE = 20
 
 @dataclass(frozen=True)
 class SurveySettings:
-    """One manager, and the GET that it sends to every port of every clock, or of one. Give each survey a number with no message
-    in flight any more. With port 0 the manager asks from SURVEY_PORT, which no session has."""
+    """One manager, and the GET that it sends to every port of every clock, or of one. Give each survey a number that no message
+    in flight has. With port 0 the manager asks from SURVEY_PORT, which no session has."""
 
     manager: PortIdentityLike
     number: int

@@ -138,7 +138,8 @@ class Transport:
         return self._waiting.fileno()
 
     def send(self, octets: bytes) -> bool:
-        """Sends a message; whether there was room for it. An OSError says that there is no transport."""
+        """Sends a message; returns whether there was room for it. An OSError says that there is no
+        transport."""
         try:
             self._socket.sendto(octets, self._to)
         except BlockingIOError:
