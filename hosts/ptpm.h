@@ -1184,8 +1184,8 @@ size_t ptpm_clock_transit(const struct ptpm_clock *clock, uint16_t port, const u
    A clock that was just restored is saved. Any other clock is not: it takes no datagram before ptpm_clock_saved. Call it right after
    the start or the restore.
    ptpm_clock_take returns PTPM_UNSAVED in three cases, and nothing changes. The first is any datagram before the first save of a
-   clock that was not restored. The second is any datagram while ptpm_clock_next has a message to give. The third is one whose
-   messages would wait, if fewer than ptpm_clock_most_sent places are free (ptpm_clock_free).
+   clock that was not restored. The second is any datagram while ptpm_clock_next has a message to give. The third is a datagram
+   whose messages would wait, if fewer than ptpm_clock_most_sent places are free (ptpm_clock_free).
    Takes:   how many messages may wait, ptpm_clock_most_sent or more: one for a clock of one port.
    Returns: PTPM_SAVING; or PTPM_NO_CLOCK, PTPM_NO_ROOM for fewer places, or PTPM_NO_MEMORY, and then nothing changes. If the clock
             saves already, the answer is PTPM_SAVING, and nothing changes.
@@ -1579,8 +1579,9 @@ enum ptpm_journaled ptpm_journal_add(struct ptpm_journal *journal, const struct 
                                      const uint8_t *first, size_t first_size, const uint8_t *second, size_t second_size,
                                      uint8_t *octets, size_t room, size_t *size);
 
-/* Takes the next record of a journal's file. A host begins with all octets of the file, and leaves out *size more after each
-   call, until PTPM_JOURNAL_WHOLE. It cuts off what is left then. The journal goes on from there with ptpm_journal_add.
+/* Takes the next record of a journal's file. A host begins with all octets of the file, and after each call goes on *size
+   octets later, until PTPM_JOURNAL_WHOLE. It cuts off what is left then. The journal goes on from there with
+   ptpm_journal_add.
    Returns: PTPM_JOURNALED; PTPM_JOURNAL_WHOLE; or why not. PTPM_JOURNAL_DAMAGED is also the end of a file that lacks its head or
             a step. PTPM_JOURNAL_OTHER_VERSION comes only for the first record.
    Writes:  *record, all 0 unless one was taken. *size: how many octets it had, or 0.
