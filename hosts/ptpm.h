@@ -1316,7 +1316,8 @@ enum ptpm_resumed ptpm_session_resume(struct ptpm_session *session, uint8_t atte
             the request that was given up. */
 enum ptpm_given_up ptpm_session_give_up(struct ptpm_session *session);
 
-/* Has requests sent, and replies expected, in this domain from now on, the unanswered request among them.
+/* From now on requests are sent, and replies expected, in this domain. That includes the unanswered
+   request.
    Returns: PTPM_RETUNED, or why not. */
 enum ptpm_retuned ptpm_session_retune(struct ptpm_session *session, uint8_t domain);
 

@@ -108,7 +108,7 @@ class Requests(Handle):
         done(self._call(library.ptpm_session_resume, attempts))
 
     def retune(self, domain: int) -> None:
-        """Has requests sent, and replies expected, in this domain from now on, the unanswered request among them."""
+        """From now on requests are sent, and replies expected, in this domain. That includes the unanswered request."""
         if not 0 <= domain <= 255:
             raise OverflowError(f"a domain is 0 to 255, not {domain}")
         done(self._call(library.ptpm_session_retune, domain))

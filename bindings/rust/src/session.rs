@@ -209,7 +209,8 @@ impl Session {
         done(alone(|| unsafe { sys::ptpm_session_give_up(&mut self.handle) }))
     }
 
-    /// Has requests sent, and replies expected, in this domain from now on, the unanswered request among them.
+    /// From now on requests are sent, and replies expected, in this domain. That includes the unanswered
+    /// request.
     pub fn retune(&mut self, domain: u8) -> Result<(), Error> {
         // SAFETY: the handle is live.
         done(unsafe { sys::ptpm_session_retune(&mut self.handle, domain) })
