@@ -211,8 +211,8 @@ impl Asker {
         Ok(asker)
     }
 
-    /// Starts an asker with the session of an image: what the session's file has. Its first number is that of the image. Then
-    /// [`Asker::earlier`] says what is left of an earlier run.
+    /// Starts an asker with the session of an image: what the session's file has. The first number is the image's, not that
+    /// of the settings. Then [`Asker::earlier`] says what is left of an earlier run.
     ///
     /// # Errors
     ///
@@ -255,8 +255,8 @@ impl Asker {
         })
     }
 
-    /// Sends the request of an earlier run again, with its number, until it is answered. A SET or a COMMAND is sent in the domain in
-    /// which it was asked. A GET is sent in the one that is given, and so is a SET of DOMAIN to it.
+    /// Sends the request of an earlier run again, with its number, until it is answered. A SET or a COMMAND is sent in the domain
+    /// in which it was asked. A GET is sent in the domain that is given, as is a SET that moves the clock to that domain.
     ///
     /// # Errors
     ///

@@ -157,9 +157,9 @@ impl Limit {
         self.limit.values[octet as usize / 8] >> (octet % 8) & 1 == 1
     }
 
-    /// The error with which a device that has these values objects. Only limits of the id count, at the port that is named. If
-    /// one of them has no value, a SET is NOT_SETABLE, and a COMMAND is NOT_SUPPORTED. If one lacks the value of a SET, that is a
-    /// WRONG_VALUE.
+    /// The error by which a device with these limits objects. Only limits of the request's id, and of a port that it names,
+    /// count. If one of them has no value, a SET is NOT_SETABLE, and a COMMAND is NOT_SUPPORTED. If one lacks the value of a SET,
+    /// that is a WRONG_VALUE.
     pub fn objection(limits: &[Self], asked: &Asked) -> Option<Objection> {
         // SAFETY: the limits and the question may be read. A limit is laid out as that of the library.
         Objection::of_number(unsafe { sys::ptpm_limits_say(limits.as_ptr().cast(), limits.len(), &asked.question) })
@@ -224,7 +224,7 @@ pub struct Taken<'a> {
     pub turn: Turn<'a>,
     /// How many more messages wait until a [`SavingClock`](crate::SavingClock) is saved; 0 of any other clock.
     pub waiting: usize,
-    /// Which members have another value then.
+    /// Which members have a different value than before.
     pub changed: Changed,
 }
 

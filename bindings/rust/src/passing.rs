@@ -69,7 +69,7 @@ impl PassedOn {
         Some(Self { seed, places: Places::Lent(places) })
     }
 
-    /// Whether a message is to be forwarded, which is then recorded for a time. That time and the present one are in the
+    /// Whether a message is to be forwarded. If so, it is recorded for a time. That time and the present one are in the
     /// same unit, which the host chooses.
     pub fn is_first(&mut self, message: &[u8], now: u64, time: u64) -> bool {
         let places = match &mut self.places {

@@ -184,9 +184,9 @@ impl SavingClock {
         Ok((&room[..size], ImageToken(token)))
     }
 
-    /// Says once that a restart would find the latest image, whatever happens to the power. What waited when it was made can be
-    /// had now ([`SavingClock::next_message`]). It returns [`Saved::ActNow`] if the image has a change that is still under way:
-    /// once for each, and never for one that a restore found.
+    /// Says once that a restart would find the latest image, whatever happens to the power. What waited when that image was
+    /// made can be had now ([`SavingClock::next_message`]). It returns [`Saved::ActNow`] if the image has a change that is
+    /// still under way: once for each, and never for one that a restore found.
     ///
     /// # Errors
     ///

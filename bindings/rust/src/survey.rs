@@ -15,9 +15,9 @@ use core::ptr::null_mut;
 /// The portNumber of a survey whose manager has port 0. No session has it.
 pub const SURVEY_PORT: u16 = sys::PTPM_SURVEY_PORT;
 
-/// One manager, and the GET that it sends to every port of every clock, or of one. Give each survey a number with no message in
-/// flight any more. A session of the same manager may treat an answer as its own. So the survey's manager has no session: it is
-/// another port of the same clockIdentity. With port 0 it is [`SURVEY_PORT`].
+/// One manager, and the GET that it sends to every port of every clock, or of one. Give each survey a number that no message in
+/// flight has. A session of the same manager may treat an answer as its own. So the survey's manager has no session: it is
+/// another port of the same clockIdentity. Port 0 stands for [`SURVEY_PORT`].
 #[derive(Clone, Copy, Debug, PartialEq, Eq)]
 pub struct SurveySettings {
     /// The manager; its clock is not all ones.
