@@ -1809,8 +1809,8 @@ enum ptpm_member_kind ptpm_member_kind(uint16_t id, const uint8_t *octets, size_
    value is written as ptpm_field_text writes it. A number of one octet without a sign may be decimal, or 0x and two hexadecimal
    digits; a flag also 1 or 0. A delayMechanism has its name in either case or its number. In a text, \xHH is an octet in
    hexadecimal. The clock decides whether it accepts the value.
-   Takes:   the managementId; and words in UTF-8 with a zero octet after each, of size octets with all of these. And room octets,
-            for which PTPM_MOST_READ is enough.
+   Takes:   the managementId; size octets of words in UTF-8, with a zero octet after each; and room octets, for which
+            PTPM_MOST_READ is enough.
    Returns: PTPM_PARSED; or the first of these in this order: PTPM_NOT_WORDS, PTPM_UNKNOWN_ID, PTPM_WORD_COUNT, that of a member,
             PTPM_NO_ROOM. That of a member is PTPM_OTHER_NAME or PTPM_NO_VALUE, of the first member that has one of them.
    Writes:  *count, how many octets the dataField has, and as many octets from octets on. If it is refused, *count is 0 and no octet
