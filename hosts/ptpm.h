@@ -1,7 +1,7 @@
 /* PTP management (IEEE 1588-2019, clause 15) for a host in C. An agent has the data sets of one clock, and judges each management
-   message that comes in at its ports. A session of a manager has one request at a time to one clock. An agent carries it out once,
-   however often it is sent. A survey is one GET to every clock, or to one, and keeps the first answer of each port. The library opens
-   no socket, reads no clock and starts no thread. Link libptpm.a or libptpm.so. Both need only the C
+   message that comes in at its ports. A session of a manager has one request at a time to one clock. An agent carries each
+   request out once, however often it is sent. A survey is one GET to every clock, or to one, and keeps the first answer of each
+   port. The library opens no socket, reads no clock and starts no thread. Link libptpm.a or libptpm.so. Both need only the C
    library, and call malloc, realloc and free of the host; libptpm_memory.a calls none of these (ptpm_memory.h). This file is C99,
    C11, C17 and C++17, for gcc and clang.
 
@@ -26,8 +26,8 @@
      realloc, free, memcpy, memmove and memset. No call calls itself.
 
    A call that only reads takes a const handle, and leaves it as it is. If several errors apply, the first is returned. Only
-   ptpm_clock_start, and ptpm_clock_restore of a clock of over eight ports, may return PTPM_NO_MEMORY in its place. Every other call asks
-   for memory only if no other error applies. */
+   ptpm_clock_start, and ptpm_clock_restore of a clock of over eight ports, may return PTPM_NO_MEMORY instead. Every other call
+   asks for memory only if no other error applies. */
 #ifndef PTPM_H
 #define PTPM_H
 
@@ -68,13 +68,14 @@ enum {
 /* The most ports that a clock has, and the most managers. */
 enum { PTPM_MOST_PORTS = 64, PTPM_MOST_MANAGERS = 64 };
 
-/* A clock: up to eight ports are 2,760 octets at one pointer with one manager, and 34,920 with sixteen (ptpm_clock_start). All zeros
-   hold no clock: struct ptpm_clock clock = { 0 }; */
+/* A clock, at one pointer: with up to eight ports 2,760 octets with one manager, and 34,920 with sixteen (ptpm_clock_start). All
+   zeros hold no clock: struct ptpm_clock clock = { 0 }; */
 struct ptpm_clock { void *at; PTPM_TO_EIGHT bool live; bool restored; };
 
 /* The start values of a clock's own members: ptpm_clock_defaults writes them all, then the host writes its own over them.
-   A flag is set if it is not 0. Without its has_ flag a value is the clock's own, and parent_port is its port 0. An
-   offsetScaledLogVariance is 256 times the base-2 logarithm of the variance in seconds squared, plus 0x8000 (7.6.3). */
+   A flag is set if it is not 0. A value without its has_ flag is the clock's own, and parent_port is then the clock's
+   port 0. An offsetScaledLogVariance is 256 times the base-2 logarithm of the variance in seconds squared, plus 0x8000
+   (7.6.3). */
 struct ptpm_clock_settings {
     PTPM_AT_EIGHT int64_t offset_from_master; /* in nanoseconds times 2^16 */
     int64_t mean_path_delay;            /* in nanoseconds times 2^16 */
@@ -99,7 +100,7 @@ struct ptpm_clock_settings {
     uint8_t grandmaster_class;
     uint8_t grandmaster_accuracy;
     uint8_t grandmaster_priority2;
-    uint8_t leap61;                     /* not both of the two */
+    uint8_t leap61;                     /* at most one of the two leaps */
     uint8_t leap59;
     uint8_t utc_valid;
     uint8_t ptp_timescale;
@@ -139,13 +140,13 @@ struct ptpm_port_settings {
     int8_t log_min_pdelay;              /* logMinPdelayReqInterval, -8 to 5 */
 };
 
-/* What a host observes about its clock. Its servo, its port state machines and its best master clock algorithm find it (clause 8.2 of
-   IEEE 1588-2019). Start from all zeros, struct ptpm_observed_clock observed = { 0 }; a member without its has_ flag
-   stays. A flag is set if it is not 0. A grandmaster is observed as a whole. If is_grandmaster is set it is the clock itself, and the
-   members of a grandmaster and of the parent port do not count. Otherwise, if has_grandmaster is set, it is the one that they name.
-   If neither is set, the quality of a clock that is its own grandmaster is shown as its grandmaster's too. What only managers
-   set can't be observed. clock_accuracy, utc_offset, the two leaps and utc_valid are both set and observed, and the later
-   value counts. */
+/* What a host observes about its clock, by its servo, its port state machines and its best master clock algorithm (clause 8.2 of
+   IEEE 1588-2019). Start from all zeros, struct ptpm_observed_clock observed = { 0 }; a member without its has_ flag stays. A
+   flag is set if it is not 0. A grandmaster is observed as a whole. If is_grandmaster is set, the grandmaster is the clock
+   itself, and the members of a grandmaster and of the parent port do not count. Otherwise, if has_grandmaster is set, it is the
+   one that these members name. If neither is set, the quality of a clock that is its own grandmaster is shown as its
+   grandmaster's too. What only managers set can't be observed. Managers may also set clock_accuracy, utc_offset, the two leaps
+   and utc_valid: the later value counts. */
 struct ptpm_observed_clock {
     PTPM_AT_EIGHT int64_t offset_from_master; /* in nanoseconds times 2^16 */
     int64_t mean_path_delay;            /* in nanoseconds times 2^16 */
@@ -165,7 +166,7 @@ struct ptpm_observed_clock {
     uint8_t grandmaster_class;
     uint8_t grandmaster_accuracy;
     uint8_t grandmaster_priority2;
-    uint8_t leap61;                     /* not both of the two afterwards */
+    uint8_t leap61;                     /* at most one of the two leaps afterwards */
     uint8_t leap59;
     uint8_t utc_valid;
     uint8_t ptp_timescale;
@@ -194,7 +195,7 @@ struct ptpm_observed_clock {
 };
 
 /* What a host observes of a port. Only a manager's command enters or leaves state 3, DISABLED. An enabled port is not observed in
-   it, and a disabled port stays in it. Any other number counts as 3. */
+   it, and a disabled port stays in it. A number that is not a portState counts as 3. */
 struct ptpm_observed_port {
     PTPM_AT_EIGHT int64_t peer_delay;   /* in nanoseconds times 2^16 */
     uint8_t state;                      /* portState, PTPM_STATE_INITIALIZING to PTPM_STATE_SLAVE */
@@ -213,7 +214,7 @@ struct ptpm_manager_settings {
     uint8_t rights;                     /* a sum of the three above */
 };
 
-/* A message, and the port that it is to be sent at. The octets past size are what was there before. */
+/* A message, and the port that it is to be sent at. The octets past size stay as they were. */
 struct ptpm_sent {
     uint16_t port;
     uint16_t size;
@@ -260,7 +261,7 @@ struct ptpm_taken {
     struct ptpm_changed changed;        /* the members that have a different value than before */
 };
 
-/* What a device is asked (ptpm_clock_ask): to carry out a SET or a COMMAND, or for the value of a GET. All zeros if it is nothing. */
+/* What a device is asked (ptpm_clock_ask): to carry out a SET or a COMMAND, or for the value of a GET. All zeros: nothing. */
 struct ptpm_question {
     uint8_t manager[8];                 /* sourcePortIdentity of the request: the clock, and the port */
     uint16_t manager_port;
@@ -288,7 +289,7 @@ struct ptpm_say {
     uint8_t octets[1418];               /* with PTPM_GIVES: the dataField */
 };
 
-/* The values that the hardware of a device has, of an id at a port (ptpm_limits_say). They are values of the first octet of the
+/* The values that a device's hardware has for an id at a port (ptpm_limits_say). They are values of the first octet of the
    dataField of a SET. Value n is bit n % 8 of values[n / 8]. A log_.. of -8 is value 0xF8. */
 struct ptpm_limit {
     uint16_t id;                        /* managementId */
@@ -319,10 +320,10 @@ enum { PTPM_GET = 0, PTPM_SET = 1, PTPM_COMMAND = 3 };
 /* A survey of a manager: what it asks and its answers, at one pointer. All zeros hold no survey. */
 struct ptpm_survey { void *at; PTPM_TO_EIGHT bool live; bool restored; };
 
-/* One manager, and the GET that it sends to every port of every clock, or of one. A clock answers a GET for every clock
-   whatever numbers it took from this manager before. A late answer to an earlier GET with the same number and id counts for this
-   survey: use a number with nothing in flight. No session may have the same portIdentity. With port 0 that is PTPM_SURVEY_PORT, which
-   no session should have. */
+/* One manager, and the GET that it sends to every port of every clock, or of one. A clock answers a GET for every clock whatever
+   numbers it took from this manager before. A late answer to an earlier GET with the same number and id counts for this survey:
+   use a number with nothing in flight. No session may have the same portIdentity. Port 0 stands for PTPM_SURVEY_PORT, which no
+   session should have. */
 struct ptpm_survey_settings {
     uint16_t port;                      /* portNumber of the manager; 0 for PTPM_SURVEY_PORT */
     uint16_t number;                    /* sequenceId */
@@ -343,7 +344,7 @@ struct ptpm_asker_settings {
     uint32_t wait;                      /* how long a new session waits: longer than any copy of a message is on its way */
 };
 
-/* What an asker hands out: what its host does next, and then says. */
+/* What an asker hands out: what its host does next, and then reports. */
 struct ptpm_handed {
     uint64_t tag;                       /* as the host named its request: after PTPM_NOTE_BEGUN and PTPM_NOTE_ANSWER */
     uint64_t time;                      /* when to wake the asker: after PTPM_SEND_IT, PTPM_SEND_READ and PTPM_WAIT */
@@ -396,10 +397,10 @@ enum {
     PTPM_RECORD_HEAD = 1,               /* comes first; its name, and that of the change that it rolls back: 255 octets each at most */
     PTPM_RECORD_STEP = 2,               /* these come next; the dataField before, and the one that is set: 4,096 octets each at most */
     PTPM_RECORD_BEGUN = 3,              /* a message of the step may leave from now on */
-    PTPM_RECORD_NOT_BEGUN = 4,          /* none left after all */
-    PTPM_RECORD_LET_GO = 5,             /* it is given up: no run sends it again */
-    PTPM_RECORD_TOLD = 6,               /* it is answered; the dataField of the answer: 4,096 octets at most */
-    PTPM_RECORD_POLICY = 7,             /* other flags and another `together` from here on */
+    PTPM_RECORD_NOT_BEGUN = 4,          /* no message of it left after all */
+    PTPM_RECORD_LET_GO = 5,             /* the step is given up: no run sends it again */
+    PTPM_RECORD_TOLD = 6,               /* the step is answered; the dataField of the answer: 4,096 octets at most */
+    PTPM_RECORD_POLICY = 7,             /* the flags and `together` from here on */
     PTPM_RECORD_END = 8,                /* nothing comes after it */
     PTPM_RECORD_TEXT = 9                /* a text of the host: 4,096 octets at most */
 };
@@ -407,7 +408,7 @@ enum {
 /* The flags of a journal: the change goes on at other clocks if one fails; and each step comes after all those before it. */
 enum { PTPM_KEEPS_GOING = 1, PTPM_IN_ONE_ROW = 2 };
 
-/* What the answer to a step says; how a change ends; and the step of an ending that is at none. */
+/* What the answer to a step says; how a change ends; and the step of an ending without a step. */
 enum { PTPM_STEP_DONE = 1, PTPM_STEP_REFUSED = 2, PTPM_STEP_ANSWERED = 3 };
 enum {
     PTPM_END_COMPLETE = 1, PTPM_END_REFUSED = 2, PTPM_END_ANSWERED = 3, PTPM_END_CHANGED = 4, PTPM_END_GIVEN_UP = 5,
@@ -425,11 +426,11 @@ enum {
    zeros hold none. */
 struct ptpm_rollout { void *at; PTPM_TO_EIGHT bool live; bool restored; };
 
-/* How it goes on: it stops where a step fails, goes on at other clocks, or is given up, which sends nothing. PTPM_SETTLE_ALONE only
-   completes the step that an earlier run left without an answer, before a rollback. */
+/* How a change goes on: it stops where a step fails, goes on at other clocks, or is given up, which sends nothing.
+   PTPM_SETTLE_ALONE only completes the step that an earlier run left without an answer, before a rollback. */
 enum { PTPM_STOP_AT_FAILURE = 0, PTPM_KEEP_GOING = 1, PTPM_GIVE_UP = 2, PTPM_SETTLE_ALONE = 3 };
 
-/* What an action came to. A member that its kind lacks is not read. */
+/* The outcome of an action. A member that its kind lacks is not read. */
 struct ptpm_rollout_event {
     PTPM_AT_EIGHT uint64_t time;        /* in seconds since 1970, for what is noted */
     uint32_t what;                      /* one of the names below */
@@ -445,9 +446,9 @@ enum {
     PTPM_EVENT_VALUE = 4,               /* the clock answered: the octets are the dataField */
     PTPM_EVENT_REFUSED = 5,
     PTPM_EVENT_SILENT = 6,              /* there was no answer */
-    PTPM_EVENT_DONE = 7,                /* it is on the disk, or nothing is left to say */
-    PTPM_EVENT_PASSES = 8,              /* to PTPM_DO_CHECK: it goes on, or not */
-    PTPM_EVENT_STOPS = 9,
+    PTPM_EVENT_DONE = 7,                /* the action is done; what it writes is on the disk */
+    PTPM_EVENT_PASSES = 8,              /* to PTPM_DO_CHECK: the change goes on */
+    PTPM_EVENT_STOPS = 9,               /* to PTPM_DO_CHECK: it does not */
     PTPM_EVENT_NOT_WRITTEN = 10,        /* a file could not be written; to any action */
     PTPM_EVENT_INTERRUPTED = 11         /* the host ends; to any action */
 };
@@ -458,7 +459,7 @@ struct ptpm_rollout_action {
     uint16_t lane;
     uint16_t step;                      /* PTPM_NO_STEP if there is none */
     uint8_t domain;                     /* PTPM_DO_SETTLE, PTPM_DO_READ */
-    uint8_t ending;                     /* PTPM_DO_END: how it ended, or 0 if it is open, */
+    uint8_t ending;                     /* PTPM_DO_END: how the change ended, or 0 if it is open, */
     uint8_t why;                        /* and then why */
     uint8_t zero;
 };
@@ -468,7 +469,7 @@ enum {
     PTPM_DO_SETTLE = 2,                 /* send again what an earlier run left; without a step, what another program left */
     PTPM_DO_LET_GO = 3,                 /* give up what is under way in the session, and save that */
     PTPM_DO_READ = 4,                   /* read the member of the step in this domain, by nobody */
-    PTPM_DO_CHECK = 5,                  /* the step is the first one at another clock: whether it goes on */
+    PTPM_DO_CHECK = 5,                  /* say whether the change goes on: this step is the first one at another clock */
     PTPM_DO_ASK = 6,                    /* ask the step */
     PTPM_DO_NOTE = 7,                   /* append the record to the journal's file, and synchronize it */
     PTPM_DO_GO_ON = 8,                  /* the note is made: ptpm_asker_noted, and what comes then */
@@ -499,8 +500,8 @@ struct ptpm_source {
     uint16_t port;
 };
 
-/* Which messages were forwarded last, 4,096 at most, about 197,000 octets. All zeros record none. The host then draws a seed,
-   so that nobody else can predict where a message is recorded. It writes nothing else inside. */
+/* Which messages were forwarded last, 4,096 at most, about 197,000 octets. All zeros record none. The host draws a seed, so
+   that nobody else can predict where a message is recorded. It writes nothing else inside. */
 struct ptpm_passed_on {
     PTPM_AT_EIGHT uint64_t seed;
     uint64_t places[4096][6];
@@ -617,8 +618,8 @@ enum { PTPM_MOST_ANSWERS = 16384, PTPM_SURVEY_PORT = 65534 };
 #define PTPM_TOO_MANY_MANAGERS 51       /* over PTPM_MOST_MANAGERS */
 #define PTPM_MANAGER_TWICE 52           /* or `nobody` of an asker is its manager's port */
 #define PTPM_IDENTITY_IS_ZERO 56        /* the clock's identity is all zeros */
-#define PTPM_UNSAVED 118                /* a clock was changed and not saved, and this comes only after a save */
-#define PTPM_UNDER_WAY 123              /* a change of the device is under way, and this comes only after ptpm_clock_decide */
+#define PTPM_UNSAVED 118                /* the clock is not saved, and this call needs a save first */
+#define PTPM_UNDER_WAY 123              /* a change of the device is under way, and this call has to wait for ptpm_clock_decide */
 #define PTPM_BAD_CLOCK_ACCURACY 70
 #define PTPM_BAD_LEAP59 88              /* both leaps */
 #define PTPM_BAD_STATE 94
@@ -632,11 +633,11 @@ enum { PTPM_MOST_ANSWERS = 16384, PTPM_SURVEY_PORT = 65534 };
 #endif
 
 /* The starts. A session is refused with PTPM_MANAGER_IS_EVERY, PTPM_TARGET_IS_EVERY, PTPM_SAME_CLOCK, PTPM_NO_PORTS,
-   PTPM_TOO_MANY_PORTS, PTPM_TARGET_IS_ZERO or PTPM_NO_MEMORY, in this order. A survey of every clock is refused with the first
-   or the last of these. A survey of one clock is refused with any of them except the two about ports. An asker is refused as a session
-   is, and with PTPM_MANAGER_TWICE before PTPM_NO_MEMORY if `nobody` is the manager's port. A clock is refused with all others,
-   PTPM_IDENTITY_IS_ZERO last, and with PTPM_NO_PORTS, PTPM_TOO_MANY_PORTS and PTPM_NO_MEMORY. PTPM_OTHER_SIZES comes before all of
-   them, and only for ptpm_clock_start_sized and the like. */
+   PTPM_TOO_MANY_PORTS, PTPM_TARGET_IS_ZERO or PTPM_NO_MEMORY, in this order. A survey of every clock is refused with the first or
+   the last of these. A survey of one clock is refused with any of them except the two about ports. An asker is refused as a
+   session is, and with PTPM_MANAGER_TWICE before PTPM_NO_MEMORY if `nobody` is the manager's port. A clock is refused with any of
+   the others, PTPM_IDENTITY_IS_ZERO last, and with PTPM_NO_PORTS, PTPM_TOO_MANY_PORTS and PTPM_NO_MEMORY. PTPM_OTHER_SIZES comes
+   before all of them, and only for ptpm_clock_start_sized and the like. */
 __extension__ enum PTPM_FOUR_OCTETS(ptpm_started) {
     PTPM_STARTED = 0,
     PTPM_START_NO_MEMORY = PTPM_NO_MEMORY,
@@ -646,11 +647,11 @@ __extension__ enum PTPM_FOUR_OCTETS(ptpm_started) {
     PTPM_START_GRANDMASTER_DIFFERS = PTPM_GRANDMASTER_DIFFERS,
     PTPM_START_TOO_MANY_MANAGERS = PTPM_TOO_MANY_MANAGERS,
     PTPM_START_MANAGER_TWICE = PTPM_MANAGER_TWICE,
-    PTPM_MANAGER_IS_EVERY = 53,         /* its identity is all ones */
-    PTPM_TARGET_IS_EVERY = 54,          /* the managed clock's is */
+    PTPM_MANAGER_IS_EVERY = 53,         /* the manager's identity is all ones */
+    PTPM_TARGET_IS_EVERY = 54,          /* the managed clock's identity is all ones */
     PTPM_SAME_CLOCK = 55,               /* the managed clock has the manager's identity */
     PTPM_START_IDENTITY_IS_ZERO = PTPM_IDENTITY_IS_ZERO,
-    PTPM_TARGET_IS_ZERO = 57,           /* the managed clock's is */
+    PTPM_TARGET_IS_ZERO = 57,           /* the managed clock's identity is all zeros */
     PTPM_BAD_IDENTITY = 64,             /* a member is out of its range, here and below */
     PTPM_BAD_USER_DESCRIPTION = 66,
     PTPM_START_BAD_CLOCK_ACCURACY = PTPM_BAD_CLOCK_ACCURACY,
@@ -663,7 +664,7 @@ __extension__ enum PTPM_FOUR_OCTETS(ptpm_started) {
     PTPM_BAD_LOG_MIN_PDELAY = 101
 };
 
-/* The members that are never out of range, since every value of their types is one of theirs. No call returns these names;
+/* The members that are never out of range, since every value of their types is in it. No call returns these names;
    ptpm_answer_name knows them. */
 enum {
     PTPM_BAD_DOMAIN = 65, PTPM_BAD_TWO_STEP = 67, PTPM_BAD_PRIORITY1, PTPM_BAD_CLOCK_CLASS, PTPM_BAD_VARIANCE = 71,
@@ -700,7 +701,7 @@ __extension__ enum PTPM_FOUR_OCTETS(ptpm_handled) {
     PTPM_HANDLE_NO_ROOM = PTPM_NO_ROOM, /* for fewer than ptpm_clock_most_sent messages */
     PTPM_HANDLE_NO_MEMORY = PTPM_NO_MEMORY,
     PTPM_HANDLE_UNSAVED = PTPM_UNSAVED,
-    PTPM_BAD_SAY = 121,                 /* it is of a different kind, has an error that no device gives, or gives what can't be a dataField */
+    PTPM_BAD_SAY = 121,                 /* it is of an unknown kind, has an error that no device gives, or gives what can't be a dataField */
     PTPM_HANDLE_UNDER_WAY = PTPM_UNDER_WAY, /* ptpm_clock_take */
     PTPM_NOTHING_UNDER_WAY = 124        /* ptpm_clock_decide */
 };
@@ -753,13 +754,13 @@ __extension__ enum PTPM_FOUR_OCTETS(ptpm_begun) {
     PTPM_BEGIN_NO_MEMORY = PTPM_NO_MEMORY,
     PTPM_BEGIN_NO_SESSION = PTPM_NO_SESSION,
     PTPM_BUSY = 38,                     /* a request is not answered yet */
-    PTPM_NEEDS_PORT = 39,               /* no port of the clock is named: for an id of a port, or at all by ptpm_session_begin_at */
+    PTPM_NEEDS_PORT = 39,               /* no port of the clock is named: for an id of a port, or for any id with ptpm_session_begin_at */
     PTPM_NOT_PERMITTED = 40,            /* the action is none of the three */
     PTPM_BAD_VALUE = 41,                /* the dataField has an odd number of octets, or over 1,418 */
     PTPM_COUNT_AT_MAXIMUM = 42          /* the session has begun 1,000,000 requests */
 };
 
-/* ptpm_session_send and ptpm_survey_send. The second is never answered PTPM_IDLE or PTPM_GAVE_UP. */
+/* ptpm_session_send and ptpm_survey_send. The second never returns PTPM_IDLE or PTPM_GAVE_UP. */
 __extension__ enum PTPM_FOUR_OCTETS(ptpm_sending) {
     PTPM_SENT = 0,
     PTPM_SEND_NO_ROOM = PTPM_NO_ROOM,   /* for fewer than PTPM_MOST_OCTETS octets */
@@ -852,7 +853,7 @@ __extension__ enum PTPM_FOUR_OCTETS(ptpm_saved) {
     PTPM_SAVED = 0,
     PTPM_ACT_NOW = 31,                  /* ptpm_clock_saved: saved, and now the device is asked for what is under way */
     PTPM_SAVE_NO_CLOCK = PTPM_NO_CLOCK,
-    PTPM_SAVE_NO_ROOM = PTPM_NO_ROOM,   /* for fewer octets than the image has, or than both have with its seal */
+    PTPM_SAVE_NO_ROOM = PTPM_NO_ROOM,   /* for fewer octets than the image has, or than it has with its seal */
     PTPM_SAVE_NO_MEMORY = PTPM_NO_MEMORY, /* ptpm_clock_image_of, of a clock of over eight ports */
     PTPM_SAVE_NO_SESSION = PTPM_NO_SESSION,
     PTPM_OTHER_IMAGE = 119              /* not the latest image, or it counted already */
@@ -903,7 +904,7 @@ __extension__ enum PTPM_FOUR_OCTETS(ptpm_asker_restored) {
     PTPM_ASKER_RESTORE_OTHER_SESSION = PTPM_OTHER_SESSION
 };
 
-/* The other calls of an asker. Only ptpm_asker_ask is answered PTPM_BUSY to PTPM_BAD_VALUE. */
+/* The other calls of an asker. Only ptpm_asker_ask returns PTPM_BUSY to PTPM_BAD_VALUE. */
 __extension__ enum PTPM_FOUR_OCTETS(ptpm_asked) {
     PTPM_ASKED = 0,
     PTPM_ASK_NO_ROOM = PTPM_NO_ROOM,    /* for fewer octets than there are: ptpm_asker_message and ptpm_asker_image */
@@ -944,7 +945,7 @@ __extension__ enum PTPM_FOUR_OCTETS(ptpm_rolled) {
     PTPM_OUT_OF_TURN = 132              /* ptpm_rollout_turn: the event answers no action that is due */
 };
 
-/* So the header refuses a compiler that does not take these forms. */
+/* With this the header refuses a compiler that does not take these forms of an enum. */
 #define PTPM_IS_WIDE(name) typedef char name##_has_not_four_octets[sizeof(enum name) == 4 ? 1 : -1]
 PTPM_IS_WIDE(ptpm_started);
 PTPM_IS_WIDE(ptpm_handled);
@@ -987,7 +988,7 @@ uint32_t ptpm_version(void);
    Returns: PTPM_STARTED if the library has these structs, of these sizes; or PTPM_OTHER_SIZES. */
 enum ptpm_started ptpm_sizes_agree(const size_t *sizes, size_t count);
 
-/* Compares the sizes of the file that the caller was compiled with. */
+/* Compares the sizes of the header that the caller was compiled with. */
 static inline enum ptpm_started ptpm_header_agrees(void) {
     static const size_t sizes[] = {
         sizeof(struct ptpm_clock), sizeof(struct ptpm_clock_settings), sizeof(struct ptpm_port_settings),
@@ -1023,7 +1024,7 @@ enum ptpm_started ptpm_clock_start(struct ptpm_clock *clock, const struct ptpm_c
                                    const struct ptpm_port_settings *ports, size_t port_count,
                                    const struct ptpm_manager_settings *managers, size_t manager_count);
 
-/* Does what ptpm_clock_start does if this file is that of the library.
+/* Does what ptpm_clock_start does if this header is the library's.
    Returns: what ptpm_clock_start returns; or PTPM_OTHER_SIZES, and then the handle holds what it held. */
 static inline enum ptpm_started ptpm_clock_start_sized(struct ptpm_clock *handle, const struct ptpm_clock_settings *settings,
                                                        const struct ptpm_port_settings *of_ports, size_t all_ports,
@@ -1037,8 +1038,9 @@ static inline enum ptpm_started ptpm_clock_start_sized(struct ptpm_clock *handle
    Returns: what became of the datagram; or why it was not judged, and then *count is 0. That is PTPM_NO_CLOCK also for a clock
             that saves (ptpm_clock_saving).
    Writes:  *count, and the first *count places of sent: of each its port, its size, and as many octets.
-   Caller:  sends these messages in their order, each at its port. If the answer is PTPM_ANSWERED_NEW and the clock is to outlast its
-            power, the caller first saves its image. While that is not done it sends nothing, also of later calls. */
+   Caller:  sends these messages in their order, each at its port. If the answer is PTPM_ANSWERED_NEW and the clock is to outlast
+            a loss of power, the caller first saves its image. Until that is done it sends nothing, not even messages of later
+            calls. */
 enum ptpm_handled ptpm_clock_handle(struct ptpm_clock *clock, uint16_t port, const uint8_t *datagram, size_t size,
                                     struct ptpm_sent *sent, size_t room, size_t *count);
 
@@ -1047,18 +1049,18 @@ enum ptpm_handled ptpm_clock_handle(struct ptpm_clock *clock, uint16_t port, con
    Takes:   the port, counted from 1; size octets.
    Returns: PTPM_ASKED_CHANGE or PTPM_ASKED_VALUE; PTPM_ASKED_NOTHING for any other datagram; or PTPM_NO_CLOCK or PTPM_NO_PORT.
    Writes:  *asked; all zeros unless one of the first two is returned.
-   Caller:  writes a change to its hardware, if that can do it. It does so in a way that may be done twice. If power fails before
-            the clock is saved, the request comes again, and is new. A device that is to be asked once has ptpm_clock_undertake. It
-            looks a value up in a list of its own. */
+   Caller:  writes a change to its hardware, if that can do it, in a way that may be done twice. If power fails before the clock
+            is saved, the request comes again, and is new. For a device that is to be asked once there is ptpm_clock_undertake. A
+            value that is asked for is looked up in a list of the caller's own. */
 enum ptpm_asking ptpm_clock_ask(const struct ptpm_clock *clock, uint16_t port, const uint8_t *datagram, size_t size,
                                 struct ptpm_question *asked);
 
-/* Like ptpm_clock_handle, with what the device says, and of the owner too. It also reports exactly the members that changed. If the
-   device objects where ptpm_clock_ask would return PTPM_ASKED_CHANGE, the request is answered and kept with that error, and no
-   member changes. If it gives a value where ptpm_clock_ask would return PTPM_ASKED_VALUE, this is the answer of the clock. To the
-   GET of a manager it has 130 octets at most, since it is kept. A longer one is answered with RESPONSE_TOO_BIG (1), and that is
-   kept. To any other GET it has 1,418 at most, and nothing is kept. Each later copy of what is kept gets that answer. If the device
-   is not asked, what it says does not count.
+/* Like ptpm_clock_handle, with what the device says, and also for datagrams of the owner. It reports exactly the members that changed. If
+   the device objects where ptpm_clock_ask would return PTPM_ASKED_CHANGE, the request is answered and kept with that error, and
+   no member changes. If it gives a value where ptpm_clock_ask would return PTPM_ASKED_VALUE, this is the answer of the clock. For
+   the GET of a manager the value has 130 octets at most, since the answer is kept. A longer one is answered with RESPONSE_TOO_BIG
+   (1), and that is kept. For any other GET it has 1,418 at most, and nothing is kept. Each later copy of a request whose answer
+   is kept gets that answer. If the device is not asked, what it says does not count.
    A request of the device's owner is judged as one of a manager with every right, and what the device says does not count. Nothing of
    it is kept, so a copy of it is carried out again. A GET of the owner is answered PTPM_ANSWERED_UNNUMBERED.
    At a clock that saves (ptpm_clock_saving) messages may wait for a save, as is said there.
@@ -1066,23 +1068,23 @@ enum ptpm_asking ptpm_clock_ask(const struct ptpm_clock *clock, uint16_t port, c
    Returns: what became of the datagram; or why it was not judged, the first of these: PTPM_NO_CLOCK, PTPM_NO_PORT, PTPM_NO_ROOM,
             PTPM_BAD_SAY, PTPM_UNDER_WAY (ptpm_clock_undertake) and PTPM_UNSAVED. A datagram that is not judged counts as lost.
    Writes:  all of *taken: zeros if the datagram was not judged. And the first taken->count places of sent, as ptpm_clock_handle
-            does. If messages wait, taken->count is 0, and as many places have zeros. No member changed unless the answer is
-            PTPM_ANSWERED_NEW, nor after a GET or a request that was refused.
-   Caller:  sends these messages in their order, each at its port, and then acts on each change. A clock that does not save is first
-            saved, as after ptpm_clock_handle. If taken->waiting is not 0, the caller acts on the change once these messages are given
-            out. If it has written to its hardware and the answer is not PTPM_ANSWERED_NEW, it takes that back: another request came
-            in between. */
+            does. If messages wait, taken->count is 0, and as many places of sent have zeros. No member changed unless the
+            answer is PTPM_ANSWERED_NEW, nor after a GET or a request that was refused.
+   Caller:  sends these messages in their order, each at its port, and then acts on each change. A clock that does not save is
+            first saved, as after ptpm_clock_handle. If taken->waiting is not 0, the caller acts on the change once these messages
+            are given out. If it has written to its hardware and the answer is not PTPM_ANSWERED_NEW, it undoes that: another
+            request came in between. */
 enum ptpm_handled ptpm_clock_take(struct ptpm_clock *clock, uint16_t port, const uint8_t *datagram, size_t size,
                                   const struct ptpm_say *say, uint8_t of_owner, struct ptpm_sent *sent, size_t room,
                                   struct ptpm_taken *taken);
 
-/* Keeps a change as under way, so that the device is asked for it once, whatever happens to the power. It is for a clock that saves
-   (ptpm_clock_saving). If ptpm_clock_ask, by the clock as it is, would return PTPM_ASKED_CHANGE, the change is under way, and in each
-   image from now on. Then the clock is unsaved. The host saves it, ptpm_clock_saved returns PTPM_ACT_NOW once, and the host asks its
-   device. ptpm_clock_decide then says what the device did. After a restart the host only looks whether its device has the change.
-   While it is under way, ptpm_clock_take returns PTPM_UNDER_WAY for what the same manager asks of only this clock. So it does for any
-   datagram for which ptpm_clock_ask would return PTPM_ASKED_CHANGE. Of the owner's it does so only for a SET of DOMAIN, and so does
-   ptpm_clock_set: in another domain the change would get no answer.
+/* Keeps a change as under way, so that the device is asked for it once, whatever happens to the power. It is for a clock that
+   saves (ptpm_clock_saving). If ptpm_clock_ask, by the clock as it is, would return PTPM_ASKED_CHANGE, the change is under way,
+   and in each image from now on. Then the clock is unsaved. The host saves it, ptpm_clock_saved returns PTPM_ACT_NOW once, and
+   the host asks its device. ptpm_clock_decide then says what the device did. After a restart the host only looks whether its
+   device has the change. While it is under way, ptpm_clock_take returns PTPM_UNDER_WAY for what the same manager asks of only
+   this clock. It returns that too for any datagram for which ptpm_clock_ask would return PTPM_ASKED_CHANGE. Of the owner's
+   requests only a SET of DOMAIN is answered so, by ptpm_clock_set too: in another domain the change would get no answer.
    Takes:   what ptpm_clock_ask takes.
    Returns: PTPM_ASKED_CHANGE. PTPM_ASKED_VALUE and PTPM_ASKED_NOTHING as ptpm_clock_ask does, and nothing is kept. Or why not, the
             first of these: PTPM_NO_CLOCK, also for a clock that does not save, PTPM_NO_PORT, PTPM_UNSAVED and PTPM_UNDER_WAY. It
@@ -1105,8 +1107,8 @@ enum ptpm_asking ptpm_clock_under_way(const struct ptpm_clock *clock, struct ptp
             why not, and then the change stays under way. The first of these: PTPM_NO_CLOCK, also for
             a clock that does not save, PTPM_NOTHING_UNDER_WAY, PTPM_NO_ROOM, PTPM_BAD_SAY, and PTPM_UNSAVED as at ptpm_clock_take.
    Writes:  what ptpm_clock_take writes.
-   Caller:  after PTPM_UNSAVED takes the messages that were released or saves the clock, and calls it again. If the device has the change
-            and the answer is not PTPM_ANSWERED_NEW, it takes that back: the restore was not given that manager. */
+   Caller:  after PTPM_UNSAVED takes the messages that were released or saves the clock, and calls again. If the device has the
+            change and the answer is not PTPM_ANSWERED_NEW, the caller undoes it: the restore was not given that manager. */
 enum ptpm_handled ptpm_clock_decide(struct ptpm_clock *clock, const struct ptpm_say *say, struct ptpm_sent *sent, size_t room,
                                     struct ptpm_taken *taken);
 
@@ -1115,17 +1117,17 @@ enum ptpm_handled ptpm_clock_decide(struct ptpm_clock *clock, const struct ptpm_
    Writes:  all of limit->values. */
 void ptpm_limit_range(struct ptpm_limit *limit, int32_t least, int32_t most);
 
-/* Gives the error with which a device objects that has these values. Only limits of the id count, and of them those of a port that
-   the request names. A request for every port names each. An id without a limit is free.
+/* Gives the error by which a device with these limits objects. Only limits of the request's id, and of a port that it names,
+   count; a request for every port names each. An id without a limit is free.
    Takes:   limit_count limits; and what ptpm_clock_ask wrote.
    Returns: PTPM_ERROR_NOT_SETABLE for a SET, and PTPM_ERROR_NOT_SUPPORTED for a COMMAND, if such a limit has no value. Otherwise
             PTPM_ERROR_WRONG_VALUE if such a limit lacks the value of a SET. Otherwise 0. A SET of NULL_PTP_MANAGEMENT,
             USER_DESCRIPTION or UTC_PROPERTIES has no value in its first octet, so it never gets PTPM_ERROR_WRONG_VALUE. */
 uint16_t ptpm_limits_say(const struct ptpm_limit *limits, size_t limit_count, const struct ptpm_question *asked);
 
-/* Carries out a SET or a COMMAND of the device's owner, as one of a manager with every right. It is for a command line of the device,
-   or for another protocol of management. What is kept of each manager stays: a copy of its latest request gets the answer of its
-   time. The device asks its own hardware before: it has no say here.
+/* Carries out a SET or a COMMAND of the device's owner, as one of a manager with every right. It is for a command line of the
+   device, or for another protocol of management. What is kept of each manager stays: a copy of its latest request gets the cached
+   answer. The host asks its hardware before: the device has no say here.
    Takes:   the action, the id and the port of the target, counted from 1, or 0xFFFF for every port; size octets, the dataField.
    Returns: PTPM_SET_HERE; or why not, and then nothing changes.
    Writes:  *changed: the members that have another value after the call than before it; all zeros if the call is refused. *error:
@@ -1161,11 +1163,11 @@ enum ptpm_read ptpm_clock_read(const struct ptpm_clock *clock, uint16_t id, uint
    Writes:  *size, and that number of octets from octets on: the image. If the call is refused, *size is 0 and no octet is written. */
 enum ptpm_saved ptpm_clock_image(const struct ptpm_clock *clock, uint8_t *octets, size_t room, size_t *size);
 
-/* Writes the copies that a boundary clock forwards of a management message that this library does not read. Such a message is refused
-   only for its actionField, its TLV or its displayData: PTPM_BAD_ACTION to PTPM_BAD_TEXT. It is forwarded like any other message of
-   sdoId 0 and the clock's domain. It has a hop left, is not for exactly this clock, and goes between ports that may forward. Each
-   copy has octet 45, boundaryHops, less by one. Every other octet is as it came. Nothing is answered, and nothing changes. A host
-   that wants such messages to pass calls it after ptpm_clock_take.
+/* Writes the copies that a boundary clock forwards of a management message that this library does not read. Such a message is
+   refused only for its actionField, its TLV or its displayData: PTPM_BAD_ACTION to PTPM_BAD_TEXT. It is forwarded like any other
+   message of sdoId 0 and the clock's domain. It has a hop left, is not for exactly this clock, and goes between ports that may
+   forward. Each copy has octet 45, boundaryHops, decremented. Every other octet is as it came. Nothing is answered, and nothing
+   changes. A host that wants such messages to pass calls it after ptpm_clock_take.
    Takes:   the port it came in at, and the datagram, of size octets; and room places, as many as the clock has ports, or more.
    Returns: how many copies there are: 0 for any other datagram, without a clock, for a port that it lacks, and for fewer places.
    Writes:  that many places of sent, each with its port. */
@@ -1182,8 +1184,8 @@ size_t ptpm_clock_transit(const struct ptpm_clock *clock, uint16_t port, const u
    A clock that was just restored is saved. Any other clock is not: it takes no datagram before ptpm_clock_saved. Call it right after
    the start or the restore.
    ptpm_clock_take returns PTPM_UNSAVED in three cases, and nothing changes. The first is any datagram before the first save of a
-   clock that was not restored. The second is any datagram while ptpm_clock_next has a message to give. The third is one whose
-   messages would wait, if fewer than ptpm_clock_most_sent places are free (ptpm_clock_free).
+   clock that was not restored. The second is any datagram while ptpm_clock_next has a message to give. The third is a datagram
+   whose messages would wait, if fewer than ptpm_clock_most_sent places are free (ptpm_clock_free).
    Takes:   how many messages may wait, ptpm_clock_most_sent or more: one for a clock of one port.
    Returns: PTPM_SAVING; or PTPM_NO_CLOCK, PTPM_NO_ROOM for fewer places, or PTPM_NO_MEMORY, and then nothing changes. If the clock
             saves already, the answer is PTPM_SAVING, and nothing changes.
@@ -1203,15 +1205,16 @@ enum ptpm_saved ptpm_clock_image_of(struct ptpm_clock *clock, uint8_t *octets, s
 
 /* Takes the caller's word that a restart would find the image of this token. Strangers are shown what it has, and the messages that
    waited when it was made can be had (ptpm_clock_next).
-   Takes:   the token of the latest ptpm_clock_image_of, which counts once. If no change waited when it was made, it does not count
-            after an observation either.
+   Takes:   the token of the latest ptpm_clock_image_of, which counts once. If no change waited when its image was made, the token
+            does not count after an observation either.
    Returns: PTPM_SAVED. PTPM_ACT_NOW if the image has a change that is still under way, once for each change and never for one that a
             restore found. Or PTPM_NO_CLOCK, also for a clock that does not save, or PTPM_OTHER_IMAGE for any other token, and then
             nothing changes.
    Caller:  calls ptpm_clock_next until that gives no message. After PTPM_ACT_NOW it asks its device (ptpm_clock_undertake). */
 enum ptpm_saved ptpm_clock_saved(struct ptpm_clock *clock, uint64_t token);
 
-/* Gives the first message that no longer waits for a save, in the order in which their datagrams came in.
+/* Gives the next message that no longer waits for a save. The messages come in the order of their
+   datagrams.
    Returns: 1; or 0 if there is none, and for a clock that does not save.
    Writes:  *message, as ptpm_clock_take writes each message. If the answer is 0, nothing of it.
    Caller:  sends it at its port, and acts on what changed with it. It calls again until the answer is 0: the clock takes no datagram
@@ -1237,7 +1240,7 @@ uint32_t ptpm_clock_unsaved(const struct ptpm_clock *clock);
    Writes:  *gone: the number of requests of the image whose managers are not among those that are given. They are forgotten. If
             the call is refused it is 0.
    Memory:  the clock, until it is stopped, as much as for a start. Over eight ports also 160 octets for each port until the call
-            returns. PTPM_NO_MEMORY then comes before what is refused after PTPM_OTHER_KIND.
+            returns, and PTPM_NO_MEMORY comes right after PTPM_OTHER_KIND.
    Caller:  stops the clock. */
 enum ptpm_restored ptpm_clock_restore(struct ptpm_clock *clock, const uint8_t identity[8], size_t port_count,
                                       const struct ptpm_manager_settings *managers, size_t manager_count,
@@ -1266,7 +1269,7 @@ static inline void ptpm_clock_stop_any(struct ptpm_clock *clock) {
    Caller:  stops the session. */
 enum ptpm_started ptpm_session_start(struct ptpm_session *session, const struct ptpm_session_settings *settings);
 
-/* Does what ptpm_session_start does if this file is that of the library.
+/* Does what ptpm_session_start does if this header is the library's.
    Returns: what ptpm_session_start returns; or PTPM_OTHER_SIZES, and then the handle holds what it held. */
 static inline enum ptpm_started ptpm_session_start_sized(struct ptpm_session *handle,
                                                          const struct ptpm_session_settings *settings) {
@@ -1313,7 +1316,8 @@ enum ptpm_resumed ptpm_session_resume(struct ptpm_session *session, uint8_t atte
             the request that was given up. */
 enum ptpm_given_up ptpm_session_give_up(struct ptpm_session *session);
 
-/* Has requests sent, and replies expected, in this domain from now on, the unanswered request among them.
+/* From now on requests are sent, and replies expected, in this domain. That includes the unanswered
+   request.
    Returns: PTPM_RETUNED, or why not. */
 enum ptpm_retuned ptpm_session_retune(struct ptpm_session *session, uint8_t domain);
 
@@ -1335,7 +1339,8 @@ enum ptpm_saved ptpm_session_image(const struct ptpm_session *session, uint8_t *
    Takes:   size octets, and the settings of the session. Its manager, managed clock, number of ports and first number must be
             those of the image. Domain, hops and attempts are those of the image.
    Returns: PTPM_RESTORED; or why not, and then the handle holds what it held. Do not start a fresh
-            session after a refused restore: the clock would treat its requests as old, or as others.
+            session after a refused restore: the clock would treat its requests as old, or as
+            conflicts.
    Memory:  the session, until it is stopped, and a copy of the dataField of its request.
    Caller:  stops the session. */
 enum ptpm_restored ptpm_session_restore(struct ptpm_session *session, const struct ptpm_session_settings *settings,
@@ -1364,14 +1369,14 @@ static inline void ptpm_session_stop_any(struct ptpm_session *session) {
 #define ptpm_session_stop(session) ptpm_session_stop_any(session)
 
 /* Starts a survey without answers instead of what the handle holds, which is freed first. A session of the same manager may treat
-   an answer to its GET as its own. So the manager here has no session. It is another port of the same identity, and with port 0 it
-   is PTPM_SURVEY_PORT.
+   an answer to the survey's GET as its own. So the survey's manager has no session. It is another port of the same identity; port
+   0 stands for PTPM_SURVEY_PORT.
    Returns: PTPM_STARTED; or why not, and then the handle holds nothing.
    Memory:  the survey, until it is stopped.
    Caller:  stops the survey. */
 enum ptpm_started ptpm_survey_start(struct ptpm_survey *survey, const struct ptpm_survey_settings *settings);
 
-/* Does what ptpm_survey_start does if this file is that of the library.
+/* Does what ptpm_survey_start does if this header is the library's.
    Returns: what ptpm_survey_start returns; or PTPM_OTHER_SIZES, and then the handle holds what it held. */
 static inline enum ptpm_started ptpm_survey_start_sized(struct ptpm_survey *handle, const struct ptpm_survey_settings *settings) {
     enum ptpm_started answer = ptpm_header_agrees();
@@ -1381,7 +1386,7 @@ static inline enum ptpm_started ptpm_survey_start_sized(struct ptpm_survey *hand
 /* Starts a survey of one clock, without answers, instead of what the handle holds, which is freed first. Every port of the
    clock is asked, and another clock's answer is ignored (PTPM_OTHER_SOURCE). A clock treats such a GET from one of its managers
    as a numbered request, like one of a session. And a session of the same manager may treat an answer as its own. So the
-   survey's manager is not one of the clock's, and has no session. It is another port of the same identity: with port 0
+   survey's manager is not one of the clock's, and has no session. It is another port of the same identity; port 0 stands for
    PTPM_SURVEY_PORT.
    Takes:   the identity of the clock: a different one than the manager's, and neither all ones nor all zeros.
    Returns: PTPM_STARTED; or why not, and then the handle holds nothing.
@@ -1390,7 +1395,7 @@ static inline enum ptpm_started ptpm_survey_start_sized(struct ptpm_survey *hand
 enum ptpm_started ptpm_survey_start_at(struct ptpm_survey *survey, const struct ptpm_survey_settings *settings,
                                        const uint8_t target[8]);
 
-/* Does what ptpm_survey_start_at does if this file is that of the library.
+/* Does what ptpm_survey_start_at does if this header is the library's.
    Returns: what ptpm_survey_start_at returns; or PTPM_OTHER_SIZES, and then the handle holds what it held. */
 static inline enum ptpm_started ptpm_survey_start_at_sized(struct ptpm_survey *handle, const struct ptpm_survey_settings *settings,
                                                            const uint8_t target[8]) {
@@ -1435,16 +1440,17 @@ static inline void ptpm_survey_stop_any(struct ptpm_survey *survey) {
 
 #define ptpm_survey_stop(survey) ptpm_survey_stop_any(survey)
 
-/* Starts an asker whose session has no file yet, instead of what the handle holds, which is freed first. An asker is handed what came
-   in and what was done, and hands out what is to be done next. It sends nothing before the host has saved it, and nothing leaves the
-   file before the host has noted its answer. So what an earlier run asked is settled, and no request is carried out twice.
+/* Starts an asker whose session has no file yet, instead of what the handle holds, which is freed first. An asker is handed what
+   came in and what was done, and hands out what is to be done next. It sends nothing before the host has saved it, and nothing
+   leaves the file before the host has noted its answer. So what an earlier run asked is completed, and no request is carried out
+   twice.
    Takes:   26 octets that are drawn at random. They are the dataField of the question whether a number is new.
    Returns: PTPM_STARTED; or why not, and then the handle holds nothing.
    Memory:  the asker, until it is stopped.
    Caller:  stops the asker. */
 enum ptpm_started ptpm_asker_start(struct ptpm_asker *asker, const struct ptpm_asker_settings *settings, const uint8_t drawn[26]);
 
-/* Does what ptpm_asker_start does if this file is that of the library.
+/* Does what ptpm_asker_start does if this header is the library's.
    Returns: what ptpm_asker_start returns; or PTPM_OTHER_SIZES, and then the handle holds what it held. */
 static inline enum ptpm_started ptpm_asker_start_sized(struct ptpm_asker *handle, const struct ptpm_asker_settings *settings,
                                                        const uint8_t drawn[26]) {
@@ -1453,8 +1459,9 @@ static inline enum ptpm_started ptpm_asker_start_sized(struct ptpm_asker *handle
 }
 
 /* Puts an asker with the session of an image in the handle, instead of what it holds, which is then freed.
-   Takes:   26 octets that are drawn at random, and size octets: what the file of the session has. Its first number is that of the
-            image. If a request has other hops than the settings say, the next one continues as a new session.
+   Takes:   26 octets that are drawn at random, and size octets: what the file of the session has. The first number is the
+            image's, not that of the settings. If the image has other hops than the settings, the next request begins a new
+            session, at the next number.
    Returns: PTPM_ASKER_RESTORED; or why not, and then the handle holds what it held.
    Memory:  the asker, until it is stopped, and a copy of the dataField of its request.
    Caller:  looks at what ptpm_asker_earlier returns, and stops the asker. */
@@ -1471,8 +1478,9 @@ enum ptpm_asker_restored ptpm_asker_restore(struct ptpm_asker *asker, const stru
 enum ptpm_asked ptpm_asker_ask(struct ptpm_asker *asker, uint64_t now, uint64_t tag, uint8_t action, uint16_t id, uint16_t port,
                                const uint8_t *octets, size_t size, uint8_t domain, struct ptpm_handed *handed);
 
-/* Sends the request of an earlier run again, with its number, until it is answered. A SET or a COMMAND is sent in the domain in which
-   it was asked, whichever is given. A GET is sent in the one that is given, and so is a SET of DOMAIN to it.
+/* Sends the request of an earlier run again, with its number, until it is answered. A SET or a COMMAND is sent in the domain in
+   which it was asked, whichever is given. A GET is sent in the domain that is given, as is a SET that moves the clock to that
+   domain.
    Takes:   the time, a number by which the host names the request, and a domain.
    Returns: PTPM_ASKED; or PTPM_IDLE if there is none or the asker does not rest, and then nothing changes.
    Writes:  all of *handed. */
@@ -1498,8 +1506,8 @@ enum ptpm_asked ptpm_asker_hear(struct ptpm_asker *asker, const uint8_t *datagra
    Memory:  a copy of the dataField of a question, until it is answered. */
 enum ptpm_asked ptpm_asker_wake(struct ptpm_asker *asker, uint64_t now, struct ptpm_handed *handed);
 
-/* Says that there was no way for the message of the latest PTPM_SEND_IT. If none of the request left before, a request of this run is
-   taken back. Its number is that of the next one, and PTPM_FAILED follows its save.
+/* Says that the message of the latest PTPM_SEND_IT could not be sent. If no message of the request left before, a request of
+   this run is taken back. Its number is that of the next one, and PTPM_FAILED follows its save.
    Returns: PTPM_ASKED.
    Writes:  all of *handed. */
 enum ptpm_asked ptpm_asker_unsent(struct ptpm_asker *asker, struct ptpm_handed *handed);
@@ -1536,7 +1544,7 @@ enum ptpm_asked ptpm_asker_image(const struct ptpm_asker *asker, uint8_t *octets
             nothing. */
 uint32_t ptpm_asker_earlier(const struct ptpm_asker *asker, uint8_t domain, uint8_t *there);
 
-/* Gives what the answer says that was handed out last with PTPM_NOTE_ANSWER.
+/* Gives what the answer of the latest PTPM_NOTE_ANSWER says.
    Takes:   room octets, as many as the dataField has or more: 1,418 are always enough.
    Returns: PTPM_VALUE, PTPM_DONE or PTPM_REFUSED; or why nothing is given.
    Writes:  *size, and as many octets from octets on: the dataField, after PTPM_VALUE. *size is 0 after every other answer.
@@ -1553,15 +1561,16 @@ static inline void ptpm_asker_stop_any(struct ptpm_asker *asker) {
 
 #define ptpm_asker_stop(asker) ptpm_asker_stop_any(asker)
 
-/* Starts a journal without a record, instead of what the handle holds, which is freed first. A journal takes only a record that a run may
-   make. A step is begun once all that have to be done before it are done. Of a clock one at a time is begun. It has one answer.
+/* Starts a journal without a record, instead of what the handle holds, which is freed first. A journal takes only a record that a
+   run may make. A step is begun once all that have to be done before it are done. Of each clock one step at a time is begun, and
+   a step has one answer.
    Returns: PTPM_JOURNALED or PTPM_NO_MEMORY, and then the handle holds nothing.
    Memory:  the journal, until it is stopped.
    Caller:  stops the journal. */
 enum ptpm_journaled ptpm_journal_start(struct ptpm_journal *journal);
 
-/* Takes a record, and gives the octets that the host appends to the journal's file. The head and all steps are written whole before the
-   file has its name. A step that the host goes on with is on the disk first.
+/* Takes a record, and gives the octets that the host appends to the journal's file. The head and all steps are written whole
+   before the file has its name. A record is on the disk before the host goes on with its step.
    Takes:   the octets of the record, in the two groups that its kind has; none of a group that it lacks. PTPM_RECORD_OCTETS of room are
             always enough.
    Returns: PTPM_JOURNALED; or why not, and then nothing changes.
@@ -1571,10 +1580,11 @@ enum ptpm_journaled ptpm_journal_add(struct ptpm_journal *journal, const struct 
                                      const uint8_t *first, size_t first_size, const uint8_t *second, size_t second_size,
                                      uint8_t *octets, size_t room, size_t *size);
 
-/* Takes the next record of a journal's file. A host begins with all octets of the file, and then gives those after the *size before,
-   until PTPM_JOURNAL_WHOLE. It cuts off what is left then. The journal goes on from there with ptpm_journal_add.
-   Returns: PTPM_JOURNALED; PTPM_JOURNAL_WHOLE; or why not. PTPM_JOURNAL_DAMAGED is also the end of a file that lacks its head or a step.
-            PTPM_JOURNAL_OTHER_VERSION is only of the first record.
+/* Takes the next record of a journal's file. A host begins with all octets of the file, and after each call goes on *size
+   octets later, until PTPM_JOURNAL_WHOLE. It cuts off what is left then. The journal goes on from there with
+   ptpm_journal_add.
+   Returns: PTPM_JOURNALED; PTPM_JOURNAL_WHOLE; or why not. PTPM_JOURNAL_DAMAGED is also the end of a file that lacks its head or
+            a step. PTPM_JOURNAL_OTHER_VERSION comes only for the first record.
    Writes:  *record, all 0 unless one was taken. *size: how many octets it had, or 0.
    Memory:  as ptpm_journal_add. */
 enum ptpm_journaled ptpm_journal_next(struct ptpm_journal *journal, const uint8_t *octets, size_t octet_count,
@@ -1602,7 +1612,7 @@ static inline void ptpm_journal_stop_any(struct ptpm_journal *journal) {
    Caller:  stops the rollout. */
 enum ptpm_rolled ptpm_rollout_open(struct ptpm_rollout *rollout, const uint8_t *journal, size_t size, uint32_t choice, size_t *whole);
 
-/* Hands in what the last action came to, and gives the next one.
+/* Hands in the outcome of the last action, and gives the next one.
    Takes:   first PTPM_EVENT_BEGIN. The octets are of PTPM_EVENT_FOUND and PTPM_EVENT_VALUE.
    Returns: PTPM_ROLLED, or why not, and then nothing changes.
    Writes:  *action, all 0 if it is refused.
@@ -1637,20 +1647,21 @@ static inline enum ptpm_saved ptpm_image_seal(uint8_t *octets, size_t size, size
     return ptpm_image_seal_in(octets, room, size, count, sealed);
 }
 
-/* Finds the image with its seal that octets begin with. How long it is its head says, so what comes after the seal does not matter.
+/* Finds the image and its seal at the start of the octets. The image's head says how long it is, so what comes after the
+   seal does not matter.
    Takes:   size octets, what a file or a place of a flash memory has.
-   Returns: PTPM_RESTORED; PTPM_NOT_AN_IMAGE; or PTPM_DAMAGED if octets are missing, the seal is missing, or octets are not those that
-            were sealed. What the image is of, the restore judges.
+   Returns: PTPM_RESTORED; PTPM_NOT_AN_IMAGE; or PTPM_DAMAGED if octets are missing, the seal is missing, or octets are not those
+            that were sealed. The restore judges what the image is of.
    Writes:  *image: how many octets it has, from the first on; and *count, how often it was saved. If the call is refused, both
             are 0. */
 enum ptpm_restored ptpm_image_unseal(const uint8_t *octets, size_t size, uint64_t *count, size_t *image);
 
 /* Finds the newest image of several places, each of as many octets. A host that writes only the oldest place has one image at any
    moment, whenever its power fails (docs/image.md).
-   Takes:   the octets of all places, one after the other; how many octets a place has, and how many places there are. Of a place
-            of a medium its head is enough: as many octets as the largest image and its seal.
-   Returns: the place of the image with the highest count, counted from 0; of as many, the first. The number of places if no place
-            holds an image that ptpm_image_unseal takes.
+   Takes:   the octets of all places, one after the other; how many octets a place has, and how many places there are. The first
+            octets of each place are enough: as many as the largest image and its seal have.
+   Returns: the place of the image with the highest count, counted from 0; of several such places, the first. The number of places
+            if no place holds an image that ptpm_image_unseal takes.
    Writes:  *count and *image, as ptpm_image_unseal does for that place; both are 0 if no place holds one. */
 size_t ptpm_newest_image_in(const uint8_t *octets, size_t size, size_t place, uint64_t *count, size_t *image);
 
@@ -1659,11 +1670,12 @@ static inline size_t ptpm_newest_image(const uint8_t *octets, size_t place, size
     return place == 0 ? places : newest;
 }
 
-/* Says whether a message is to be forwarded, and if it is, records it. It is if none is recorded that has its
-   sourcePortIdentity, sequenceId, targetPortIdentity, actionField and managementId, and there is a place to record it. So a
-   message that circulates is forwarded once. One that keeps coming is forwarded once in each such time.
+/* Says whether a message is to be forwarded, and if it is, records it. It is if no message with the same
+   sourcePortIdentity, sequenceId, targetPortIdentity, actionField and managementId is recorded, and there is a place to
+   record it. So a message that circulates is forwarded once, and one that keeps coming once in the time of a record.
    Takes:   the message, of size octets; a time; and for how long it is recorded, in the unit of that time. Both are the host's.
-   Returns: whether it is to be forwarded; false too for what is not a management message, read or not (ptpm_clock_transit).
+   Returns: whether it is to be forwarded; false too for what is not a management message. One that the library does not
+            read counts as one (ptpm_clock_transit).
    Writes:  one of the places of *table, if it returns true. */
 bool ptpm_passed_on_is_first(struct ptpm_passed_on *table, const uint8_t *message, size_t size, uint64_t now, uint64_t time);
 
@@ -1681,8 +1693,8 @@ bool ptpm_passed_on_is_first_of(uint64_t seed, uint64_t (*places)[6], size_t cou
    Writes:  all of *rate. */
 void ptpm_rate_start(struct ptpm_rate *rate, uint64_t tokens, uint64_t now);
 
-/* Takes a token from a bucket, if there is one. In any stretch of time it gives at most the tokens of one second, and those for
-   the time that has passed.
+/* Takes a token from a bucket, if there is one. In any stretch of time a bucket gives at most the tokens of one second, and
+   those for the time that has passed.
    Takes:   a time in milliseconds. A time before the latest counts as the latest.
    Returns: whether there was one.
    Writes:  *rate. */
@@ -1768,8 +1780,9 @@ enum { PTPM_MOST_FIELD_TEXT = 5034 };
             there. */
 size_t ptpm_field_text(uint16_t id, const uint8_t *octets, size_t size, char *text, size_t room);
 
-/* What a member's value is in its line of ptpm_field_text. A number is in decimal, or 0x and hexadecimal digits. A TimeInterval is in
-   nanoseconds. Octets are in hexadecimal, or - for none. In a text \xHH is an octet. What has a name is its name, or 0x and two digits. */
+/* What a member's value is in its line of ptpm_field_text. A number is in decimal, or 0x and hexadecimal digits. A TimeInterval
+   is in nanoseconds. Octets are in hexadecimal, or - for none. In a text \xHH is an octet. A number with a name is its name, or
+   0x and two digits. */
 enum ptpm_member_kind {
     PTPM_NO_MEMBER = 0,
     PTPM_IS_NUMBER = 1,
@@ -1796,8 +1809,8 @@ enum ptpm_member_kind ptpm_member_kind(uint16_t id, const uint8_t *octets, size_
    value is written as ptpm_field_text writes it. A number of one octet without a sign may be decimal, or 0x and two hexadecimal
    digits; a flag also 1 or 0. A delayMechanism has its name in either case or its number. In a text, \xHH is an octet in
    hexadecimal. The clock decides whether it accepts the value.
-   Takes:   the managementId; and words in UTF-8 with a zero octet after each, of size octets with all of these. And room octets,
-            for which PTPM_MOST_READ is enough.
+   Takes:   the managementId; size octets of words in UTF-8, with a zero octet after each; and room octets, for which
+            PTPM_MOST_READ is enough.
    Returns: PTPM_PARSED; or the first of these in this order: PTPM_NOT_WORDS, PTPM_UNKNOWN_ID, PTPM_WORD_COUNT, that of a member,
             PTPM_NO_ROOM. That of a member is PTPM_OTHER_NAME or PTPM_NO_VALUE, of the first member that has one of them.
    Writes:  *count, how many octets the dataField has, and as many octets from octets on. If it is refused, *count is 0 and no octet

@@ -4,10 +4,10 @@
    as ptpm.h says.
 
    Only one thread at a time may be in a call that allocates or frees memory, even if the handles differ. The library has no lock.
-   These calls are the starts, the restores, the stops, and the three below. Of a clock it is ptpm_clock_saving, and over eight ports
-   ptpm_clock_image_of. Of a session they are ptpm_session_begin, ptpm_session_begin_at, ptpm_session_give_up and ptpm_session_receive.
-   Of a survey it is ptpm_survey_receive, and of an asker each call that hands something out. All others allocate none, and may run in
-   parallel with handles of their own, including ptpm_clock_handle. */
+   These calls are the starts, the restores, the stops, and the three below. For a clock also ptpm_clock_saving, and over eight
+   ports ptpm_clock_image_of. For a session ptpm_session_begin, ptpm_session_begin_at, ptpm_session_give_up and
+   ptpm_session_receive. For a survey ptpm_survey_receive, and for an asker each call that hands something out. All others
+   allocate none, and may run in parallel with handles of their own, including ptpm_clock_handle. */
 #ifndef PTPM_MEMORY_H
 #define PTPM_MEMORY_H
 
@@ -18,10 +18,10 @@
 extern "C" {
 #endif
 
-/* What a clock takes that has this many ports, 1 to 64, and managers, 0 to 64, from its start or its restore on. Up to eight ports take
-   what one takes. PTPM_CLOCK_MEMORY is enough for any clock of up to eight ports and sixteen managers. A block that holds only clocks
-   needs no more than the sum, if all have the same number of managers. Those of over eight ports have the same number of ports too. They
-   may start and stop in any order. A restore in a live handle has both clocks for a moment. */
+/* What a clock with this many ports, 1 to 64, and managers, 0 to 64, takes from its start or restore on. Up to eight ports take
+   as much as one. PTPM_CLOCK_MEMORY is enough for any clock of up to eight ports and sixteen managers. A block that holds only
+   clocks with equally many managers needs no more than the sum. Clocks of over eight ports must also have equally many ports.
+   They may start and stop in any order. A restore in a live handle has both clocks for a moment. */
 #define PTPM_CLOCK_MEMORY_OF(ports, managers) \
     ((size_t)672 + ((managers) > 0 ? PTPM_PIECE((size_t)(managers) * 2144) : 0) \
      + ((ports) > 8 ? PTPM_OF_MANY_PORTS((size_t)(ports), (size_t)(managers)) : 0))
@@ -30,8 +30,7 @@ extern "C" {
 #define PTPM_PIECE(octets) (((octets) + 31) / 16 * 16)
 #define PTPM_CLOCK_MEMORY 34992
 
-/* What a clock of this many ports takes besides once it is saved while it takes datagrams (ptpm_clock_saving), with places for this
-   many messages. */
+/* What ptpm_clock_saving takes in addition, for a clock of this many ports and with places for this many messages. */
 #define PTPM_SAVING_MEMORY_OF(ports, places) \
     ((size_t)1024 + PTPM_PIECE((size_t)(places) * 1476) + ((ports) > 8 ? 5 * PTPM_PIECE(16 * (size_t)(ports)) : 0))
 
@@ -42,9 +41,9 @@ extern "C" {
 /* Enough for an asker, whatever its requests and their answers are. */
 #define PTPM_ASKER_MEMORY 13424
 
-/* The most that a survey takes that has kept a number of answers, 1 to 16,384, each with a number of octets of dataField. Its
-   tables have room for a power of two of answers, and move as they grow. How much of the gaps is used again depends on the
-   answers. */
+/* The most that a survey takes after it has kept this many answers, 1 to 16,384, each with this many octets of dataField. Its
+   tables have room for a power of two of answers, and move as they grow. How much of the gaps that they leave is used again
+   depends on the answers. */
 #define PTPM_SURVEY_MEMORY(answers, octets) \
     (1088 + 130 * PTPM_SURVEY_PLACES(answers) + (size_t)(answers) * (((size_t)(octets) + ((octets) < 1) + 31) / 16 * 16))
 #define PTPM_SURVEY_PLACES(answers) \

@@ -155,7 +155,7 @@ static void leave_root(struct options *options) {
     if (geteuid() != 0 || privileges->user_name != NULL) return;
     gid_t group = getegid();
     privileges->is_by_default = find_user(privileges, "ptpm") || find_user(privileges, "nobody");
-    if (!privileges->is_by_default) say("it stays root: there is no user ptpm, and no nobody");
+    if (!privileges->is_by_default) say("it stays root: there is no user ptpm or nobody");
     bool has_socket = options->meeting.path != NULL || options->owner != NULL || options->ptp4l != NULL;
     if (has_socket && options->meeting.group == (gid_t)-1) options->meeting.group = group;
 }

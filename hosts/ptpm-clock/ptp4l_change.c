@@ -111,7 +111,7 @@ void watch_change(int64_t now) {
 }
 
 _Noreturn static void refuse_to_look(void) {
-    say("%s: what became of a change of an earlier run can't be found out there", options->ptp4l);
+    say("%s: the outcome of an earlier run's change can't be found out there", options->ptp4l);
     exit(2);
 }
 

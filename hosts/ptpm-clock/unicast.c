@@ -29,8 +29,8 @@ static void tell_owner(size_t place) {
     enum general_port owner = owner_at(&ports[place]);
     if (owner == (is_of_another[place] ? ANOTHER_HAS_IT : WE_HAVE_IT) || owner == NOBODY_HAS_IT) return;
     is_of_another[place] = owner == ANOTHER_HAS_IT;
-    if (owner == WE_HAVE_IT) say("%s: what is sent only to this host is heard", name);
-    else say("%s: another program has UDP port 320, and what is sent only to this host: only the group is heard", name);
+    if (owner == WE_HAVE_IT) say("%s: unicast to this host is heard", name);
+    else say("%s: another program has UDP port 320, and gets the unicast to this host: only the group is heard", name);
 }
 
 void renew_unicast(void) {

@@ -318,7 +318,7 @@ static char passed_on[INET6_ADDRSTRLEN];
 
 void tell_deaf_port(void) {
     if (*passed_on != '\0') {
-        complain("what came from %s only to UDP port 320 of this host is ignored: another machine sent it, or nobody is there",
+        complain("unicast from %s to UDP port 320 of this host is ignored: another machine sent it, or none has that address",
                  passed_on);
     }
     if (copies >= 0 || is_ethernet || ends[0].interface == NULL) return;
@@ -526,7 +526,7 @@ static bool is_near(const struct arrival *arrival, const struct end *end, struct
     const struct sockaddr *sender = (const struct sockaddr *)&from->sender;
     bool is_unicast = arrival->end == NULL || arrival->socket == end->asking;
     if (is_near_alone && is_unicast && from->ttl != FULL_TTL) {
-        tell_stranger(end, sender, "since a router may have passed it on: --ttl-security takes only TTL 255");
+        tell_stranger(end, sender, "since a router may have forwarded it: --ttl-security takes only TTL 255");
         return false;
     }
     if (arrival->end != NULL || is_any_source || is_of_neighbour(packets, from->index, sender, octets, found)) return true;

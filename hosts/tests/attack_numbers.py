@@ -325,7 +325,7 @@ def old_files():
         is_true = two.other_sets() and two.is_honest()
         check(f"an older copy of the file, {content.hex()}, is dropped by the clock", is_true and two.last == 3)
     check("which is reported", all(part in two.said for part in [
-        "this one was not sent", f"set PRIORITY2 of an earlier run, number {number - 2}, comes before it; --give-up gives it up",
+        "this one was not sent", f"set PRIORITY2 of an earlier run, number {number - 2}, comes first; --give-up gives it up",
         "and has by now", "priority2 60", " since another file or a copy of the manager is ahead", two.number]))
     write_octets("number", newer)
     copies = [two.number, os.path.join(work, "copy")]

@@ -34,7 +34,7 @@ collect --target aabbccfffeddee01|collect asks every clock: it takes no --target
 --for 4 --once status|--for excludes --once and --watch
 --for 4 --watch 1 status|--for excludes --once and --watch
 --watch 1 --forget 31622401 status|--forget 31622401: it takes a number from 1 to 31622400
---forget 60 status|--forget: it takes --watch
+--forget 60 status|--forget: only with --watch
 --max-offset -1 status|--max-offset -1: it takes none, or a number of nanoseconds from 0 to 18446744073709551615
 --max-delay none status|--max-delay none: it takes a number of nanoseconds from 0 to 18446744073709551615
 --tai-utc 32768 status|--tai-utc 32768: it takes a number of seconds from -32768 to 32767

@@ -9,8 +9,8 @@ What does a ptp4l of this machine say?
         for report in ptpm.survey(way, "DEFAULT_DATA_SET"):
             print(report.source, report.members.get("priority1", report))
 
-The calls take no thread and no socket of their own. They are not made from a signal handler that comes in while one is made, nor
-in a forked child of a process with threads.
+The calls start no thread and open no socket. Make none from a signal handler that interrupts one, nor in a forked child of a
+process with threads.
 """
 
 from ._header import PTPM_VERSION as __version__

@@ -41,7 +41,8 @@ def _number(least: int, most: int) -> Callable[[str], int]:
 
 
 class _Once(argparse.Action):
-    """A value that is given once. Of two the earlier one would be asked by nobody."""
+    """An option that may be given only once. Of two values the earlier one would silently be
+    ignored."""
 
     def __call__(self, parser: argparse.ArgumentParser, words: argparse.Namespace, value: Any, option: Optional[str] = None) -> None:
         if getattr(words, f"has_{self.dest}", False):
@@ -97,7 +98,7 @@ class Task:
         self._judge()
 
     def _read_id(self, text: str) -> int:
-        """Ids that only other clocks have are only read by their names."""
+        """An id that only other clocks have can be named only to read it."""
         number = id_of(text)
         is_number = id_name(number) == f"{number:04x}"
         if self.words.verb in ("set", "command") and is_number and not re.fullmatch("(0[xX])?[0-9a-fA-F]{4}", text):
@@ -161,7 +162,8 @@ class Task:
 
     @property
     def is_numbered(self) -> bool:
-        """Whether the same manager asks in each run, so that a clock may have cached an answer to it. No session has a port above 255."""
+        """Whether each run asks as the same manager, so that a clock may have cached an answer to it. No session has a port above
+        255."""
         words = self.words
         by_one_manager = words.manager is not None or words.numbers is not None
         may_be_kept = self.action is not None and not is_beyond_session(self.port)
@@ -179,7 +181,7 @@ class Task:
         return PortIdentity(UdpTransport.identity_at(words.interface, words.udp, ipv6=words.ipv6), 1)
 
     def ask(self) -> int:
-        """Asks, and prints what was answered; the status."""
+        """Asks, and prints what was answered; returns the status."""
         words = self.words
         seconds = words.timeout / 1000
         asked = {"domain": words.domain, "hops": words.hops, "attempts": words.attempts}
@@ -223,7 +225,8 @@ class Task:
         return status
 
     def _finish_in(self, session: Session, way: Transport) -> Report:
-        """Reports the request of an earlier run. If that has no answer, it says what can be done."""
+        """Finishes the request of an earlier run, and reports its answer. If it has none, says what
+        can be done."""
         domain = session.earlier_domain
         try:
             return session.finish(way, timeout=self.words.timeout / 1000)
@@ -260,7 +263,7 @@ def _lines(report: Report, is_hexadecimal: bool) -> List[str]:
 
 
 def _complain_of(report: Report) -> None:
-    """Says what was asked, if the answer is something else."""
+    """Says what was asked, if the answer differs from it."""
     for line in lines(report.id, report.asked or b""):
         if line not in lines(report.id, report.octets):
             complain(f"the answer is not what was asked: {line}")
@@ -313,7 +316,7 @@ def _run(given: List[str]) -> int:
 
 
 def main(arguments: Optional[List[str]] = None) -> int:
-    """Asks what a command line says; its status."""
+    """Asks what a command line says, and returns the exit status."""
     hold_streams()
     try:
         return _run(sys.argv[1:] if arguments is None else arguments)

@@ -57,19 +57,20 @@ def text_by(call: Callable[..., int], *words: Any, room: int = header.PTPM_MOST_
 
 
 def typed(text: str) -> Tuple[bytes, int]:
-    """A text for the library to read, and how many octets it has. What is not a character is not UTF-8, and is refused there."""
+    """A text for the library to read, and how many octets it has. A lone surrogate makes it invalid UTF-8, which the library
+    refuses."""
     octets = str.encode(text, errors="surrogatepass")
     return octets, len(octets)
 
 
 def octets_of(given: bytes) -> bytes:
-    """Octets that a caller gives, as bytes or in another buffer. A number is none (TypeError): bytes(2) would be two zeros."""
+    """Octets that a caller gives, as bytes or in another buffer. A number is refused (TypeError): bytes(2) would be two zeros."""
     return memoryview(given).tobytes()
 
 
 class Handle:
     """What owns a handle of the library. It is all zeros before its first call, and has one live copy. Only one thread at a
-    time makes calls with it. A signal handler of that thread may: it runs between two calls of the library."""
+    time makes calls with it. A signal handler of that thread may make calls too: it runs between two calls of the library."""
 
     def __init__(self, kind: Type[ctypes.Structure], stop: Callable[..., None]) -> None:
         self._handle = kind()

@@ -10,9 +10,9 @@
 
     asyncio.run(main())
 
-A request waits in a thread of the loop's executor, so other tasks go on meanwhile. A task that is cancelled ends within a twentieth
-of a second. It sends nothing more, and the request stays as it is, as it would after NoAnswer. If its answer has come all the same,
-`session.earlier` has it. Tasks that ask in one session, or over one transport, take turns."""
+A request waits in a thread of the loop's executor, so other tasks go on meanwhile. A task that is cancelled ends within a
+twentieth of a second. It sends nothing more, and its request stays unanswered, as after NoAnswer. If its answer has come all the
+same, `session.earlier` has it. Tasks that ask in one session, or over one transport, take turns."""
 
 from __future__ import annotations
 
@@ -45,7 +45,7 @@ _SLICE = 0.05
 
 
 class _Ended(OSError):
-    """The task was cancelled that asks over a transport: there is no way any more."""
+    """The task that asks over a transport was cancelled, so nothing can be sent any more."""
 
 
 class _Asked(Transport):
@@ -101,8 +101,8 @@ def _turn_of(shared: Any) -> asyncio.Lock:
 
 
 async def _in_thread(asked: _Asked, call: Callable[[], _Result], keep: Callable[[_Result], None] = lambda _: None) -> _Result:
-    """Runs a call in a thread. If the task is cancelled, the call ends first, so that nobody else uses what it uses. What it returns
-    all the same is kept."""
+    """Runs a call in a thread. If the task is cancelled, it waits for the call to end, so that nobody else uses the call's
+    transport meanwhile. A result that still comes is kept."""
     running = asyncio.ensure_future(asyncio.to_thread(call))
     try:
         return await asyncio.shield(running)
@@ -144,12 +144,12 @@ async def receive(way: Transport, timeout: Optional[float] = None) -> Optional[b
 
 
 async def get(way: Transport, target: IdentityLike, named: IdLike, port: int = 0, **words: Any) -> Report:
-    """Does what `ptpm.get` does, with the same words."""
+    """Does what `ptpm.get` does, with the same arguments."""
     return await _ask(way, lambda asked: nobody.get(asked, target, named, port, **words))
 
 
 async def survey(way: Transport, named: IdLike, **words: Any) -> AsyncIterator[Report]:
-    """Does what `ptpm.survey` does, with the same words: the answers as they come."""
+    """Does what `ptpm.survey` does, with the same arguments, and yields the answers as they come."""
     asked = _Asked(way)
     with contextlib.closing(survey_of_threads(asked, named, **words)) as answers:
         while True:
@@ -161,7 +161,8 @@ async def survey(way: Transport, named: IdLike, **words: Any) -> AsyncIterator[R
 
 
 class Session:
-    """A `ptpm.Session` whose requests are awaited. It is `session.session`, for what asks nothing."""
+    """A `ptpm.Session` whose requests are awaited. That session is `session.session`, for the members
+    that ask nothing."""
 
     def __init__(self, settings: SessionSettings, file: Optional[SessionFile] = None, *, wait: float = 3.0) -> None:
         self.session = SessionOfThreads(settings, file, wait=wait)
@@ -174,7 +175,8 @@ class Session:
         self.session.__exit__(*why)
 
     def _keep(self, report: Report) -> None:
-        """The answer to a task that was cancelled is found where that of an earlier run is."""
+        """The answer for a task that was cancelled is found in the same place as that of an earlier
+        run."""
         self.session.earlier = report
 
     async def ask(

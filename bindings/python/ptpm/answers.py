@@ -1,4 +1,4 @@
-"""What calls of the library answer."""
+"""What calls of the library return."""
 
 from __future__ import annotations
 
@@ -24,18 +24,18 @@ class Error(PtpmError):
 
     @property
     def name(self) -> str:
-        """The header's name of it without its PTPM_."""
+        """The answer's name in the header, without PTPM_."""
         return answer_name(self.number)
 
 
 def done(number: int) -> None:
-    """Refuses every number except that of a call that was done."""
+    """Raises an Error unless the number says that the call was done."""
     if number != 0:
         raise Error(number)
 
 
 def judged(number: int) -> int:
-    """Refuses the numbers of calls that were refused (ptpm_is_refusal)."""
+    """Raises an Error if the number says that the call was refused (ptpm_is_refusal)."""
     if number >= 32:
         raise Error(number)
     return number

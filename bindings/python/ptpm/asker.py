@@ -20,8 +20,8 @@ _DRAWN = 26
 
 
 class Asker(Handle):
-    """One manager asks one clock. After each call `next` is what is to be done. Its time is counted in time-outs. So each
-    request may have a time-out of its own."""
+    """One manager asks one clock. After each call, `next` is what is to be done. The asker's time is counted in
+    time-outs, so each request may have a time-out of its own."""
 
     def __init__(self, settings: SessionSettings, image: Optional[bytes] = None) -> None:
         """With the session that a file has, or a new one."""
@@ -46,13 +46,13 @@ class Asker(Handle):
         return int(self._handed.what)
 
     def take(self) -> None:
-        """What was handed out is sent, or is waited for."""
+        """Says that what was handed out was sent, or is waited for."""
         self._wake_at = self._handed.time
         self._handed.what = header.PTPM_NOTHING
 
     @property
     def time_outs(self) -> int:
-        """How many time-outs the answer to a message is waited for. None if a read by nobody is to follow."""
+        """How many time-outs to wait for the answer to a message. None if a read by nobody follows."""
         return int(self._handed.time) - self._now
 
     @property
@@ -61,7 +61,8 @@ class Asker(Handle):
         return bool(self._handed.is_read_answered)
 
     def ask(self, request: Request, domain: int) -> None:
-        """Asks a request. It is refused for what a session refuses, or if one of an earlier run is not settled (BUSY)."""
+        """Asks a request. It is refused for the reasons of a session, or if a request of an earlier run is not finished
+        (BUSY)."""
         words = (request.action, request.id, request.port, request.data, len(request.data), domain)
         self._turn_by(library.ptpm_asker_ask, self._now, 0, *words)
 
@@ -78,12 +79,12 @@ class Asker(Handle):
         self._turn_by(library.ptpm_asker_hear, datagram, len(datagram))
 
     def wake(self) -> None:
-        """It was waited for."""
+        """The time to wait has passed."""
         self._now = self._wake_at
         self._turn_by(library.ptpm_asker_wake, self._now)
 
     def unsent(self) -> None:
-        """There was no way for the message."""
+        """The message could not be sent."""
         self._turn_by(library.ptpm_asker_unsent)
 
     def saved(self) -> None:
@@ -103,7 +104,7 @@ class Asker(Handle):
         return written(self._call, library.ptpm_asker_image, header.PTPM_SESSION_IMAGE_OCTETS)
 
     def earlier(self, domain: int) -> Tuple[int, int]:
-        """What an earlier run left, PTPM_QUESTION_LEFT or another. And in which domain it is settled if this run asks in that one."""
+        """What an earlier run left, such as PTPM_QUESTION_LEFT, and the domain in which a run that asks in `domain` finishes it."""
         there = ctypes.c_uint8()
         return self._call(library.ptpm_asker_earlier, domain, ctypes.byref(there)), there.value
 

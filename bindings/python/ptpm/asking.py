@@ -1,4 +1,4 @@
-"""Messages out and datagrams in, until a request in no session is answered."""
+"""Sends messages and takes datagrams until a request outside a session is answered."""
 
 from __future__ import annotations
 
@@ -38,8 +38,8 @@ _SOURCE, _NUMBER, _TARGET, _ACTION, _LEAST, _REPLIES = 20, 30, 34, 46, 54, (2, 4
 
 
 class Answerer:
-    """The clock that is asked. Its first answer shows in which way it answers, and others count only there. Answers in its name with
-    numbers that were not asked are counted. After more than a few nothing counts any more."""
+    """The clock that is asked. Its first answer shows by which path it answers, and later ones count only by that path. Answers
+    under its identity with numbers that were not asked are counted. After more than a few of these, no answer counts."""
 
     def __init__(self) -> None:
         self._asked: Deque[bytes] = deque(maxlen=256)
@@ -50,7 +50,8 @@ class Answerer:
         self._elsewhere: Optional[Way] = None
 
     def is_asked(self, message: bytes, way: Transport) -> None:
-        """This message goes out. Over another transport than before the clock may answer in another way."""
+        """Notes that this message goes out. If it goes over a different transport than before, the clock
+        may answer by a different path."""
         if self._transport is not way.origin:
             self._transport, self._way, self._elsewhere = way.origin, None, None
         self._source, self._clock = message[_SOURCE : _SOURCE + 10], message[_TARGET : _TARGET + 8]
@@ -78,7 +79,7 @@ class Answerer:
         self._way = self._way or way.came_by
 
     def why_none(self, way: Transport) -> str:
-        """What is known if there is no answer, each after a semicolon."""
+        """What is known about a missing answer, each part after a semicolon."""
         why = [f"what came from {sender} is ignored, {reason}" for sender, reason in way.not_taken.items()]
         if self._guesses > _FEW:
             why.append(f"{self._guesses} answers had numbers that were not asked: someone guesses numbers, or also asks as this manager")
@@ -93,7 +94,7 @@ def no_answer(sent: int, why: str = "") -> NoAnswer:
 
 
 def send_out(way: Transport, message: bytes, sent: int) -> int:
-    """Sends a message, and counts it. If there is no way, and none was sent before, going on has no sense."""
+    """Sends a message, and counts it. If it can't be sent and none was sent before, it raises an error."""
     try:
         return sent + way.send(message)
     except OSError:
@@ -113,7 +114,7 @@ def _is_answered(session: Requests, way: Transport, answerer: Answerer, until: f
 
 
 def carry_out(session: Requests, way: Transport, timeout: float) -> Report:
-    """Sends the unanswered request until it is answered, or its attempts are used."""
+    """Sends the unanswered request until it is answered, or its attempts are used up."""
     judge_seconds("timeout", timeout)
     sent, answerer = 0, Answerer()
     while True:

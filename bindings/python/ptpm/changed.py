@@ -1,4 +1,4 @@
-"""Which members of the data sets have another value than before."""
+"""Which members of the data sets have changed."""
 
 from __future__ import annotations
 
@@ -11,7 +11,7 @@ from ._header import ClockMembers as ClockMembers, PortMembers as PortMembers
 
 @dataclass(frozen=True)
 class Changed:
-    """Which members have another value after a datagram than before it: of the clock, and of port 1, port 2 and so on."""
+    """Which members a datagram changed: those of the clock, and those of port 1, port 2 and so on."""
 
     clock: ClockMembers
     ports: Tuple[PortMembers, ...]

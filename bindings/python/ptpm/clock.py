@@ -22,8 +22,8 @@ from .settings import ClockSettings, Manager, PortSettings
 
 @dataclass(frozen=True)
 class Handled:
-    """What became of a datagram, what is to be sent for it, whatever that is, and which members have another value since. And how many
-    more messages wait until a SavingClock is saved."""
+    """What became of a datagram, which messages are to be sent for it, and which members it changed. And how many more messages
+    wait until a SavingClock is saved."""
 
     answer: HandleAnswer
     messages: List[Tuple[int, bytes]]
@@ -37,7 +37,8 @@ def _array(kind: Any, places: Sequence[Any]) -> Any:
 
 
 def _trusted(identity: IdentityLike, managers: Sequence[Manager]) -> Any:
-    """The managers of a clock, as the library takes them. It would take one that has the identity of the clock, and never hear it."""
+    """The managers of a clock, as the library takes them. The library would accept one with the identity of the clock, and never
+    hear it."""
     places = [manager.as_in_c() for manager in managers]
     own = Identity.of(identity).octets
     if any(bytes(place.clock) == own for place in places):
@@ -92,10 +93,10 @@ class Clock(Handle):
 
     @classmethod
     def restore(cls, identity: IdentityLike, ports: int, managers: Sequence[Manager], image: bytes) -> Tuple[Clock, int]:
-        """The clock of an image, which has this identity and this number of ports. And how many managers' latest requests were
-        forgotten, since these managers are not among those that are given. Managers and their rights are those that are given;
-        all else comes from the image. What is refused is no reason to start a fresh clock. It would carry out requests again
-        that were carried out before."""
+        """The clock of an image, which must have this identity and this number of ports. And how many managers' latest
+        requests were forgotten, since these managers are not among those that are given. Managers and their rights are those
+        that are given; all else comes from the image. Do not start a fresh clock if the image is refused: it would carry out
+        requests once more."""
         clock = cls.__new__(cls)
         clock._begin(ports, len(managers))
         gone = ctypes.c_size_t()
@@ -117,9 +118,9 @@ class Clock(Handle):
         self.close()
 
     def ask(self, port: int, octets: bytes) -> Optional[Asked]:
-        """What a datagram would have the device do, if it came in now at this port. It is to carry out a new SET or COMMAND of a
-        manager, which the clock itself does not refuse. Or it is to give the value of an id that the clock lacks, to a GET that would
-        be answered. It is nothing for any other datagram. Nothing changes."""
+        """What a datagram would have the device do, if it came in now at this port. The device is asked to carry out a new SET or
+        COMMAND of a manager, which the clock itself does not refuse. Or it is asked for the value of an id that the clock lacks,
+        by a GET that would be answered. For any other datagram it is asked nothing. The call changes nothing."""
         return self._asked(library.ptpm_clock_ask, *came_in(port, octets))
 
     def _asked(self, call: Any, *words: Any) -> Optional[Asked]:
@@ -129,11 +130,11 @@ class Clock(Handle):
         return Asked.of_library(question) if asked in (header.PTPM_ASKED_CHANGE, header.PTPM_ASKED_VALUE) else None
 
     def handle(self, port: int, octets: bytes, say: Optional[Say] = None, of_owner: bool = False) -> Handled:
-        """Judges a datagram that came in at a port, counted from 1, and carries its request out. What is to be sent is the port and
-        the octets of each message. If the device objects where it is asked (ask), the request is answered and kept with that
-        error, and no member changes. If it gives a value where it is asked for one, this is the answer. To the GET of a manager it
-        has 130 octets at most, since it is kept. A longer one is answered with RESPONSE_TOO_BIG, and that is kept. A request of the
-        device's owner is judged as one of a manager with every right, and nothing of it is kept."""
+        """Judges a datagram that came in at a port, counted from 1, and carries its request out. What is to be sent is the port
+        and the octets of each message. If the device objects where it is asked (ask), the request is answered and kept with that
+        error, and no member changes. If it gives a value where it is asked for one, this is the answer. For the GET of a manager
+        the value has 130 octets at most, since the answer is kept. A longer one is answered with RESPONSE_TOO_BIG, and that is
+        kept. A request of the device's owner is judged as one of a manager with every right, and nothing of it is kept."""
         return self._handled(library.ptpm_clock_take, *came_in(port, octets), ctypes.byref(say_of(say)), of_owner)
 
     def _handled(self, call: Any, *words: Any) -> Handled:
@@ -146,9 +147,8 @@ class Clock(Handle):
 
     def set(self, action: Action, named: IdLike, port: int = 0xFFFF, octets: bytes = b"") -> Changed:
         """Carries out a SET or a COMMAND of the device's owner, as one of a manager with every right. It is for a command line of
-        the device, or for another protocol of management. What is kept of each manager stays: a copy of its latest request gets the
-        answer of its time. The port 0xFFFF is every port. Returns the members that have another value since, or raises
-        ChangeRefused."""
+        the device, or for another protocol of management. What is kept of each manager stays: a copy of its latest request gets
+        the cached answer. The port 0xFFFF is every port. Returns the members that changed, or raises ChangeRefused."""
         changed, error = header.ptpm_changed(), ctypes.c_uint16()
         field = octets_of(octets)
         words = (action, id_of(named), port_number(port), field, len(field), ctypes.byref(changed), ctypes.byref(error))
@@ -194,7 +194,7 @@ class Clock(Handle):
         return bytes(room[: size.value])
 
     def data_set(self, kind: Type[AnyDataSet], port: int = 0) -> AnyDataSet:
-        """Reads a data set of the clock itself: its members have their types, as in `clock.data_set(CurrentDataSet).steps_removed`. The
-        port matters only for that of a port."""
+        """Reads a data set of the clock itself: its members have their types, as in
+        `clock.data_set(CurrentDataSet).steps_removed`. The port matters only for a data set of a port."""
         named = id_of_data_set(kind)
         return of_members(kind, members(named, self.read(named, port)))

@@ -162,7 +162,8 @@ def id_of_data_set(kind: type) -> ManagementId:
 
 
 def of_members(kind: Type[_Read], members: Mapping[str, Any], head: str = "") -> _Read:
-    """A data set out of the members of its dataField; a clockQuality out of those whose names begin with its own."""
+    """A data set out of the members of its dataField. Those of a clockQuality are the members whose names begin with
+    its name."""
     read: Dict[str, Any] = {}
     for member in fields(kind):
         name = head + _name_in_json(member.name)

@@ -16,7 +16,7 @@ from .settings import write_number
 
 
 class ChangeRefused(PtpmError):
-    """A change at the device itself is refused, as that of a manager with every right would be, and nothing changed."""
+    """A change at the device itself was refused, as one of a manager with every right would be, and nothing changed."""
 
     def __init__(self, error: int) -> None:
         super().__init__(error_name(error))
@@ -29,8 +29,8 @@ def _is_value(number: int) -> bool:
 
 
 class Limit:
-    """The values that the hardware of a device has, of an id at a port. They are from one number to another, or those of a set. Each is
-    -128 to 255, a value of the first octet of the dataField of a SET; -4 is 0xFC. Without such values it has none: the id can't be set
+    """The values that a device's hardware has for an id at a port: a range of numbers, or a set of them. Each is from -128 to
+    255, a value of the first octet of the dataField of a SET; -4 is 0xFC. A limit without values means that the id can't be set
     there. The port 0xFFFF is every port.
 
     >>> from ptpm import DelayMechanism
@@ -58,9 +58,9 @@ class Limit:
 
     @staticmethod
     def objection(limits: Sequence[Limit], asked: Asked) -> Optional[Objection]:
-        """The error with which a device objects that has these values, if it does. Only limits of the id count, and of a port that
-        is named. If one of them has no value, a SET is NOT_SETABLE, and a COMMAND is NOT_SUPPORTED. If one lacks the value of a
-        SET, that is a WRONG_VALUE."""
+        """The error by which a device with these limits objects, or None. Only limits of the request's id, and of a port that it
+        names, count. If one of them has no value, a SET is NOT_SETABLE, and a COMMAND is NOT_SUPPORTED. If one lacks the value of
+        a SET, that is a WRONG_VALUE."""
         places = (header.ptpm_limit * max(len(limits), 1))(*(limit._limit for limit in limits))
         error = library.ptpm_limits_say(places, len(limits), ctypes.byref(asked.as_in_c()))
         return Objection(error) if error else None
@@ -106,7 +106,7 @@ Say = Union[Objection, Gives]
 
 
 def say_of(said: Optional[Say]) -> Any:
-    """What a device says, as the library takes it: it agrees if it says nothing."""
+    """What a device says, in the library's form. A device that says nothing agrees."""
     if said is None:
         return header.ptpm_say(kind=header.PTPM_AGREES)
     if not isinstance(said, Gives):

@@ -6,8 +6,8 @@ from typing import NamedTuple
 
 
 class DomainIdentity(NamedTuple):
-    """A domainNumber, 0 to 255, and an sdoId, 0 to 0xfff. Domains of one number and two sdoIds are two domains: their clocks hear
-    nothing of each other.
+    """A domainNumber, 0 to 255, and an sdoId, 0 to 0xfff. Two domains may have the same number and different sdoIds: their clocks
+    don't hear each other.
 
     >>> print(DomainIdentity(4), DomainIdentity(4, 0x100))
     4 4@0x100

@@ -1,4 +1,4 @@
-"""An asker at work: what it hands out is sent, saved and waited for, until there is an answer, or none."""
+"""Drives an asker: sends, saves and waits as the asker says, until there is an answer, or none comes."""
 
 from __future__ import annotations
 
@@ -38,7 +38,7 @@ class Driver:
         """Why there is no way for its first message."""
 
     def run(self) -> bool:
-        """Whether there is an answer. It is to be noted then."""
+        """Whether there is an answer, which the caller then notes."""
         while self._asker.next not in (header.PTPM_NOTE_ANSWER, header.PTPM_FAILED):
             self._step(self._asker.next)
         return self._asker.next == header.PTPM_NOTE_ANSWER
@@ -58,7 +58,7 @@ class Driver:
             self._asker.wake()
 
     def _send(self, is_read: bool) -> None:
-        """Sends what is handed out. Its answer is waited for from when it left."""
+        """Sends the message that is handed out. The time-out counts from when it left."""
         message, time_outs = self._port.goes_out(self._asker.message()), self._asker.time_outs
         self._asker.take()
         self._answerer.is_asked(message, self._way)
@@ -76,7 +76,8 @@ class Driver:
         self._due = time.monotonic() + time_outs * self._timeout
 
     def _is_out(self, message: bytes) -> bool:
-        """Whether a message goes out. For the first one it is waited for room, as long as for answers."""
+        """Whether a message goes out. For the first one it waits for room in the socket, as long as for
+        an answer."""
         for attempt in range(1 if self.sent else self._asker.attempts):
             if attempt > 0 and self._hears_before(time.monotonic() + self._timeout):
                 return False
@@ -85,7 +86,7 @@ class Driver:
         return False
 
     def _hears_before(self, until: float) -> bool:
-        """Whether what comes in before a time has the asker hand something out."""
+        """Whether the asker hands something out for what comes in before a time."""
         while self._asker.next == header.PTPM_NOTHING:
             datagram = self._way.receive(until)
             if datagram is None:

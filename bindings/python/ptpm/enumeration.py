@@ -1,4 +1,4 @@
-"""Numbers with names. One without a name is kept, and is named by its number."""
+"""Numbers with names. A number without a name is kept, and is named by its digits."""
 
 from __future__ import annotations
 
@@ -26,8 +26,8 @@ class Answer(IntEnum):
 
 
 class Enumeration(IntEnum):
-    """Numbers of an octet that the standard names. One without a name has its number for it, such as `0x11`, as every text and JSON
-    of ptpm has it."""
+    """Numbers of an octet that the standard names. A number without a name is named like `0x11`, as in every text and JSON of
+    ptpm."""
 
     @classmethod
     def _missing_(cls, value: object) -> Optional[Enumeration]:
@@ -35,5 +35,5 @@ class Enumeration(IntEnum):
 
     @classmethod
     def of(cls: Type[_Enumeration], text: str) -> _Enumeration:
-        """That of a name, or of a number such as `0x11`."""
+        """The member with this name, or with a number such as `0x11`."""
         return cls(int(text, 0)) if text[:1].isdigit() else cls[text]

@@ -27,7 +27,7 @@ class Identity:
 
     @classmethod
     def of(cls, identity: IdentityLike) -> Identity:
-        """An identity, or the one that a text spells."""
+        """The identity that is given, or the one that a text spells."""
         if isinstance(identity, Identity):
             return identity
         if isinstance(identity, bytes):
@@ -39,12 +39,12 @@ class Identity:
 
     @classmethod
     def of_mac(cls, mac: bytes) -> Identity:
-        """The identity that a MAC makes: fffe is in its middle."""
+        """The identity that a MAC makes, with fffe in its middle."""
         return cls(mac[:3] + b"\xff\xfe" + mac[3:])
 
     @property
     def turned(self) -> Identity:
-        """The same with its universal/local bit turned."""
+        """The same with its universal/local bit inverted."""
         return Identity(bytes([self.octets[0] ^ 2]) + self.octets[1:])
 
     @property
@@ -70,7 +70,7 @@ class PortIdentity:
 
     @classmethod
     def of(cls, identity: PortIdentityLike) -> PortIdentity:
-        """A portIdentity, or the one that a text spells."""
+        """The portIdentity that is given, or the one that a text spells."""
         if isinstance(identity, PortIdentity):
             return identity
         clock, port = (ctypes.c_uint8 * 8)(), ctypes.c_uint16()

@@ -10,7 +10,8 @@ from .rollout import Rollout
 
 
 def may_be_open(path: str) -> bool:
-    """Whether the apply of this journal has no end, or the journal can't be read. A journal that is not there is none."""
+    """Whether the apply of this journal has no end, or the journal can't be read. If there is no journal, no apply is
+    open."""
     try:
         opened = os.open(path, os.O_RDONLY | os.O_NOFOLLOW | os.O_NONBLOCK | os.O_CLOEXEC)
     except FileNotFoundError:

@@ -34,7 +34,7 @@ def filter_program(*instructions: Tuple[int, int, int, int]) -> bytes:
 
 
 def attach_filter(opened: socket.socket, wanted: bytes) -> None:
-    """Has the kernel drop what is not wanted, so that other messages leave the answers their room."""
+    """Has the kernel drop what is not wanted, so that other messages don't take the room of answers."""
     octets = ctypes.create_string_buffer(wanted, len(wanted))
     opened.setsockopt(socket.SOL_SOCKET, _SO_ATTACH_FILTER, struct.pack("HP", len(wanted) // 8, ctypes.addressof(octets)))
 
@@ -92,8 +92,8 @@ def _sum(octets: bytes) -> int:
 
 
 def _is_as_sent(packet: bytes, datagram: bytes) -> bool:
-    """Whether a datagram over IPv4 has the octets that its UDP checksum is of; it may have none. Of one that was sent on this machine
-    only the addresses may be summed yet. Over IPv6 the kernel compares it."""
+    """Whether a datagram over IPv4 has the octets that its UDP checksum is of; it may have none. In one that was sent on this
+    machine the checksum may cover only the addresses so far. Over IPv6 the kernel compares it."""
     addresses = _sum(packet[12:20] + struct.pack("!HH", socket.IPPROTO_UDP, len(datagram)))
     checksum = int.from_bytes(datagram[6:8], "big")
     return checksum in (0, addresses) or _sum(datagram + bytes(len(datagram) % 2) + struct.pack("!H", addresses)) == 0xFFFF
@@ -110,8 +110,8 @@ def message_in_copy(packet: bytes, is_six: bool) -> Optional[bytes]:
 
 
 class Packets:
-    """The packets with what is sent by unicast to UDP port 320 of this host, as they come in from a link. They have the hardware address
-    of who sent them, which a copy lacks."""
+    """The packets with what is sent by unicast to UDP port 320 of this host, as they come in from a link. They have the hardware
+    address of their sender, which a copy lacks."""
 
     def __init__(self, interface: str, family: socket.AddressFamily, wanted: bytes) -> None:
         self._is_six = family == socket.AF_INET6
@@ -146,7 +146,7 @@ class Packets:
 
 
 class Way(NamedTuple):
-    """How a message came in: at which socket, from whom, and whether no router had passed it on (RFC 5082)."""
+    """How a message came in: at which socket, from whom, and whether no router had forwarded it (RFC 5082)."""
 
     socket: int
     sender: Any
@@ -157,7 +157,7 @@ class Link:
     """The link at an interface, from which answers are taken."""
 
     def __init__(self, interface: str, asked: Optional[str], any_source: bool, ttl_security: bool) -> None:
-        """`asked` is the one address that is asked, if it is not a group."""
+        """`asked` is the address that is asked, unless that is a group."""
         self._interface, self._index = interface, socket.if_nametoindex(interface)
         self._asked = None if asked is None else ipaddress.ip_address(asked.split("%")[0])
         self._any_source, self._ttl_security = any_source, ttl_security
@@ -181,18 +181,18 @@ class Link:
         return False
 
     def takes(self, sender: str, ttl: int, *, is_unicast: bool) -> bool:
-        """Whether a datagram comes from the link, or from the address that is asked, and past no router if that is wanted. An
-        interface without an address has no link that is known."""
+        """Whether a datagram comes from the link, or from the address that is asked, and, if that is wanted, through no
+        router. The link of an interface without an address is not known."""
         address = ipaddress.ip_address(sender.split("%")[0])
         if self._ttl_security and is_unicast and ttl != FULL_TTL:
-            return self._refuse(sender, "since a router may have passed it on: --ttl-security takes only TTL 255")
+            return self._refuse(sender, "since a router may have forwarded it: --ttl-security takes only TTL 255")
         if self._any_source or address == self._asked or self._is_on(address) or not self._has_address(address.version == 6):
             return True
         return self._refuse(sender, "which is not on the link: --any-source takes it")
 
     def takes_copy(self, packets: Optional[Packets], sender: str, copy: bytes) -> bool:
-        """Whether a copy was sent by the neighbour who has the sender's address, as far as that can be known. If the kernel knows
-        nobody there, it asks the link."""
+        """Whether a copy was sent by the neighbour that has the sender's address, as far as that can be known. If the kernel
+        knows no such neighbour, it asks the link."""
         address = ipaddress.ip_address(sender.split("%")[0])
         if packets is None or self._any_source or not self._is_on(address):
             return True
@@ -205,10 +205,11 @@ class Link:
         if neighbour is not None and neighbour in stations:
             self.refused.pop(sender, None)
             return True
-        return self._refuse(sender, "since another machine sent it, or nobody is there")
+        return self._refuse(sender, "since another machine sent it, or none has that address")
 
     def _ask(self, address: Any) -> None:
-        """Sends an empty datagram there, for nobody (RFC 863), so that the kernel asks who has the address."""
+        """Sends an empty datagram to the discard port there (RFC 863), so that the kernel asks who has the
+        address."""
         family = socket.AF_INET if address.version == 4 else socket.AF_INET6
         to = (str(address), _DISCARD_PORT) if address.version == 4 else (str(address), _DISCARD_PORT, 0, self._index)
         with socket.socket(family, socket.SOCK_DGRAM | socket.SOCK_CLOEXEC) as probe, contextlib.suppress(OSError):

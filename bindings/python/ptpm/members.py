@@ -30,12 +30,13 @@ def _pairs(number: int, octets: bytes) -> List[Tuple[str, str]]:
 
 
 def _has_members(pairs: Sequence[Tuple[str, str]]) -> bool:
-    """Whether they are members. `value` is the whole dataField, if it has none, or is none of its id."""
+    """Whether these are members. The name `value` is for a whole dataField that has no members, or does
+    not fit its id."""
     return bool(pairs) and pairs[0][0] != "value"
 
 
 def _text_octets(text: str) -> bytes:
-    """The octets of a text, in which the library has a backslash, an x and two digits for an octet."""
+    """The octets of a text, in which the library writes an octet as a backslash, an x and two digits."""
     return _ESCAPE.sub(lambda escape: bytes.fromhex(escape[1].decode()), text.encode())
 
 
@@ -69,13 +70,13 @@ _READERS: Dict[int, Callable[[str], Member]] = {
 
 
 def _kind(number: int, octets: bytes, place: int) -> int:
-    """What the value of the member in the line of this place is."""
+    """The kind of the value in the line at this place."""
     kind: int = library.ptpm_member_kind(number, octets, len(octets), place)
     return kind
 
 
 def members(named: IdLike, octets: bytes) -> Dict[str, Member]:
-    """The members of a managementId's dataField: none if they are not known here, or if it has another length than the id's.
+    """The members of a managementId's dataField: none if they are not known here, or if its length is not that of the id.
 
     >>> members("CURRENT_DATA_SET", bytes.fromhex("0001ffffffffffff80000000000000000001"))
     {'stepsRemoved': 1, 'offsetFromMaster': Decimal('-0.5'), 'meanDelay': Decimal('0.0000152587890625')}
@@ -99,7 +100,7 @@ def _shown(text: str) -> str:
 
 
 def _shown_text(octets: bytes) -> str:
-    """A text whose octets are not a character are shown as these."""
+    """A text in which octets that make no character are shown as octets."""
     shown = octets.decode("utf-8", "surrogateescape")
     return "".join(f"\\x{ord(c) - 0xDC00:02x}" if 0xDC80 <= ord(c) <= 0xDCFF else _shown(c) for c in shown)
 
@@ -147,7 +148,7 @@ def _refuse(number: int, words: Sequence[str], why: int, place: int) -> NoReturn
 
 
 def _parsed(number: int, words: Sequence[str]) -> Tuple[int, bytes, int]:
-    """The library's answer to words for a SET, the dataField, and the place of the member that is at fault."""
+    """The library's answer to the words of a SET, the dataField, and the place of the member that is at fault."""
     octets = (ctypes.c_uint8 * header.PTPM_MOST_READ)()
     count, place = ctypes.c_size_t(), ctypes.c_size_t()
     joined = b"".join(word.encode() + b"\0" for word in words)
@@ -170,7 +171,7 @@ def parse(number: int, words: Sequence[str]) -> bytes:
 
 
 def _word(value: Value) -> str:
-    """The word for a value: of a text the one that means it as it is."""
+    """The word for a value; a text is escaped so that it means exactly itself."""
     return value.replace("\\", "\\x5c").replace("\0", "\\x00") if isinstance(value, str) else str(operator.index(value))
 
 
@@ -186,8 +187,8 @@ def _in_order(number: int, values: Mapping[str, Value]) -> Iterable[str]:
 
 
 def data_field(named: IdLike, value: DataField) -> bytes:
-    """The dataField of a SET: octets as they are, nothing as none, and else the one member of the id, or its text. Or the value
-    of each member by its name in the standard.
+    """The dataField of a SET. It is given as octets, as None if it is empty, or as the value of the id's one member, a
+    text for USER_DESCRIPTION. Or as the value of each member by its name in the standard.
 
     >>> data_field("PRIORITY1", 100).hex(), data_field("USER_DESCRIPTION", "rack 4").hex()
     ('6400', '067261636b203400')

@@ -22,7 +22,7 @@ def is_beyond_session(port: int) -> bool:
 
 
 def not_kept(port: int) -> ValueError:
-    """Why a request is refused that would be kept."""
+    """Why a request that would be kept is refused."""
     return ValueError(f"port {port}: a request to a port above {SESSION_PORTS} has no session")
 
 
@@ -32,7 +32,8 @@ def _is_error_of(datagram: bytes, clock: bytes) -> bool:
 
 
 class NamedPort:
-    """A port above 255 takes the place of port 255 in what goes out, and gives it back in what comes in."""
+    """A port above 255 is written into messages for port 255 as they go out, and back to 255 in datagrams
+    that come in."""
 
     def __init__(self, port: int = 0) -> None:
         self.named = port
@@ -42,7 +43,7 @@ class NamedPort:
         self._target = bytes(_SIZE)  # of the latest message, as the library has it
 
     def outside(self, port: int) -> int:
-        """The port that is named for one of the library's."""
+        """The port that a message names for this port of the library."""
         if self.beyond == 0 or port not in (self.beyond, SESSION_PORTS):
             return port
         return SESSION_PORTS if port == self.beyond else self.beyond
@@ -55,13 +56,14 @@ class NamedPort:
         return octets[:place] + port.to_bytes(2, "big") + octets[place + 2 :]
 
     def goes_out(self, message: bytes) -> bytes:
-        """A message of the library as it is sent."""
+        """A message of the library, as it is sent."""
         self._target = message[_TARGET : _TARGET + _SIZE]
         return self._swapped(message, _TARGET)
 
     def comes_in(self, datagram: bytes) -> Iterator[bytes]:
-        """As what the library judges a datagram, until one answers. A clock that is not one of ptpm may refuse at the port where the
-        request came in, not at the one that was named. So its error is judged as one of the named port, too."""
+        """What the library is to judge when a datagram comes in, in this order, until it takes an answer. A clock that is not
+        one of ptpm may refuse at the port where the request came in, not at the one that was named. So its error is judged as
+        one of the named port, too."""
         heard = self._swapped(datagram, _SOURCE)
         yield heard
         if _is_error_of(heard, self._target[:_CLOCK]):

@@ -1,4 +1,5 @@
-"""Requests of no manager: a clock answers them whatever numbers it accepted, and keeps nothing of them."""
+"""Requests without a manager: a clock answers them whatever numbers it has accepted, and keeps nothing of
+them."""
 
 from __future__ import annotations
 
@@ -23,14 +24,14 @@ def draw() -> int:
 
 
 def refuse_nobody(manager: PortIdentity) -> None:
-    """Refuses a port at which no manager asks, and that which means every port."""
+    """Refuses a port that no manager may have, and the one that means every port."""
     if manager.port >= FIRST_OF_NOBODY:
         raise ValueError(f"manager {manager}: the port has to be below {FIRST_OF_NOBODY}")
 
 
 def nobody(manager: PortIdentity, action: int = Action.GET) -> PortIdentity:
-    """The manager's clock at a port of this process that no manager has. No clock keeps an answer to it, and no session treats
-    that as its own. For a GET it is even, and for a SET or a COMMAND odd."""
+    """The identity of the manager's clock, with a port of this process that no manager has. No clock caches an answer to it,
+    and no session takes such an answer as its own. The port is even for a GET, and odd for a SET or a COMMAND."""
     port = FIRST_OF_NOBODY + os.getpid() % _PROCESSES * 2
     return PortIdentity(manager.clock, port if action == Action.GET else port + 1)
 
@@ -38,7 +39,7 @@ def nobody(manager: PortIdentity, action: int = Action.GET) -> PortIdentity:
 def ask_in_no_session(
     way: Transport, settings: SessionSettings, action: int, named: IdLike, data: bytes = b"", port: int = 0, *, timeout: float = 0.2
 ) -> Report:
-    """Asks by the manager of the settings, with a number that is drawn, until it is answered. Nothing is kept of it."""
+    """Asks as the manager of the settings, with a random number, until it is answered. Nothing is kept of it."""
     asking = Requests(replace(settings, first=draw()))
     begin_request(asking, action, named, data, port)
     return carry_out(asking, way, timeout)
@@ -64,6 +65,6 @@ def get(
     attempts: int = 30,
     timeout: float = 0.2,
 ) -> Report:
-    """Asks a GET until it is answered: the answer is what the data sets say."""
+    """Asks a GET until it is answered, from the clock's data sets."""
     settings = SessionSettings(PortIdentity(way.identity, 1), target, None, domain, hops, attempts)
     return ask_as_nobody(way, settings, Action.GET, named, b"", port, timeout=timeout)

@@ -38,8 +38,8 @@ class ObservedGrandmaster:
 
 @dataclass
 class ObservedClock:
-    """What a host observes about its clock, with the header's names. What is None stays; `is_grandmaster` says that it is the clock
-    itself."""
+    """What a host observes about its clock, with the header's names. A member that is None stays as it was; `is_grandmaster` says
+    that the grandmaster is the clock itself."""
 
     clock_class: Optional[int] = None
     clock_accuracy: Optional[int] = None

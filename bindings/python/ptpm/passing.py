@@ -1,4 +1,5 @@
-"""What a host asks before it forwards a message: whether it did so already, and whether it is within its rate."""
+"""What a host asks before it forwards a message: whether it has already forwarded it, and whether it is within
+its rate."""
 
 from __future__ import annotations
 
@@ -21,7 +22,7 @@ class PassedOn:
         self._turn = threading.RLock()
 
     def is_first(self, message: bytes, now: int, time: int) -> bool:
-        """Whether a message is to be forwarded; it is then recorded for a time. The time now and that one are in the same unit."""
+        """Whether a message is to be forwarded. If so, it is recorded for `time`, in the unit of `now`."""
         octets = octets_of(message)
         with self._turn:
             table = (self._seed, self._places, self._count)

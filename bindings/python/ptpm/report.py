@@ -20,7 +20,7 @@ MOST_DATA = 1418
 @dataclass(frozen=True)
 class Report:
     """What a clock answered: a dataField, that it carried a COMMAND out (`is_done`), or a managementErrorId. If it answers a SET,
-    `asked` is the dataField of that."""
+    `asked` is the dataField of the SET."""
 
     id: int
     octets: bytes
@@ -31,9 +31,9 @@ class Report:
 
     @property
     def is_as_asked(self) -> bool:
-        """False if it answers a SET with another value than was asked. A clock of ptpm answers a SET by its own octets, others by
-        their data set as it is then. So if this is false, the SET was not carried out as it was asked. The members are compared,
-        and no reserved octets."""
+        """False if a SET was answered with a different value than was asked. A clock of ptpm answers a SET with the SET's own
+        octets, and others with the data set that they then have. So if this is false, the SET was not carried out as asked.
+        Members are compared, but not reserved octets."""
         if self.asked is None or self.error is not None:
             return True
         return self.octets == self.asked or lines(self.id, self.octets) == lines(self.id, self.asked)
@@ -60,7 +60,7 @@ class Report:
 def told(
     number: int, named: int, octets: bytes, error: int, source: Optional[PortIdentity] = None, asked: Optional[bytes] = None
 ) -> Report:
-    """The report of a number of `enum ptpm_reported`."""
+    """The report for a number of `enum ptpm_reported`."""
     if number == header.PTPM_NO_REPORT:
         raise Error(number)
     is_refused = judged(number) == header.PTPM_REFUSED

@@ -46,9 +46,10 @@ class SessionSettings:
 
 class Requests(Handle):
     """One request at a time to one clock. A caller that uses these calls directly is responsible for the numbers. A request
-    with one that was used before is answered with what the clock kept.
+    with a number that was used before gets the clock's cached answer.
 
-    A port above 255 takes the place of port 255 in what goes out, and gives it back in what comes in."""
+    A port above 255 is written into messages for port 255 as they go out, and back to 255 in datagrams
+    that come in."""
 
     def __init__(self, settings: SessionSettings) -> None:
         super().__init__(header.ptpm_session, library.ptpm_session_stop)
@@ -107,15 +108,15 @@ class Requests(Handle):
         done(self._call(library.ptpm_session_resume, attempts))
 
     def retune(self, domain: int) -> None:
-        """Has requests sent, and replies expected, in this domain from now on, the unanswered request among them."""
+        """From now on requests are sent, and replies expected, in this domain. That includes the unanswered request."""
         if not 0 <= domain <= 255:
             raise OverflowError(f"a domain is 0 to 255, not {domain}")
         done(self._call(library.ptpm_session_retune, domain))
 
     def image(self) -> bytes:
-        """The session's image: what a host saves before it sends a request, and after it has reported an answer. How many attempts
-        are left, and the answer to the latest request, are not in it. There is none (ValueError) while a request to a port above 255
-        is unanswered: another session would ask port 255."""
+        """The session's image: what a host saves before it sends a request, and after it has reported an answer. How many
+        attempts are left, and the answer to the latest request, are not in it. While a request to a port above 255 is unanswered,
+        there is no image (ValueError): a session from it would ask port 255."""
         octets = self._image()
         if self._port.beyond and unanswered(octets) is not None:
             raise not_kept(self._port.beyond)
@@ -126,8 +127,8 @@ class Requests(Handle):
 
     def restore(self, image: bytes) -> None:
         """Continues as the session of an image of the same manager, clock, number of ports and first number, instead of this one.
-        Its domain, hops and attempts are those of the image. A request that was not answered stays open: send it again. What is
-        refused is no reason to start a fresh session: the clock would treat its requests as old, or as others."""
+        Its domain, hops and attempts are those of the image. A request that was not answered stays open: send it again. Do not
+        start a fresh session if the image is refused: the clock would treat its requests as old, or as conflicts."""
         octets, struct = octets_of(image), self.settings.as_in_c()
         done(self._call(library.ptpm_session_restore, ctypes.byref(struct), octets, len(octets)))
         self._request, self._port = unanswered(octets), NamedPort()
@@ -148,7 +149,8 @@ class Requests(Handle):
 
 
 def begin_request(session: Requests, action: int, named: IdLike, data: bytes, port: int) -> None:
-    """Begins a request at the port that is named, for an id of the clock too. If none is, every port is asked for such an id."""
+    """Begins a request at the port that is named, for an id of the clock too. If no port is named, every port is asked for such
+    an id."""
     if port in (0, EVERY_PORT):
         session.begin(action, named, data, port)
     else:

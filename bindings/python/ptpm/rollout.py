@@ -11,11 +11,11 @@ from .answers import done, written
 
 
 class Rollout(Handle):
-    """A change of several clocks. After each turn its host does what the action says, and hands in what came of it. The lanes are the clocks
-    of the journal in the order of their identities."""
+    """A change of several clocks. After each turn its host does what the action says, and hands in the outcome. The lanes are the
+    clocks of the journal in the order of their identities."""
 
     def __init__(self, journal: bytes, choice: int = header.PTPM_STOP_AT_FAILURE) -> None:
-        """With the octets of the journal's file. The first `whole` of them are whole records."""
+        """Takes the octets of the journal's file. The first `whole` of them are whole records."""
         super().__init__(header.ptpm_rollout, library.ptpm_rollout_stop)
         whole = ctypes.c_size_t()
         done(self._call(library.ptpm_rollout_open, journal, len(journal), choice, ctypes.byref(whole)))

@@ -25,9 +25,10 @@ class Saved(NamedTuple):
 
 
 class SavingClock:
-    """A Clock that outlasts its power. It shows no change before that is saved. The messages of a change wait for a save, and so do those
-    of all else that managers and the owner ask meanwhile. Anyone else is answered at once, by what was saved. A save is an image, its octets
-    stored, and `saved`. If storing fails, nothing is said: the next image has all of it.
+    """A Clock that outlasts a loss of power. It shows no change before that is saved. The messages of a change wait for a save,
+    and so do those of all else that managers and the owner ask meanwhile. Anyone else is answered at once, from what was saved. A
+    save has three steps: `image`, the storing of its octets, and `saved`. If storing fails, `saved` is not called: the next image
+    has all of it.
 
     >>> from ptpm import ClockSettings, Manager, PortSettings
     >>> manager = Manager("0011223344556677/1")
@@ -65,15 +66,16 @@ class SavingClock:
         self._clock.close()
 
     def take(self, port: int, octets: bytes, say: Optional[Say] = None, of_owner: bool = False) -> Handled:
-        """Does what Clock.handle does. Messages that wait are those of a later `saved`. It is refused (UNSAVED) if they would have no
-        place (free), and before the first save."""
+        """Does what Clock.handle does. Messages that wait are returned by a later `saved`. It is refused (UNSAVED) if there is no
+        place for them (free), and before the first save."""
         return self._clock.handle(port, octets, say, of_owner)
 
     def undertake(self, port: int, octets: bytes) -> Optional[Asked]:
-        """Keeps a change as under way, so that the device is asked for it once, whatever happens to the power. A change is what `ask` would
-        ask of the device, by the clock as it is. It is in each image from now on. A save then says `act_now` once, and the host asks
-        its device. What else a datagram asks is returned as by `ask`, and nothing is kept. It is refused (UNSAVED) before the first
-        save. A second change is refused (UNDER_WAY). Until `decide`, so is what else the manager asks of this clock.
+        """Keeps a change as under way, so that the device is asked for it once, whatever happens to the power. A change is what
+        `ask` would now ask of the device. It is in each image from then on. The next save returns `act_now` once, and the host
+        asks its device. For any other datagram it returns what `ask` would, and keeps nothing. It is refused (UNSAVED) before the
+        first save. A second change is refused (UNDER_WAY). Until `decide`, everything else that the same manager asks of this
+        clock is refused too.
 
         >>> from ptpm import Clock, ClockSettings, Manager, Objection, PortSettings
         >>> clock = SavingClock(Clock(ClockSettings("aabbccfffeddee01"), [PortSettings()], [Manager("0011223344556677/1")]))
@@ -93,8 +95,8 @@ class SavingClock:
         return self._clock._asked(library.ptpm_clock_undertake, *came_in(port, octets))
 
     def under_way(self) -> Optional[Asked]:
-        """The change that is under way. After a restore of its image the device may have been asked. The host then looks whether it has the
-        change, and says so (decide)."""
+        """The change that is under way. After a restore the device may have been asked already. The host then looks whether the
+        device has the change, and says so (decide)."""
         return self._clock._asked(library.ptpm_clock_under_way)
 
     def decide(self, say: Optional[Say] = None) -> Handled:
@@ -110,8 +112,9 @@ class SavingClock:
         return bytes(room[: size.value]), token.value
 
     def saved(self, token: int) -> Saved:
-        """Says once that a restart would find the latest image, whatever happens to the power. Returns what is to be sent: what waited when
-        it was made. And whether it has a change that is still under way: once for each change, and never of one that a restore found."""
+        """Says once that a restart would find the latest image, whatever happens to the power. Returns the messages that waited
+        when that image was made, and are now to be sent. And whether the image has a change that is still under way: once for
+        each change, and never for one that a restore found."""
         with self._clock._turn:
             answer = judged(self._clock._call(library.ptpm_clock_saved, token))
             return Saved(list(self._clock._released()), answer == header.PTPM_ACT_NOW)
@@ -138,7 +141,7 @@ class SavingClock:
         return self._clock.observe(observed, ports)
 
     def read(self, named: IdLike, port: int = 0) -> bytes:
-        """Does what Clock.read does: what was saved, and observed since."""
+        """Does what Clock.read does, with what was saved and observed since."""
         return self._clock.read(named, port)
 
     def data_set(self, kind: Type[AnyDataSet], port: int = 0) -> AnyDataSet:

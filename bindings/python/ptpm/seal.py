@@ -1,5 +1,5 @@
-"""The seal of an image: 16 octets after it, by which damage is found. ptpm-manage and ptpm-clock seal their files so. A device seals
-the images in the places of its flash memory."""
+"""The seal of an image: 16 octets after it, by which damage is found. ptpm-manage and ptpm-clock seal their files in this way.
+A device seals the images in its flash memory."""
 
 from __future__ import annotations
 
@@ -22,8 +22,8 @@ def sealed(image: bytes, saves: int) -> bytes:
 
 
 def unsealed(octets: bytes) -> Tuple[bytes, int]:
-    """The image that octets begin with, and how often it was saved. Raises an Error if no image that is whole is
-    there with its seal."""
+    """The image at the beginning of octets, and how often it was saved. Raises an Error unless a whole image
+    with its seal is there."""
     octets = octets_of(octets)
     count, size = ctypes.c_uint64(), ctypes.c_size_t()
     number = library.ptpm_image_unseal(octets, len(octets), ctypes.byref(count), ctypes.byref(size))

@@ -29,17 +29,18 @@ from .transport import Transport
 class Session(Requests):
     """One request at a time to one clock, which carries it out once, however often it is sent.
 
-    `ask` sends a request until it is answered, and reports nothing that the clock had kept for an earlier session. It first
-    makes sure that its number is new. With a file the next session continues from this one. A request is in the file before it is
-    sent, and until the caller goes on after its answer. If it had no answer, the next session finishes it first, and has what came
-    of it in `earlier`. A SET or a COMMAND is finished in the domain in which it was asked, whichever this session's is.
+    `ask` sends a request until it is answered. It first makes sure that its number is new, so it never reports an answer that the
+    clock had cached for an earlier session. With a file the next session continues from this one. A request is in the file before
+    it is sent, and until the caller goes on after its answer. If it had no answer, the next session finishes it first, and has
+    its result in `earlier`. A SET or a COMMAND is finished in the domain in which it was asked, whatever the session's own.
 
     Threads that ask in one session take turns: a request is answered before the next one begins.
     """
 
     def __init__(self, settings: SessionSettings, file: Optional[SessionFile] = None, *, wait: float = 3.0) -> None:
-        """`wait` is how many seconds a session without a number waits before it asks, until no copy of an earlier one is on its
-        way. A manager has a port below 61440: at those from there on processes ask in no session, as `get` and `survey` do."""
+        """`wait` is how many seconds a session without a number waits before it asks, until no copy of an earlier request is on
+        its way. A manager's port is below 61440: the ports from there on are for requests outside a session, such as those of
+        `get` and `survey`."""
         refuse_nobody(PortIdentity.of(settings.manager))
         judge_seconds("wait", wait)
         octets = None if file is None else file.octets
@@ -97,7 +98,7 @@ class Session(Requests):
         self._file = None
 
     def close(self) -> None:
-        """Stops it. A file then has it without the request whose answer was reported."""
+        """Stops the session. Its file then has it without the request whose answer was reported."""
         with self._asking:
             if self._file is not None and self._file.is_open:
                 if self._asker is not None:
@@ -126,7 +127,7 @@ class Session(Requests):
         return asker
 
     def is_busy(self) -> bool:
-        """Whether a request is unanswered. A question whether a number is new is none."""
+        """Whether a request is unanswered. A freshness check does not count."""
         return super().is_busy() and self._holder().earlier(0)[0] != header.PTPM_QUESTION_LEFT
 
     def report(self) -> Report:
@@ -144,7 +145,7 @@ class Session(Requests):
         return answer
 
     def _come_back(self) -> None:
-        """Asks in its own domain, once the request of an earlier run is settled, whichever call has settled it."""
+        """Asks in the session's own domain again, once a call has finished the request of an earlier run."""
         if self.is_under_way:
             self.is_under_way = False
             self.retune(self.settings.domain)
@@ -168,7 +169,8 @@ class Session(Requests):
 
     @contextlib.contextmanager
     def _turn_of(self, asker: Asker) -> Iterator[None]:
-        """The session is as the asker leaves it. If that fails, it is what was saved, as another run would have it."""
+        """In its `with` the session is as the asker leaves it. If that fails, it is as it was saved, as another run
+        would have it."""
         self._told = None
         try:
             yield
@@ -206,7 +208,7 @@ class Session(Requests):
         return NoAnswer(f"{what}: the request itself was not sent{known}", was_sent=False)
 
     def _is_read(self, way: Transport, image: bytes, port: int, timeout: float) -> bool:
-        """Whether the clock answers nobody what a session's question asks."""
+        """Whether the clock answers a read outside the session of what its freshness check asks."""
         question, settings = unanswered(image), replace(self.settings, domain=domain_of(image))
         assert question is not None
         try:
@@ -218,7 +220,8 @@ class Session(Requests):
     # ---- what a caller asks
 
     def _judge(self, request: Request) -> None:
-        """Refuses what a file would keep for another port. And what the library would refuse after an earlier request is finished."""
+        """Refuses a request that a file would keep for a different port, and one that the library would refuse after an earlier
+        one is finished."""
         if self._file is not None and is_beyond_session(request.port):
             raise not_kept(request.port)
         if self.is_under_way:
@@ -227,7 +230,8 @@ class Session(Requests):
             probe.close()
 
     def _leave_question(self, asker: Asker, port: int) -> None:
-        """Gives up a question that names another port, unless the library refuses to. A clock without that port never answers it."""
+        """Gives up a freshness check that names a different port, unless the library refuses to. A clock without that port never
+        answers it."""
         question = unanswered(asker.image())
         if question is None or asker.earlier(0)[0] != header.PTPM_QUESTION_LEFT or self._port.outside(question.port) == port:
             return
@@ -246,8 +250,8 @@ class Session(Requests):
     ) -> Report:
         """Asks until it is answered; `timeout` is how long each answer is waited for, in seconds. `value` is a dataField, the
         value of an id's one member, or the value of each member by its name. A port that is not 0 is named to the clock, whatever
-        the id. One above 255 is asked only without a file, else it is a ValueError. If no answer came, NoAnswer says whether the
-        request itself was sent; if it was, `go_on` asks the same again."""
+        the id. A port above 255 is asked only without a file; otherwise it is a ValueError. If no answer came, NoAnswer says
+        whether the request itself was sent; if it was, `go_on` asks the same again."""
         judge_seconds("timeout", timeout)
         number = id_of(named)
         request = Request(Action(action), number, port_number(port), data_field(number, value))
@@ -275,8 +279,8 @@ class Session(Requests):
         return self._carry_out(asker, way, timeout, request, True)
 
     def finish(self, way: Transport, *, timeout: float = 0.2) -> Report:
-        """Sends the request of an earlier run until it is answered, and returns what became of it. `ask` also does so, but the
-        file is then kept without that request before `earlier` can be read."""
+        """Sends the request of an earlier run until it is answered, and returns its result. `ask` also does this, but then
+        the file no longer has that request when `earlier` can be read."""
         with self._asking:
             try:
                 self.earlier = self._settle(way, timeout)
@@ -287,8 +291,8 @@ class Session(Requests):
             return self.earlier
 
     def go_on(self, way: Transport, attempts: int = 30, *, timeout: float = 0.2) -> Report:
-        """Asks the unanswered request again. The clock still carries it out once. If it is one of an earlier run, what became
-        of it is in `earlier` too."""
+        """Asks the unanswered request again. The clock still carries it out once. If it is one of an earlier run, its result
+        is in `earlier` too."""
         with self._asking:
             is_earlier = self.is_under_way
             report = self._settle(way, timeout, attempts)
@@ -297,8 +301,9 @@ class Session(Requests):
             return report
 
     def let_go(self) -> None:
-        """Continues with the next number, without the request that has no answer. Once the clock has answered a later one, it was
-        carried out, or never will be. It is refused if 32,767 one after the other had no answer (OUT_OF_REACH)."""
+        """Continues with the next number, without the request that has no answer. Once the clock has answered a later request,
+        the abandoned one was carried out, or never will be. It is refused if 32,767 requests in succession had no answer
+        (OUT_OF_REACH)."""
         with self._asking:
             asker = self._holder()
             asker.let_go()

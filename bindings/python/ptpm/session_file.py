@@ -1,5 +1,5 @@
-"""The file that carries a manager's session with a clock from run to run: the session's image, and a seal. It is the file of
-ptpm-manage, with the same rules, so that programs take turns with it."""
+"""The file that carries a manager's session with a clock from run to run: the session's image, and a seal. It is the same
+file as that of ptpm-manage, with the same rules, so programs take turns with it."""
 
 from __future__ import annotations
 
@@ -31,11 +31,11 @@ _own_turn = threading.Lock()
 
 
 class SessionFileError(PtpmError):
-    """A file is held by another, or is not a file."""
+    """A file is held by another process, or is not a regular file."""
 
 
 def usual_path(manager: PortIdentityLike, target: IdentityLike) -> str:
-    """The file of a manager and a clock in $XDG_STATE_HOME/ptpm, in /var/lib/ptpm of root, or in ~/.local/state/ptpm."""
+    """The file of a manager and a clock in $XDG_STATE_HOME/ptpm, for root in /var/lib/ptpm, or in ~/.local/state/ptpm."""
     who = PortIdentity.of(manager)
     state, home = os.environ.get("XDG_STATE_HOME", ""), os.environ.get("HOME", "")
     if state.startswith("/"):
@@ -50,8 +50,8 @@ def usual_path(manager: PortIdentityLike, target: IdentityLike) -> str:
 
 
 class OpenApplyError(SessionFileError):
-    """An apply of ptpm-manage is open that asks in this session. Another request would settle a step that its journal then lacks.
-    `journal` is the path of the journal, or None if the mark can't be read."""
+    """An apply of ptpm-manage that asks in this session is open. A request of another run would complete a step, and the apply's
+    journal would not have that. `journal` is the path of the journal, or None if the mark can't be read."""
 
     def __init__(self, mark: str, journal: Optional[str]) -> None:
         why = f"{mark}: it can't be read: an apply may be open" if journal is None else f"the apply of {journal} is open"
@@ -60,7 +60,7 @@ class OpenApplyError(SessionFileError):
 
 
 class DamagedFileError(Error):
-    """A file does not have the octets that were saved there (DAMAGED). It stays as it is."""
+    """The octets of a file are not those that were saved (DAMAGED). The file stays as it is."""
 
     def __init__(self, path: str) -> None:
         super().__init__(header.PTPM_DAMAGED)
@@ -71,14 +71,15 @@ class DamagedFileError(Error):
 
 
 def _journal_of(mark: str, named: str) -> str:
-    """The journal that a mark names. If its folder was moved together with the session, it is in the folder `apply` beside that."""
+    """The journal that a mark names. If the journal's folder was moved together with the session, the journal is in the folder
+    `apply` beside the session."""
     beside = os.path.join(os.path.dirname(mark), "apply", os.path.basename(named))
     return beside if os.path.lexists(beside) and not os.path.lexists(named) else named
 
 
 def _has_past_mark(path: str) -> bool:
-    """Whether the mark of an apply is beside this file, and that is not open. One that is open is refused. The mark has the journal's
-    path."""
+    """Whether the mark of an apply that has ended is beside this file. If that apply is open, the session is refused. The mark
+    has the journal's path."""
     mark = f"{path}.apply"
     try:
         opened = os.open(mark, os.O_RDONLY | os.O_NOFOLLOW | os.O_NONBLOCK | os.O_CLOEXEC)
@@ -98,7 +99,8 @@ def _has_past_mark(path: str) -> bool:
 
 
 def _refuse_usual_mark(manager: PortIdentityLike, target: IdentityLike) -> None:
-    """Refuses a session with another file while an apply is open at the usual one: it would go ahead of its numbers."""
+    """Refuses a session with another file while an apply is open at the usual one: its numbers would run ahead of the
+    apply's."""
     try:
         path = usual_path(manager, target)
     except SessionFileError:
@@ -107,8 +109,8 @@ def _refuse_usual_mark(manager: PortIdentityLike, target: IdentityLike) -> None:
 
 
 class SessionFile:
-    """The image in a session's file, or None if there is no file yet. The process that holds the file has its turn: others wait a
-    minute. It is held until it is closed, or its `with` ends."""
+    """The image in a session's file, or None if there is no file yet. While a process holds the file, others wait up to a minute.
+    The file is held until it is closed, or its `with` ends."""
 
     def __init__(
         self, manager: PortIdentityLike, target: IdentityLike, path: Union[str, "os.PathLike[str]", None] = None
@@ -153,7 +155,8 @@ class SessionFile:
             raise
 
     def _locked(self, until: float) -> int:
-        """The lock file, with the lock on it. Another program that had it may have removed it in the meantime."""
+        """The lock file, with the lock on it. Another program that held it may have removed the file in the
+        meantime."""
         flags = os.O_RDWR | os.O_CREAT | os.O_NOFOLLOW | os.O_NONBLOCK | os.O_CLOEXEC
         while True:
             lock = os.open(f"{self.path}.lock", flags, 0o660)
@@ -188,7 +191,7 @@ class SessionFile:
         return os.path.samestat(found, os.fstat(lock))
 
     def _refuse_mark(self) -> None:
-        """Refuses a session that is marked by an apply that is open. If that has an end, or its journal is gone, the mark is removed."""
+        """Refuses a session that an open apply has marked. If that apply has ended, or its journal is gone, the mark is removed."""
         if _has_past_mark(self.path):
             os.unlink(f"{self.path}.apply")
 
@@ -210,7 +213,8 @@ class SessionFile:
             return self._unsealed(file.read(_MOST))
 
     def _unsealed(self, octets: bytes) -> bytes:
-        """The image of the file; all octets if they begin with none, for the library to refuse."""
+        """The image in the file; if the octets begin with no image, all of them, which the library
+        refuses."""
         try:
             image, saves = seal.unsealed(octets)
         except Error as error:
@@ -223,7 +227,7 @@ class SessionFile:
         return image
 
     def _write_new(self, octets: bytes) -> str:
-        """Writes the file that is to replace the old one. It has its owner, as far as this user may, and its mode."""
+        """Writes the file that is to replace the old one, with its mode, and its owner as far as this user may."""
         path = f"{self.path}.new"
         if os.path.lexists(path):
             os.unlink(path)
@@ -253,8 +257,8 @@ class SessionFile:
         os.fchmod(opened, stat.S_IMODE(self._before.st_mode) & 0o777)
 
     def write(self, octets: bytes) -> None:
-        """Has the file have this image, and a seal, whatever becomes of the program or the machine. It is on the disk when the call
-        returns. Only the process that holds the file may write it."""
+        """Replaces the file by this image with a seal, which is on the disk when the call returns. Only the process that holds
+        the file may write it."""
         if not self.is_open:
             raise SessionFileError(f"{self.path}: it is closed here, and another program may hold it")
         os.replace(self._write_new(seal.sealed(octets, self._saves + 1)), self.path)
@@ -267,26 +271,27 @@ class SessionFile:
         self.octets = octets
 
     def keep_for(self, session: object) -> None:
-        """Has one session at a time kept here. Another one would write over its request, which may have no answer yet."""
+        """Lets only one session at a time use this file. A second one would overwrite the request of the first, which may
+        have no answer yet."""
         with _own_turn:
             if self._session is not None and self._session() is not None:
                 raise SessionFileError(f"{self.path}: it keeps another session, which is not closed")
             self._session = weakref.ref(session)
 
     def let_go_of(self, session: object) -> None:
-        """Keeps that session no more."""
+        """Ends the use of this file by that session."""
         with _own_turn:
             if self._session is not None and self._session() is session:
                 self._session = None
 
     @property
     def is_open(self) -> bool:
-        """Whether it is held. A forked child holds nothing of its parent."""
+        """Whether this process holds the file. A forked child does not hold its parent's."""
         return self._lock >= 0 and self._process == os.getpid()
 
     def close(self) -> None:
-        """Lets others have their turn. If no session was kept, for example of a clock that is not there, no lock stays beside
-        it."""
+        """Lets others have their turn. If no session was written, for example because the clock is not there, no lock file
+        stays."""
         if not self.is_open:
             return
         if not os.path.lexists(self.path) and os.path.lexists(f"{self.path}.lock"):

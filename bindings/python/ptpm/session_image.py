@@ -1,5 +1,5 @@
-"""What this module itself reads of a session's image. The library decides whether octets are an image, and what is to be done with the
-request that it has."""
+"""What this module itself reads from a session's image. The library decides whether octets are an image, and what is to be done
+with the image's request."""
 
 from __future__ import annotations
 
@@ -40,7 +40,7 @@ def first_number(image: bytes) -> int:
 
 
 def latest_number(image: bytes) -> int:
-    """The sequenceId of the latest one."""
+    """The sequenceId of the latest request."""
     return (first_number(image) + _number_at(image, _ISSUED, 8) - 1) % 65536
 
 
@@ -50,7 +50,7 @@ def domain_of(image: bytes) -> int:
 
 
 def unanswered(image: bytes) -> Optional[Request]:
-    """The request of an image's session that has no answer yet. Its port is 0 if it is asked of every port."""
+    """The request of an image's session that has no answer yet. Its port is 0 if every port is asked."""
     if image[_IS_UNDER_WAY] != 1:
         return None
     port, size = _number_at(image, _PORT), _number_at(image, _SIZE)
@@ -58,7 +58,8 @@ def unanswered(image: bytes) -> Optional[Request]:
 
 
 def is_same(image: bytes, other: bytes) -> bool:
-    """Whether two images are of the same session. In another domain it is the same if it has nothing under way there."""
+    """Whether two images are of the same session. A session that has moved to another domain is still the same if it has
+    no request under way."""
     if unanswered(image) is None:
         return image[:_DOMAIN] + image[_DOMAIN + 1 :] == other[:_DOMAIN] + other[_DOMAIN + 1 :]
     return image == other

@@ -53,8 +53,8 @@ class Rights(IntFlag):
 
 
 def write_number(struct: ctypes.Structure, member: str, value: int) -> None:
-    """Writes a member, and refuses a value that does not fit it. ctypes would cut it off. What is not a whole number is refused too
-    (TypeError): an offset is not a number of nanoseconds here, but a TimeInterval."""
+    """Writes a member, and refuses a value that does not fit, which ctypes would cut off. A number that is not whole is refused
+    too (TypeError): an offset is a TimeInterval here, not a number of nanoseconds."""
     if not hasattr(value, "__index__"):
         interval = " of nanoseconds: TimeInterval.from_nanoseconds has what it takes" if member in TIME_INTERVALS else ""
         raise TypeError(f"{member} takes no {value!r}{interval}")
@@ -69,7 +69,7 @@ def write_octets(struct: ctypes.Structure, member: str, octets: bytes) -> None:
 
 
 def write_given(struct: ctypes.Structure, member: str, value: Optional[Any]) -> None:
-    """Writes a member that counts if its flag `has_` is set."""
+    """Writes a member that counts only if its flag `has_` is set, and sets the flag."""
     if value is None:
         return
     setattr(struct, f"has_{member}", 1)
@@ -84,7 +84,8 @@ def write_given(struct: ctypes.Structure, member: str, value: Optional[Any]) -> 
 
 @dataclass
 class ClockSettings:
-    """The start values of a clock's own members (8.2), by the header's names. What is None is the library's, or the clock's own."""
+    """The start values of a clock's own members (8.2), by the header's names. A member that is None has the library's default, or
+    the clock's own value."""
 
     identity: IdentityLike
     domain: Optional[int] = None
@@ -143,7 +144,8 @@ _PLAIN = tuple(name for name in ClockSettings.__dataclass_fields__ if name not i
 
 @dataclass
 class PortSettings:
-    """The start values of a port (8.2.15), by the header's names. What is None is the library's: a port that is MASTER."""
+    """The start values of a port (8.2.15), by the header's names. A member that is None has the library's default: that of
+    a port in MASTER."""
 
     peer_delay: Optional[int] = None
     state: Optional[int] = None
@@ -173,7 +175,8 @@ class Manager:
     rights: Rights = Rights.ALL
 
     def as_in_c(self) -> header.ptpm_manager_settings:
-        """As the library takes it. A ValueError for rights that are none of these: the library would take them."""
+        """As the library takes it. A ValueError for rights that are not a sum of these three, which the library
+        would accept."""
         identity = PortIdentity.of(self.identity)
         if not 0 <= self.rights <= Rights.ALL:
             raise ValueError(f"rights are a sum of the three, and not {int(self.rights)}")

@@ -21,9 +21,9 @@ _SILENT_WAY = "ptpm-manage: no clock answered at "
 
 @dataclass(frozen=True)
 class Finding:
-    """What is wrong with a clock: the name of the finding, its values by their names, and whether it is "critical" or a "warning". The
-    values are those of JSON (docs/ptpm-site.md). `domain` is the domainNumber. The clock is None if the finding is of a whole domain.
-    `because` is the name and the clock of the finding from which it follows, if it does."""
+    """What is wrong with a clock: the name of the finding, its values by their names, and whether it is "critical" or a
+    "warning". The values are those of JSON (docs/ptpm-site.md). `domain` is the domainNumber. The clock is None if the finding is
+    about a whole domain. `because` is the name and the clock of the finding from which it follows, or None."""
 
     domain: int
     clock: Optional[Identity]
@@ -45,8 +45,8 @@ class Finding:
 
 @dataclass(frozen=True)
 class SiteClock:
-    """A clock in a domain, with what it answered: None, and of its ports none, is what it did not answer. `domain` is the
-    domainNumber."""
+    """A clock in a domain, with what it answered. A data set that it did not answer is None; if no port answered, `ports`
+    is empty. `domain` is the domainNumber."""
 
     domain: int
     identity: Identity
@@ -66,8 +66,8 @@ class SiteClock:
 
 @dataclass(frozen=True)
 class Grandmaster:
-    """A clock that leads a domain. `heard` says by what: "answer", "announce", or "followers" if only a clock that follows it says so.
-    `clock` is what it answered, or None."""
+    """A clock that leads a domain. `heard` says what shows that: "answer", "announce", or "followers" if only a clock that
+    follows it says so. `clock` is what it answered, or None."""
 
     identity: Identity
     heard: str
@@ -90,14 +90,15 @@ class Domain:
 
 
 class Lack(NamedTuple):
-    """What the lines lack: "requests", "times", "sources" or "senders". And the findings that are not judged for that."""
+    """What the lines lack: "requests", "times", "sources" or "senders". And the findings that can't be judged for that
+    reason."""
 
     name: str
     findings: Tuple[str, ...]
 
 
 class AskedDomain(NamedTuple):
-    """A domain in which the GETs among the lines ask, and the most boundary clocks that pass one on."""
+    """A domain in which the GETs among the lines ask, and how many boundary clocks forward a GET at most."""
 
     domain: DomainIdentity
     boundary_hops: int
@@ -105,11 +106,11 @@ class AskedDomain(NamedTuple):
 
 @dataclass(frozen=True)
 class Site:
-    """A site at a glance. `left_out` is how many clocks, ports and messages were left out, by their names in JSON. `not_looked_for` are
-    the findings that may be missing for that. `lines` are those of the latest look, and `notes` what the program said beside it. `open`
-    is what the answers don't decide, and `asked` the domains that were asked, as far as the lines have the requests. `momentary` is how
-    many findings are left out, since a look before has none like them. `not_judged` is what the lines lack, with what is not judged for
-    that."""
+    """A site at a glance. `left_out` is how many clocks, ports and messages were left out, by their names in JSON.
+    `not_looked_for` are the findings that may be missing for that reason. `lines` are those of the latest poll, and `notes` what
+    the program printed on standard error. `open` is what the answers don't decide yet, and `asked` the domains that were asked,
+    as far as the lines have the requests. `momentary` is how many findings are left out because the poll before lacks them.
+    `not_judged` is what the lines lack, with the findings that can't be judged for that reason."""
 
     domains: Tuple[Domain, ...]
     findings: Tuple[Finding, ...]
@@ -129,13 +130,14 @@ class Site:
 
     @property
     def silent_ways(self) -> Tuple[str, ...]:
-        """The interfaces at which no clock answered, if several were asked, or the socket that was asked beside one."""
+        """The interfaces, of several, at which no clock answered. A socket that was asked beside
+        them counts as one."""
         ways = [note[len(_SILENT_WAY):] for note in self.notes if note.startswith(_SILENT_WAY)]
         return tuple(way.partition(": nothing was sent: ")[0] for way in ways)
 
     @property
     def gaps(self) -> Tuple[str, ...]:
-        """What is left out for want of room, in words: findings may be missing."""
+        """What was left out for want of room, in words; findings may be missing then."""
         return tuple(f"left out: {count} {name}" for name, count in self.left_out.items() if count)
 
 
@@ -145,7 +147,7 @@ def _domain_identity(told: Mapping[str, Any]) -> DomainIdentity:
 
 
 def _clock_identity(told: Mapping[str, Any]) -> Optional[Identity]:
-    """The clock that an object names; none if it is of a whole domain."""
+    """The clock that an object names; None if it is about a whole domain."""
     return None if told["clockIdentity"] == _OF_DOMAIN else identity_of(told["clockIdentity"])
 
 
@@ -185,7 +187,8 @@ def _domain(told: Mapping[str, Any]) -> Domain:
 
 
 def read_site(text: str) -> Site:
-    """The site of an object that `ptpm site --json` or `ptpm-manage status --json` printed; a ValueError if it is of another form."""
+    """The site of an object that `ptpm site --json` or `ptpm-manage status --json` printed; a ValueError if it has a different
+    form."""
     try:
         told = json.loads(text)
         left_out = dict(told["leftOut"])

@@ -18,7 +18,7 @@ _DONE, _FOUND, _NO_CLOCK = 0, 1, 3
 
 
 class SiteError(PtpmError):
-    """A program did not show a site: what it said, and its exit status, which is None if it did not run to its end. Status 3
+    """A program did not show a site: its words, and its exit status, which is None if it did not run to its end. Status 3
     means that no clock answered."""
 
     def __init__(self, what: str, status: Optional[int] = None) -> None:
@@ -27,7 +27,7 @@ class SiteError(PtpmError):
 
 
 def _program(name: str, built: str) -> str:
-    """A program: in the folder that PTPM_PROGRAMS names, in the repository that this file is of, or in the PATH."""
+    """A program: in the folder that PTPM_PROGRAMS names, in the repository of this file, or in the PATH."""
     folder = os.environ.get("PTPM_PROGRAMS")
     if folder:
         return os.path.join(folder, name)
@@ -63,7 +63,8 @@ def _shown(words: Sequence[str], given: str = "", limit: Optional[float] = None)
 
 
 def _words(**options: Any) -> List[str]:
-    """The options that are given, as words of a command line. One that is true has no value, and one of a list is given several times."""
+    """The options that are given, as words of a command line. An option that is true has no value, and one with a list is
+    repeated."""
     words: List[str] = []
     for name, value in options.items():
         for one in value if isinstance(value, list) else [value]:
@@ -97,14 +98,15 @@ def site(
     ignore: Union[str, Sequence[str]] = (),
     once: bool = False,
 ) -> Site:
-    """Looks at a whole site as `ptpm-manage status` does: asks every clock, and looks again while something is undecided, unless `once`
-    is set.
+    """Polls a whole site as `ptpm-manage status` does: asks every clock, and polls again while something is undecided, unless
+    `once` is set.
 
-    The transport is one or up to eight `interfaces` (UDP over IPv4, or `ipv6`, or `ethernet`), an address (`udp`), or a socket (`unix`).
-    Or `lines` are those that were collected before, a datagram in hexadecimal each, which `ptpm site` judges. `domains` is one, a range
-    such as "0-7", or "all", and `sdo` their sdoId, such as 0x100, or "all". A DomainIdentity is one domain of its own sdoId. In seconds,
-    `timeout` is how long a clock has for an answer, and `listen` how long clocks are listened for. `limit` is how long the program may
-    take. The other options are those of the program, and what is None is the program's.
+    The transport is one or up to eight `interfaces` (UDP over IPv4, or `ipv6`, or `ethernet`), an address (`udp`), or a socket
+    (`unix`). Or `lines` were collected before, each a datagram in hexadecimal, and `ptpm site` judges them. `domains` is a
+    number, a range such as "0-7", or "all", and `sdo` their sdoId, such as 0x100, or "all". A DomainIdentity as `domains` has an
+    sdoId of its own. In seconds, `timeout` is how long a clock has for an answer, and `listen` how long clocks are listened for.
+    `limit` is how long the program may take. The other options are those of the program; one that is None has the program's
+    default.
 
     A SiteError has the program's words; its status is 3 if no clock answered."""
     judging = _words(

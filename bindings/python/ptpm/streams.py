@@ -1,4 +1,4 @@
-"""The streams of a program that reports: what could not be written is not known to be reported."""
+"""The standard streams of a program that writes each report, or says that it could not."""
 
 from __future__ import annotations
 
@@ -19,7 +19,7 @@ class NotWritten(Exception):
 
 
 def _as_octets(error: UnicodeError) -> Tuple[str, int]:
-    """What a stream can't encode, as ptpm-manage writes an octet that it can't print."""
+    """Writes what a stream can't encode as ptpm-manage writes an octet that it can't print."""
     assert isinstance(error, UnicodeEncodeError)
     return "".join(f"\\x{octet:02x}" for octet in error.object[error.start : error.end].encode()), error.end
 
@@ -28,8 +28,8 @@ codecs.register_error("ptpm", _as_octets)
 
 
 def hold_streams() -> None:
-    """Has a stream that is closed refuse what is written. Otherwise a file or a socket would get its number, and Python has no
-    stream for it, so that print passes over it. And has each write what its encoding lacks."""
+    """Makes writing to a closed standard stream an error. Otherwise a file or a socket might get the stream's number, and
+    print would do nothing, as Python has no stream there. Characters that a stream's encoding lacks are escaped."""
     for number, name in enumerate(("stdin", "stdout", "stderr")):
         try:
             fcntl.fcntl(number, fcntl.F_GETFD)
@@ -44,7 +44,7 @@ def hold_streams() -> None:
 
 
 def say(what: object, end: str = "\n") -> bool:
-    """Writes it on standard error; whether it could be written."""
+    """Writes a text on standard error; returns whether it could be written."""
     try:
         print(what, file=sys.stderr, end=end, flush=True)
     except OSError:
@@ -59,7 +59,7 @@ def complain(what: object) -> bool:
 
 @contextmanager
 def flush() -> Iterator[None]:
-    """What is printed in its `with` is written at its end, or NotWritten is raised."""
+    """At the end of its `with`, writes what was printed in it, or raises NotWritten."""
     try:
         yield
         sys.stdout.flush()
@@ -68,8 +68,8 @@ def flush() -> Iterator[None]:
 
 
 def parsed(parse: Callable[[List[str]], argparse.Namespace], words: List[str]) -> argparse.Namespace:
-    """What argparse makes of a command line. It may print by itself and end the program, for example at --help. That is written
-    like all else: it may be that it can't be."""
+    """What argparse makes of a command line. It may print and end the program by itself, for example at --help. If that can't
+    be written, NotWritten is raised too."""
     printed, said = io.StringIO(), io.StringIO()
     try:
         with redirect_stdout(printed), redirect_stderr(said):

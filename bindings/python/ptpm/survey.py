@@ -29,8 +29,8 @@ _SOURCE = 20
 
 @dataclass(frozen=True)
 class SurveySettings:
-    """One manager, and the GET that it sends to every port of every clock, or of one. Each survey gets a number that is not on its
-    way any more. With port 0 the manager asks from SURVEY_PORT, which no session has."""
+    """One manager, and the GET that it sends to every port of every clock, or of one. Give each survey a number that no message
+    in flight has. With port 0 the manager asks from SURVEY_PORT, which no session has."""
 
     manager: PortIdentityLike
     number: int
@@ -52,11 +52,12 @@ class SurveySettings:
 class Survey(Handle):
     """What a survey asks, and its answers: the first of each port, of 16,384 ports at most.
 
-    A session of the same portIdentity may treat an answer as its own. So the manager here has no session: it is another port number
-    of the same clockIdentity, and with port 0 it is SURVEY_PORT.
+    A session of the same portIdentity may treat an answer as its own. So the survey's manager has no session: it is another port
+    of the same clockIdentity. Port 0 stands for SURVEY_PORT.
 
     With a target every port of that clock is asked, and no other clock answers. A clock treats such a GET from one of its
-    managers as a numbered request, like one of a session. So the manager must not be one of them then either. """
+    managers as a numbered request, like one of a session. So a survey with a target must not ask as one of that clock's
+    managers."""
 
     def __init__(self, settings: SurveySettings, target: Optional[IdentityLike] = None) -> None:
         super().__init__(header.ptpm_survey, library.ptpm_survey_stop)
@@ -111,9 +112,9 @@ def survey(
     attempts: int = 30,
     timeout: float = 0.2,
 ) -> Generator[Report, None, None]:
-    """Asks every clock, and yields the answers as they come. It asks again until two rounds bring no new answer, or five if nobody
-    has answered, and `attempts` times at most. `manager` is who asks, and has no session: a session of the same portIdentity may
-    treat an answer as its own. By default it is a port of this process that no session has."""
+    """Asks every clock, and yields the answers as they come. It asks again until two rounds bring no new answer, or five if
+    nobody has answered, and `attempts` times at most. `manager` is who asks, and must have no session: a session of the same
+    portIdentity may treat an answer as its own. By default it has a port of this process that no session has."""
     judge_seconds("timeout", timeout)
     who = PortIdentity.of(manager) if manager is not None else nobody(PortIdentity(way.identity, 1))
     with Survey(SurveySettings(who, draw(), named, domain, hops)) as asked:

@@ -10,7 +10,8 @@ _A_NANOSECOND = 65536
 
 
 class TimeInterval(int):
-    """A TimeInterval, as the members of a clock take it. It is made of nanoseconds, and gives them back:
+    """A TimeInterval, as the members of a clock take it. It is made from nanoseconds, and gives them
+    back:
 
     >>> TimeInterval.from_nanoseconds(-1.5), TimeInterval(98304).nanoseconds
     (TimeInterval(-98304), Decimal('1.5'))
@@ -18,7 +19,7 @@ class TimeInterval(int):
 
     @classmethod
     def from_nanoseconds(cls, nanoseconds: Union[int, float, Decimal]) -> TimeInterval:
-        """The one that is nearest to N nanoseconds."""
+        """The TimeInterval that is nearest to N nanoseconds."""
         return cls(round(Fraction(nanoseconds) * _A_NANOSECOND))
 
     @property

@@ -84,7 +84,7 @@ Address = Union[str, Tuple[str, int], Tuple[str, int, int, int]]
 
 
 class Transport:
-    """A transport to clocks: sockets, and the address that the first one sends to. It is closed when its `with` ends."""
+    """A transport to clocks: sockets, and the address to which the first one sends. It is closed when its `with` ends."""
 
     identity = Identity(bytes(8))
     """The clockIdentity that a manager has here by default."""
@@ -106,8 +106,7 @@ class Transport:
     def __init__(
         self, opened: socket.socket, to: Address, name: Optional[str] = None, beside: Sequence[socket.socket] = ()
     ) -> None:
-        """`name` is what an error calls it: the address, if there is no name. At the sockets beside the first one answers come in
-        too."""
+        """`name` is the transport's name in errors, or else the address. Answers come in at the sockets beside the first one too."""
         self._socket = opened
         self._heard = [opened, *beside]
         self._to = to
@@ -139,7 +138,8 @@ class Transport:
         return self._waiting.fileno()
 
     def send(self, octets: bytes) -> bool:
-        """Sends a message; whether there was room for it. An OSError says that there is no transport."""
+        """Sends a message; returns whether there was room for it. An OSError says that there is no
+        transport."""
         try:
             self._socket.sendto(octets, self._to)
         except BlockingIOError:
@@ -170,7 +170,7 @@ class Transport:
                 return message
 
     def take(self) -> Optional[bytes]:
-        """A datagram that has come in, or None if there is none. It does not wait."""
+        """A datagram that has come in, or None if there is none. The call does not wait."""
         while True:
             found = self._readable(0)
             if not found:
@@ -180,7 +180,8 @@ class Transport:
                 return message
 
     def _read(self, opened: socket.socket) -> Optional[bytes]:
-        """The message that a socket has. None for what is none, and for an error such as an ICMP of an earlier message."""
+        """The message that a socket has. None if it is not one, and for an error such as an ICMP message about an earlier
+        one."""
         try:
             octets, control, _, sender = opened.recvmsg(MOST_DATAGRAM, socket.CMSG_SPACE(4))
             return self._message_of(opened, octets, sender, _ttl_in(control))
@@ -209,8 +210,9 @@ def _ask_interface(name: str, request: int) -> bytes:
 
 
 def _identity_of(interface: str) -> Identity:
-    """That of a manager at an interface: its MAC with fffe in the middle, and the universal/local bit turned, as IPv6 does. A clock of
-    this host, such as a ptp4l, has it as it is, and no manager may have the clockIdentity of a clock."""
+    """The identity of a manager at an interface: its MAC with fffe in the middle and the universal/local bit inverted, as in
+    IPv6. A clock of this host, such as a ptp4l, has the identity without the inversion, and no manager may have the clockIdentity
+    of a clock."""
     return Identity.of_mac(_ask_interface(interface, _SIOCGIFHWADDR)[18:24]).turned
 
 
@@ -254,11 +256,12 @@ def _destination(interface: Optional[str], address: Optional[str], ipv6: bool) -
 
 class UdpTransport(Transport):
     """UDP port 320 at an interface, to the group of all clocks there, or to one address. It needs root, or the capability
-    CAP_NET_BIND_SERVICE. What comes to the group is heard, and what is answered to the port of the request. A clock may answer by
-    unicast to port 320 of this host, from whatever port it was asked. Then a copy of that is heard if the program has the
-    capability CAP_NET_RAW, as root has. Nothing is taken from another program that has the port, such as a ptp4l.
+    CAP_NET_BIND_SERVICE. It hears messages to the group, and answers to the port of the request. Some clocks answer by unicast to
+    port 320 of this host, whatever port has asked. It hears a copy of such an answer if the program has the capability
+    CAP_NET_RAW, as root has. Nothing is taken from another program that has port 320, such as a ptp4l.
 
-    What comes from an address off the link is taken with `any_source`. With `ttl_security` no unicast is taken whose TTL is below 255."""
+    With `any_source` datagrams from addresses off the link count too. With `ttl_security` unicast with a TTL below 255 does not
+    count."""
 
     def __init__(
         self,
@@ -296,12 +299,12 @@ class UdpTransport(Transport):
 
     @staticmethod
     def identity_at(interface: Optional[str] = None, address: Optional[str] = None, *, ipv6: bool = False) -> Identity:
-        """The clockIdentity that a manager has by default with such a transport. No socket is opened at UDP port 320."""
+        """The clockIdentity that a manager has by default with such a transport. It opens no socket at UDP port 320."""
         return _identity_of(_destination(interface, address, ipv6)[0])
 
 
 def _at(opened: socket.socket, interface: str, wanted: bytes) -> socket.socket:
-    """The socket hears and sends only on this interface. It is not bound yet, and hears nothing until then."""
+    """Has the socket hear and send only on this interface. It is not bound yet, and hears nothing until it is."""
     attach_filter(opened, wanted)
     opened.setsockopt(socket.SOL_SOCKET, _SO_BINDTODEVICE, interface.encode() + b"\0")
     if opened.family == socket.AF_INET6:
@@ -312,7 +315,8 @@ def _at(opened: socket.socket, interface: str, wanted: bytes) -> socket.socket:
 
 
 def _send_at(opened: socket.socket, index: int) -> None:
-    """What is sent to the group goes out at that interface, and doesn't come back. No router passes unicast on with its TTL."""
+    """Has the socket send to the group at that interface, without hearing that itself. It sends unicast with a TTL of 255,
+    which each router decrements."""
     if opened.family == socket.AF_INET6:
         opened.setsockopt(socket.IPPROTO_IPV6, socket.IPV6_V6ONLY, 1)
         opened.setsockopt(socket.IPPROTO_IPV6, socket.IPV6_MULTICAST_IF, index)
@@ -327,8 +331,7 @@ def _send_at(opened: socket.socket, index: int) -> None:
 
 
 def _join(opened: socket.socket, index: int) -> None:
-    """The socket is bound to the group, so nothing comes in there that is sent to this host by unicast. That may be for another
-    program."""
+    """Binds the socket to the group, so it hears no unicast to this host, which may be for another program."""
     opened.setsockopt(socket.SOL_SOCKET, socket.SO_REUSEADDR, 1)
     if opened.family == socket.AF_INET6:
         opened.setsockopt(socket.IPPROTO_IPV6, socket.IPV6_V6ONLY, 1)
@@ -375,8 +378,8 @@ _MOST_BESIDE = 107 - len(".4194304.99")
 
 
 class UnixTransport(Transport):
-    """The Unix socket of a clock on this machine. Its own socket is next to it in the meantime: the path, a dot, and the number
-    of the process. Another number follows if that name is taken."""
+    """The Unix socket of a clock on this machine. The transport's own socket is beside it: the path, a dot, and the number of
+    the process. If that name is taken, another number follows."""
 
     is_local = True
 
@@ -399,8 +402,8 @@ class UnixTransport(Transport):
 
 
 def _bound_beside(opened: socket.socket, clock: str) -> str:
-    """Binds a socket next to a clock's, and returns its path. It has the group of the clock's, so that the clock may write to it. The
-    clock may run in another folder, so the path begins at the root, if there is room."""
+    """Binds a socket next to a clock's, and returns its path. It gets the group of the clock's socket, so that the clock may
+    write to it. The path begins at the root if there is room, since the clock may run in another folder."""
     whole = clock if os.path.isabs(clock) else os.path.realpath(clock)
     beside = whole if len(os.fsencode(whole)) <= _MOST_BESIDE else clock
     for number in itertools.count():

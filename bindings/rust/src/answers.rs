@@ -13,7 +13,7 @@ macro_rules! numbered {
         #[repr(u32)]
         pub enum $name {
             $($(#[$what])* $variant = sys::$number,)*
-            /// A number that a newer library answers.
+            /// A number that a newer library returns.
             Other(u32) = u32::MAX,
         }
 
@@ -46,14 +46,15 @@ macro_rules! numbered {
     };
 }
 
-/// The same, and after them why a datagram holds no management message, which each of the three calls returns.
+/// The same, and then the reasons why a datagram holds no management message, which each of the three calls
+/// returns.
 macro_rules! answers {
     ($(#[$about:meta])* $name:ident { $($answers:tt)* }) => {
         numbered! {
             $(#[$about])*
             $name {
                 $($answers)*
-                /// It is shorter than a management message, and no such message, as all that follow here are none.
+                /// It is shorter than a management message. This and all reasons below mean that it is not one.
                 TooShort = PTPM_TOO_SHORT,
                 /// It is of another messageType.
                 NotManagement = PTPM_NOT_MANAGEMENT,
@@ -67,7 +68,7 @@ macro_rules! answers {
                 BadTlvType = PTPM_BAD_TLV_TYPE,
                 /// Its lengthField is odd, too small, or does not fit messageLength.
                 BadTlvLength = PTPM_BAD_TLV_LENGTH,
-                /// Its displayData has another size than its text.
+                /// The size of its displayData is not that of its text.
                 BadText = PTPM_BAD_TEXT,
             }
         }
@@ -115,7 +116,7 @@ answers! {
         NothingAsked = PTPM_NOTHING_ASKED,
         /// It answers another request.
         OtherNumber = PTPM_OTHER_NUMBER,
-        /// Its number is the request's, and what it answers is not.
+        /// Its number is the request's, but it answers a different action or id.
         OtherContent = PTPM_OTHER_CONTENT,
     }
 }
@@ -135,11 +136,11 @@ answers! {
         NotAReply = PTPM_NOT_A_REPLY,
         /// It is an answer to another manager.
         OtherTarget = PTPM_OTHER_TARGET,
-        /// Another clock answers than the one that is asked.
+        /// A different clock answers than the one that was asked.
         OtherSource = PTPM_OTHER_SOURCE,
         /// It answers another request.
         OtherNumber = PTPM_OTHER_NUMBER,
-        /// Its number is the survey's, and what it answers is not.
+        /// Its number is the survey's, but it answers a different action or id.
         OtherContent = PTPM_OTHER_CONTENT,
     }
 }

@@ -53,13 +53,14 @@ pub struct Request<'a> {
     pub domain: u8,
 }
 
-/// What an asker hands out: what its host does next, and then says.
+/// What an asker hands out: what its host does next, and then reports.
 #[derive(Clone, Copy, Debug, PartialEq, Eq)]
 #[non_exhaustive]
 pub enum Handed {
     /// Nothing: it rests, or goes on waiting.
     Nothing,
-    /// Note that the request of this tag is begun, with this sequenceId, and then call [`Asker::noted`].
+    /// Note that the request with this tag is begun, with this sequenceId, and then call
+    /// [`Asker::noted`].
     NoteBegun {
         /// As the host named its request.
         tag: u64,
@@ -68,7 +69,7 @@ pub enum Handed {
     },
     /// Save [`Asker::image`], and then call [`Asker::saved`].
     SaveIt,
-    /// Send [`Asker::message`], and wake the asker at this time. If there is no way for it, call [`Asker::unsent`].
+    /// Send [`Asker::message`], and wake the asker at this time. If it can't be sent, call [`Asker::unsent`].
     SendIt {
         /// When to call [`Asker::wake`].
         wake: u64,
@@ -83,7 +84,8 @@ pub enum Handed {
         /// When to call [`Asker::wake`].
         wake: u64,
     },
-    /// Note what [`Asker::report`] says of the request of this tag, and then call [`Asker::noted`].
+    /// Note what [`Asker::report`] says of the request with this tag, and then call
+    /// [`Asker::noted`].
     NoteAnswer {
         /// As the host named its request.
         tag: u64,
@@ -124,17 +126,17 @@ impl From<sys::ptpm_handed> for Handed {
 pub enum Earlier {
     /// Nothing.
     Nothing,
-    /// A question whether a number is new. [`Asker::ask`] sends it again.
+    /// A freshness check. [`Asker::ask`] sends it again.
     Question,
-    /// A GET, and the domain in which it is settled ([`Asker::settle`]).
+    /// A GET, and the domain in which it is completed ([`Asker::settle`]).
     Get(u8),
-    /// A SET or a COMMAND, and the domain in which it is settled.
+    /// A SET or a COMMAND, and the domain in which it is completed.
     Change(u8),
 }
 
-/// A session that is handed what came in, what time it is and what was done, and hands out what is to be done next. It sends nothing
-/// before its host has saved it, and nothing leaves the file before the host has noted its answer. So a request of an earlier run is
-/// settled, and none is carried out twice.
+/// A session that is handed what came in, what time it is and what was done, and hands out what is to be done next. It sends
+/// nothing before its host has saved it, and nothing leaves the file before the host has noted its answer. So a request of an
+/// earlier run is completed, and none is carried out twice.
 ///
 /// ```
 /// use ptpm::{Action, Asker, AskerSettings, Handed, ManagementId, Report, Request, SessionSettings, MOST_DATA, MOST_OCTETS};
@@ -209,13 +211,13 @@ impl Asker {
         Ok(asker)
     }
 
-    /// Starts an asker with the session of an image: what the session's file has. Its first number is that of the image. Then
-    /// [`Asker::earlier`] says what is left of an earlier run.
+    /// Starts an asker with the session of an image: what the session's file has. The first number is the image's, not that
+    /// of the settings. Then [`Asker::earlier`] says what is left of an earlier run.
     ///
     /// # Errors
     ///
-    /// Those of [`Session::start`](crate::Session::start) and of [`Session::restore`](crate::Session::restore). That is no reason to
-    /// start afresh.
+    /// Those of [`Session::start`](crate::Session::start) and of [`Session::restore`](crate::Session::restore). Do not start
+    /// afresh after one of these.
     pub fn restore(settings: &AskerSettings, drawn: &[u8; DRAWN_OCTETS], image: &[u8]) -> Result<Self, Error> {
         done(sys::ptpm_header_agrees())?;
         let mut asker = Self::none();
@@ -242,7 +244,8 @@ impl Asker {
     ///
     /// # Errors
     ///
-    /// Those of [`Session::begin`](crate::Session::begin). [`Error::Busy`]: it does not rest, or a request of an earlier run is not settled.
+    /// Those of [`Session::begin`](crate::Session::begin). [`Error::Busy`]: the asker does not rest, or a request of an earlier
+    /// run is not completed.
     pub fn ask(&mut self, now: u64, tag: u64, request: &Request<'_>) -> Result<Handed, Error> {
         let Request { action, id, port, octets, domain } = *request;
         let (field, size) = (octets.as_ptr(), octets.len());
@@ -252,8 +255,8 @@ impl Asker {
         })
     }
 
-    /// Sends the request of an earlier run again, with its number, until it is answered. A SET or a COMMAND is sent in the domain in
-    /// which it was asked. A GET is sent in the one that is given, and so is a SET of DOMAIN to it.
+    /// Sends the request of an earlier run again, with its number, until it is answered. A SET or a COMMAND is sent in the domain
+    /// in which it was asked. A GET is sent in the domain that is given, as is a SET that moves the clock to that domain.
     ///
     /// # Errors
     ///
@@ -294,12 +297,12 @@ impl Asker {
         self.handed(|asker, handed| unsafe { sys::ptpm_asker_wake(asker, now, handed) })
     }
 
-    /// Says that there was no way for the message of the latest [`Handed::SendIt`]. If none of the request left before, a request of
-    /// this run is taken back, and [`Handed::Failed`] follows its save.
+    /// Says that the message of the latest [`Handed::SendIt`] could not be sent. If no message of the request left before, a
+    /// request of this run is taken back, and [`Handed::Failed`] follows its save.
     ///
     /// # Errors
     ///
-    /// None of an asker that is held.
+    /// None, for an asker that was started.
     pub fn unsent(&mut self) -> Result<Handed, Error> {
         // SAFETY: as above.
         self.handed(|asker, handed| unsafe { sys::ptpm_asker_unsent(asker, handed) })
@@ -309,7 +312,7 @@ impl Asker {
     ///
     /// # Errors
     ///
-    /// None of an asker that is held.
+    /// None, for an asker that was started.
     pub fn saved(&mut self, now: u64) -> Result<Handed, Error> {
         // SAFETY: as above.
         self.handed(|asker, handed| unsafe { sys::ptpm_asker_saved(asker, now, handed) })
@@ -329,7 +332,7 @@ impl Asker {
     ///
     /// # Errors
     ///
-    /// None of an asker that is held.
+    /// None, for an asker that was started.
     pub fn message<'a>(&self, room: &'a mut [u8; MOST_OCTETS]) -> Result<&'a [u8], Error> {
         let mut size = 0;
         // SAFETY: the octets and the size may be written; the octets are borrowed mutably, so they lie apart from the rest.
@@ -341,7 +344,7 @@ impl Asker {
     ///
     /// # Errors
     ///
-    /// None of an asker that is held.
+    /// None, for an asker that was started.
     pub fn image<'a>(&self, room: &'a mut [u8; SESSION_IMAGE_OCTETS]) -> Result<&'a [u8], Error> {
         let mut size = 0;
         // SAFETY: as above.
@@ -361,8 +364,8 @@ impl Asker {
         }
     }
 
-    /// What the answer says that was handed out last with [`Handed::NoteAnswer`]; a dataField in the room that it is given, for which
-    /// [`MOST_DATA`](crate::MOST_DATA) octets do.
+    /// The answer that [`Handed::NoteAnswer`] handed out last; its dataField is in the room that is given, for which
+    /// [`MOST_DATA`](crate::MOST_DATA) octets are enough.
     ///
     /// # Errors
     ///

@@ -1,4 +1,4 @@
-//! Which members of the data sets have another value than before.
+//! Which members of the data sets have changed.
 
 use crate::clock::MOST_PORTS;
 use crate::sys;
@@ -53,7 +53,7 @@ members! {
     PortMembers(u8)
 }
 
-/// Which members have another value after a datagram than before it.
+/// Which members a datagram changed.
 #[derive(Clone, Copy, Debug, PartialEq, Eq)]
 pub struct Changed {
     /// Those of the clock.

@@ -22,7 +22,7 @@ pub const MOST_PORTS: usize = sys::PTPM_MOST_PORTS;
 /// The most octets of the image of a clock of up to eight ports and sixteen managers.
 pub const CLOCK_IMAGE_OCTETS: usize = sys::PTPM_CLOCK_IMAGE_OCTETS;
 
-/// The most octets of the image of a clock with this number of ports, and this of managers.
+/// The most octets of the image of a clock with these numbers of ports and managers.
 pub const fn clock_image_octets(ports: usize, managers: usize) -> usize {
     417 + 15 * ports + managers * (1438 + 30 * if ports > 8 { ports } else { 8 })
 }
@@ -106,16 +106,16 @@ impl Clock {
         Ok(clock)
     }
 
-    /// Starts the clock of an image, which has this identity and this number of ports. Says how many managers' latest requests
-    /// were forgotten, since these managers are not among those that are given. Managers and their rights are those that are
-    /// given; all else comes from the image.
+    /// Starts the clock of an image, which must have this identity and this number of ports. Says how many managers' latest
+    /// requests were forgotten, since these managers are not among those that are given. Managers and their rights are those
+    /// that are given; all else comes from the image.
     ///
     /// # Errors
     ///
     /// The first of [`Error::TooManyManagers`], [`Error::ManagerTwice`], [`Error::IdentityIsZero`], [`Error::NotAnImage`],
     /// [`Error::OtherVersion`], [`Error::OtherKind`], [`Error::Damaged`], [`Error::OtherClock`], [`Error::OtherPorts`] and
-    /// [`Error::NoMemory`] that holds. The last comes earlier for a clock of over eight ports. That is no reason to start a fresh
-    /// clock: it would carry out requests again that were carried out before.
+    /// [`Error::NoMemory`] that holds. For a clock of over eight ports the last comes earlier. Do not start a fresh clock after
+    /// one of these: it would carry out requests once more.
     pub fn restore(identity: Identity, ports: usize, managers: &[Manager], image: &[u8]) -> Result<(Self, usize), Error> {
         done(sys::ptpm_header_agrees())?;
         let mut clock = Self::none();

@@ -35,7 +35,7 @@ impl core::error::Error for NoField {}
 
 impl ManagementId {
     /// The dataField of a SET of this id, from words: the name of each member in the standard, in either case, and its value.
-    /// They are written as [`Members`] has them, and in that order. The name of a sole member may be left out.
+    /// They are written as in [`Members`], and in the same order. The name of a sole member may be left out.
     ///
     /// ```
     /// use ptpm::{Error, ManagementId};
@@ -70,7 +70,7 @@ impl ManagementId {
         }
     }
 
-    /// What is taken for the member at a place, if the error is about its value.
+    /// What a SET takes for the member at a place, if the error is about its value.
     fn takes(self, error: Error, place: usize) -> Option<String> {
         if error != Error::NoValue {
             return None;

@@ -22,17 +22,17 @@ use crate::saving_clock::SavingClock;
 use crate::settings::{DelayMechanism, PortState};
 use crate::time_interval::TimeInterval;
 
-/// A data set that a dataField has whole.
+/// A data set that is one whole dataField.
 pub trait DataSet: Sized {
     /// The id that is asked for it.
     const ID: ManagementId;
 
-    /// The data set in a dataField, if that has as many octets as it.
+    /// The data set in a dataField, if that has the right number of octets.
     fn of(field: &[u8]) -> Option<Self>;
 }
 
 impl Clock {
-    /// Reads a data set of the clock itself. The port matters only for that of a port.
+    /// Reads a data set of the clock itself. The port matters only for a data set of a port.
     ///
     /// # Errors
     ///

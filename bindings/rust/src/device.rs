@@ -43,7 +43,7 @@ impl Asked {
         self.question.port
     }
 
-    /// A SET or a COMMAND to be carried out, or a GET whose value it is asked for.
+    /// A SET or a COMMAND to be carried out, or a GET for whose value the device is asked.
     pub const fn action(&self) -> Action {
         match self.question.action {
             sys::PTPM_GET => Action::Get,
@@ -113,7 +113,7 @@ impl Objection {
     }
 }
 
-/// The values that the hardware of a device has, of an id at a port. They are values of the first octet of the dataField of a SET.
+/// The values that a device's hardware has for an id at a port. They are values of the first octet of the dataField of a SET.
 #[derive(Clone, Copy)]
 #[repr(transparent)]
 pub struct Limit {
@@ -157,9 +157,9 @@ impl Limit {
         self.limit.values[octet as usize / 8] >> (octet % 8) & 1 == 1
     }
 
-    /// The error with which a device objects that has these values. Only limits of the id count, and of a port that is named. If one
-    /// of them has no value, a SET is NOT_SETABLE, and a COMMAND is NOT_SUPPORTED. If one lacks the value of a SET, that is a
-    /// WRONG_VALUE.
+    /// The error by which a device with these limits objects. Only limits of the request's id, and of a port that it names,
+    /// count. If one of them has no value, a SET is NOT_SETABLE, and a COMMAND is NOT_SUPPORTED. If one lacks the value of a SET,
+    /// that is a WRONG_VALUE.
     pub fn objection(limits: &[Self], asked: &Asked) -> Option<Objection> {
         // SAFETY: the limits and the question may be read. A limit is laid out as that of the library.
         Objection::of_number(unsafe { sys::ptpm_limits_say(limits.as_ptr().cast(), limits.len(), &asked.question) })
@@ -195,7 +195,7 @@ impl From<Option<Objection>> for Say<'_> {
 }
 
 impl Say<'_> {
-    /// What it says, as the library takes it.
+    /// What the device says, in the library's form.
     pub(crate) fn as_in_c(self) -> sys::ptpm_say {
         let mut say = sys::ptpm_say { error: 0, size: 0, kind: sys::PTPM_AGREES, octets: [0; 1418] };
         match self {
@@ -224,12 +224,12 @@ pub struct Taken<'a> {
     pub turn: Turn<'a>,
     /// How many more messages wait until a [`SavingClock`](crate::SavingClock) is saved; 0 of any other clock.
     pub waiting: usize,
-    /// Which members have another value then.
+    /// Which members have a different value than before.
     pub changed: Changed,
 }
 
 impl<'a> Taken<'a> {
-    /// What came of the datagram by this call, with what it sends in the outbox.
+    /// What this call made of the datagram, with the messages in the outbox.
     ///
     /// # Safety
     ///
@@ -249,9 +249,9 @@ impl<'a> Taken<'a> {
 }
 
 impl Clock {
-    /// What a datagram would have the device do, if it came in now at this port. It is to carry out a new SET or COMMAND of a manager,
-    /// which the clock itself does not refuse. Or it is to give the value of an id that the clock lacks, to a GET that would be
-    /// answered. It is nothing for any other datagram. Nothing changes.
+    /// What a datagram would have the device do, if it came in now at this port. The device is asked to carry out a new SET or
+    /// COMMAND of a manager, which the clock itself does not refuse. Or it is asked for the value of an id that the clock lacks,
+    /// by a GET that would be answered. For any other datagram it is asked nothing. The call changes nothing.
     ///
     /// # Errors
     ///
@@ -261,16 +261,17 @@ impl Clock {
         Asked::by(|question| unsafe { sys::ptpm_clock_ask(self.handle_ref(), port, datagram.as_ptr(), datagram.len(), question) })
     }
 
-    /// Does what [`Clock::handle`] does, with what the device says, and reports which members of the data sets have another value
-    /// then. There are some only after [`Handled::AnsweredNew`](crate::Handled::AnsweredNew). If the device objects where
-    /// [`Clock::ask`] would ask it about a change, the request is answered and kept with that error, and no member changes. If it gives
-    /// a value where it would be asked for one, this is the answer. To the GET of a manager it has 130 octets at most, since it is kept.
-    /// A longer one is answered with RESPONSE_TOO_BIG, and that is kept. Each later copy of what is kept gets that answer. If the
-    /// device is not asked, what it says does not count.
+    /// Does what [`Clock::handle`] does, with what the device says, and reports which members of the data sets changed. There are
+    /// some only after [`Handled::AnsweredNew`](crate::Handled::AnsweredNew). If the device objects where [`Clock::ask`] would
+    /// ask it about a change, the request is answered and kept with that error, and no member changes. If it gives a value where
+    /// it would be asked for one, this is the answer. For the GET of a manager the value has 130 octets at most, since the answer
+    /// is kept. A longer one is answered with RESPONSE_TOO_BIG, and that is kept. Each later copy of such a request gets the kept
+    /// answer. If the device is not asked, what it says does not count.
     ///
     /// # Errors
     ///
-    /// As those of [`Clock::handle`]. [`Error::BadSay`]: it gives an odd number of octets, or more than 1,418.
+    /// As those of [`Clock::handle`]. [`Error::BadSay`]: the device gives an odd number of octets, or more
+    /// than 1,418.
     pub fn take<'a, const PLACES: usize>(
         &mut self,
         port: u16,
@@ -315,10 +316,10 @@ impl Clock {
         }
     }
 
-    /// Carries out a SET or a COMMAND of the device's owner, as one of a manager with every right. It is for a command line of the
-    /// device, or for another protocol of management. What is kept of each manager stays: a copy of its latest request gets the
-    /// answer of its time. The port 0xFFFF is every port. It returns the members that have another value since, or the error with
-    /// which that manager would be refused, and then nothing changes.
+    /// Carries out a SET or a COMMAND of the device's owner, as one of a manager with every right. It is for a command line of
+    /// the device, or for another protocol of management. What is kept of each manager stays: a copy of its latest request gets
+    /// the cached answer. The port 0xFFFF is every port. It returns the members that changed, or the error with which that
+    /// manager would be refused, and then nothing changes.
     ///
     /// # Errors
     ///

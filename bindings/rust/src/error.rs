@@ -13,7 +13,7 @@ macro_rules! errors {
         #[repr(u32)]
         pub enum Error {
             $(#[doc = $text] $variant = sys::$number,)*
-            /// A number that a newer library answers.
+            /// A number that a newer library returns.
             Other(u32) = u32::MAX,
         }
 
@@ -75,7 +75,7 @@ errors! {
     BadIdentity = PTPM_BAD_IDENTITY, "the clock's identity is all ones, which means every clock";
     BadUserDescription = PTPM_BAD_USER_DESCRIPTION, "a userDescription is UTF-8, of 128 octets at most";
     BadClockAccuracy = PTPM_BAD_CLOCK_ACCURACY, "a clockAccuracy is 0x17 to 0x31, or 0xFE";
-    BadLeap59 = PTPM_BAD_LEAP59, "leap61 and leap59 are not both set";
+    BadLeap59 = PTPM_BAD_LEAP59, "leap61 and leap59 are never both set";
     BadState = PTPM_BAD_STATE, "a portState is 1 to 9, and an enabled port is not observed as DISABLED";
     BadLogAnnounce = PTPM_BAD_LOG_ANNOUNCE, "a logAnnounceInterval is -4 to 4";
     BadReceiptTimeout = PTPM_BAD_RECEIPT_TIMEOUT, "an announceReceiptTimeout is 2 to 10";
@@ -95,10 +95,10 @@ errors! {
     WordCount = PTPM_WORD_COUNT, "there are more or fewer words than a name and a value for each member";
     OtherName = PTPM_OTHER_NAME, "a word is not the name of the member that comes next";
     NoValue = PTPM_NO_VALUE, "a word is not a value of the member, or no SET has the member";
-    Unsaved = PTPM_UNSAVED, "something is not saved, and this comes only after a save";
+    Unsaved = PTPM_UNSAVED, "the clock is not saved, and this call needs a save first";
     OtherImage = PTPM_OTHER_IMAGE, "not the latest image, or it counted already";
     NoAsker = PTPM_NO_ASKER, "the handle holds no asker";
-    UnderWay = PTPM_UNDER_WAY, "a change of the device is under way, and this comes only after it";
+    UnderWay = PTPM_UNDER_WAY, "a change of the device is under way, and this call has to wait for it";
     NothingUnderWay = PTPM_NOTHING_UNDER_WAY, "no change of the device is under way";
     NoJournal = PTPM_NO_JOURNAL, "the handle holds no journal";
     NoRecord = PTPM_NO_RECORD, "a record has no such kind, outcome or ending, or too many octets";
@@ -110,7 +110,7 @@ errors! {
     BadSay = PTPM_BAD_SAY, "what a device says is of no kind, has an error that no device gives, or gives what is not a dataField";
 }
 
-/// The number of a call that was done is 0, and every other one an error.
+/// The result of a call: 0 if it was done, and otherwise an error.
 #[inline]
 pub(crate) fn done(number: u32) -> Result<(), Error> {
     match number {
@@ -119,7 +119,7 @@ pub(crate) fn done(number: u32) -> Result<(), Error> {
     }
 }
 
-/// A number that says what became of a datagram or of a request, or an error.
+/// The result of a call: what became of a datagram or of a request, or an error.
 #[inline]
 pub(crate) fn judged(number: u32) -> Result<u32, Error> {
     if sys::ptpm_is_refusal(number) {

@@ -46,7 +46,7 @@ impl fmt::Display for NoIdentity {
 impl core::error::Error for NoIdentity {}
 
 impl Identity {
-    /// The identity that a MAC makes: `fffe` is in its middle.
+    /// The identity that a MAC makes, with `fffe` in its middle.
     ///
     /// ```
     /// assert_eq!(ptpm::Identity::of_mac([2, 0, 0, 0, 0, 0x20]).to_string(), "020000fffe000020");

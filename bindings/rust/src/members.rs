@@ -22,8 +22,8 @@ pub struct Members {
 }
 
 impl Members {
-    /// The members that the octets have. If they are not a dataField of the id, or it has no member, there is only `value`: the octets
-    /// in hexadecimal, or `-`. There is none of more octets than [`MOST_DATA`](crate::MOST_DATA).
+    /// The members that the octets have. If they are not a dataField of the id, or it has no member, there is only `value`: the
+    /// octets in hexadecimal, or `-`. More octets than [`MOST_DATA`](crate::MOST_DATA) have no members.
     pub fn of(id: ManagementId, octets: &[u8]) -> Self {
         let mut text = [0; sys::PTPM_MOST_FIELD_TEXT];
         // SAFETY: the octets may be read, the text may be written, and the two lie apart.

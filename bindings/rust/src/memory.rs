@@ -1,6 +1,7 @@
 //! The memory of the library: `malloc`, `realloc` and `free` of the program, or with the feature `memory` a block.
 
-/// Makes a call that takes memory or gives it back. The block has no lock of its own, so one such call at a time is made.
+/// Makes a call that allocates or frees memory. The block has no lock of its own, so only one such call is made at a
+/// time.
 #[cfg(feature = "memory")]
 pub(crate) fn alone<R>(call: impl FnOnce() -> R) -> R {
     use core::sync::atomic::{AtomicBool, Ordering};
@@ -13,7 +14,7 @@ pub(crate) fn alone<R>(call: impl FnOnce() -> R) -> R {
     answer
 }
 
-/// Makes a call that takes memory or gives it back, by a `malloc` with a lock of its own.
+/// Makes a call that allocates or frees memory, by a `malloc` with a lock of its own.
 #[cfg(not(feature = "memory"))]
 #[inline(always)]
 pub(crate) fn alone<R>(call: impl FnOnce() -> R) -> R {
@@ -32,7 +33,7 @@ mod block {
         fn ptpm_memory_most_taken() -> usize;
     }
 
-    /// What a clock takes that has this many managers, 0 to 16, and any ports.
+    /// What a clock with this many managers, 0 to 16, takes, whatever its ports.
     pub const fn clock_memory(managers: usize) -> usize {
         720 + if managers > 0 { (managers * 2136 + 31) / 16 * 16 } else { 0 }
     }
@@ -43,8 +44,8 @@ mod block {
     /// Enough for an asker.
     pub const ASKER_MEMORY: usize = 13424;
 
-    /// Gives the library its memory, before the first clock, session, survey or asker starts. Later it is refused while one is held. It
-    /// counts from the first multiple of 16. Says whether the library has it.
+    /// Gives the library its memory, before the first clock, session, survey or asker starts. Later it is refused while one of
+    /// these exists. The memory counts from the first multiple of 16. Says whether the library has it.
     pub fn give_memory(block: &'static mut [MaybeUninit<u8>]) -> bool {
         // SAFETY: the block is lent for ever, and no other call that takes memory is made meanwhile.
         alone(|| unsafe { ptpm_memory_give(block.as_mut_ptr().cast(), block.len()) })

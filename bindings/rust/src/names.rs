@@ -16,7 +16,7 @@ macro_rules! standard_numbers {
         }
 
         impl $name {
-            /// The one with this number, if there is one.
+            /// The member with this number, if there is one.
             pub const fn of_number(number: $kind) -> Option<Self> {
                 $(if number == $number {
                     return Some(Self::$variant);

@@ -15,7 +15,8 @@ pub enum ObservedGrandmaster {
     Other { identity: Identity, priority1: u8, class: u8, accuracy: u8, variance: u16, priority2: u8, parent_port: PortIdentity },
 }
 
-/// What a host observes about its clock: what its servo and its best master clock algorithm find. A member that is `None` stays.
+/// What a host observes about its clock: what its servo and its best master clock algorithm find. A member that is `None` stays
+/// as it was.
 ///
 /// ```
 /// use ptpm::{ObservedClock, TimeInterval};

@@ -1,4 +1,5 @@
-//! What a host asks before it forwards a message: whether it did so already, and whether it is within its rate.
+//! What a host asks before it forwards a message: whether it has already forwarded it, and whether it is within
+//! its rate.
 
 use crate::sys;
 #[cfg(feature = "alloc")]
@@ -43,7 +44,7 @@ impl PassedOn {
         Self { seed, places: Places::Boxed(vec![[0; 6]; PLACES].into_boxed_slice()) }
     }
 
-    /// The same for a number of places; `None` if no table may have as many.
+    /// The same for a number of places; `None` if no table may have that number.
     #[cfg(feature = "alloc")]
     pub fn of_size(count: usize, seed: u64) -> Option<Self> {
         Self::COUNTS.contains(&count).then(|| Self { seed, places: Places::Boxed(vec![[0; 6]; count].into_boxed_slice()) })
@@ -58,7 +59,8 @@ impl PassedOn {
         Self { seed, places: Places::Lent(places) }
     }
 
-    /// A table that records no message, in places that the host provides; `None` if no table may have as many.
+    /// A table that records no message, in places that the host provides; `None` if no table may have that
+    /// number.
     pub fn in_places(places: &'static mut [PassedOnPlace], seed: u64) -> Option<Self> {
         if !Self::COUNTS.contains(&places.len()) {
             return None;
@@ -67,8 +69,8 @@ impl PassedOn {
         Some(Self { seed, places: Places::Lent(places) })
     }
 
-    /// Whether a message is to be forwarded; it is then recorded for a time. The time now and that one are in the same unit,
-    /// which the host chooses.
+    /// Whether a message is to be forwarded. If so, it is recorded for a time. That time and the present one are in the
+    /// same unit, which the host chooses.
     pub fn is_first(&mut self, message: &[u8], now: u64, time: u64) -> bool {
         let places = match &mut self.places {
             #[cfg(feature = "alloc")]

@@ -1,7 +1,7 @@
 //! For each kind of call the reasons for which it is refused, as the header's types of answers have them.
 //!
-//! A call returns [`Error`], which has all reasons. A function that returns one of these types takes it by `?`, and a `match` over
-//! one is whole without a pattern for all else:
+//! A call returns [`Error`], which has all reasons. A function that returns one of these types converts an [`Error`] by `?`. A
+//! `match` over such a type needs no pattern for all else:
 //!
 //! ```
 //! use ptpm::{Clock, Handled, HandleError, Outbox};

@@ -24,7 +24,7 @@ pub enum Report<'a> {
     Done,
     /// It refused the request, for this reason.
     Refused(ManagementErrorId),
-    /// A number that a newer library answers.
+    /// A number that a newer library returns.
     Other(u32),
 }
 
@@ -38,7 +38,7 @@ pub struct Answer {
     pub value: Result<Vec<u8>, ManagementErrorId>,
 }
 
-/// What a call reports that writes a dataField, its size and an error, and returns a number.
+/// The report of a call that writes a dataField, its size and an error, and returns a number.
 pub(crate) fn told<'a>(
     room: &'a mut [u8],
     call: impl FnOnce(*mut u8, usize, &mut usize, &mut u16) -> u32,

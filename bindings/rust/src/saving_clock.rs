@@ -12,10 +12,10 @@ use crate::outbox::Outbox;
 use crate::session::Action;
 use crate::sys;
 
-/// A [`Clock`] that outlasts its power. It shows no change before that is saved. The messages of a change wait for a save, and so do those
-/// of all else that managers and the owner ask meanwhile. Anyone else is answered at once, by what was saved. A save is
-/// [`image`](SavingClock::image), its octets stored, and [`saved`](SavingClock::saved). If storing fails, nothing is said: the next
-/// image has all of it.
+/// A [`Clock`] that outlasts a loss of power. It shows no change before that is saved. The messages of a change wait for a save,
+/// and so do those of all else that managers and the owner ask meanwhile. Anyone else is answered at once, from what was saved.
+/// A save has three steps: [`image`](SavingClock::image), the storing of its octets, and [`saved`](SavingClock::saved). If
+/// storing fails, `saved` is not called: the next image has all of it.
 ///
 /// ```
 /// use ptpm::{Clock, ClockSettings, Manager, Outbox, PortSettings, Rights, SavingClock, Say, CLOCK_IMAGE_OCTETS};
@@ -66,8 +66,8 @@ pub enum Saved {
 }
 
 impl SavingClock {
-    /// This clock, in which this many messages may wait: [`Clock::most_sent`] or more, each with 1,476 octets. One that was just
-    /// restored is saved. Any other is not: it takes no datagram before its first save.
+    /// Makes this clock one in which this many messages may wait: [`Clock::most_sent`] or more, each with 1,476 octets. A clock
+    /// that was just restored is saved. Any other is not: it takes no datagram before its first save.
     ///
     /// # Errors
     ///
@@ -82,9 +82,9 @@ impl SavingClock {
     ///
     /// # Errors
     ///
-    /// Those of [`Clock::take`]. [`Error::Unsaved`]: the clock was never saved, or there is a next message to be taken first, or what
-    /// this makes would have no place ([`SavingClock::free`]). [`Error::UnderWay`]: it comes only after the change that is under way
-    /// ([`SavingClock::undertake`]). Nothing was judged.
+    /// Those of [`Clock::take`]. [`Error::Unsaved`]: the clock was never saved, a next message has to be taken first, or there
+    /// is no place for what the datagram makes ([`SavingClock::free`]). [`Error::UnderWay`]: the datagram has to wait for the
+    /// change that is under way ([`SavingClock::undertake`]). Nothing was judged.
     pub fn take<'o, const PLACES: usize>(
         &mut self,
         port: u16,
@@ -111,8 +111,9 @@ impl SavingClock {
     }
 
     /// Keeps a change as under way, so that the device is asked for it once, whatever happens to the power. A change is what
-    /// [`SavingClock::ask`] would ask of the device, by the clock as it is. It is in each image from now on. A save then says
-    /// [`Saved::ActNow`] once, and the host asks its device. What else a datagram asks is returned as by `ask`, and nothing is kept.
+    /// [`SavingClock::ask`] would now ask of the device. It is in each image from then on. The next save returns
+    /// [`Saved::ActNow`] once, and the host asks its device. For any other datagram the call returns what `ask` would, and keeps
+    /// nothing.
     ///
     /// ```
     /// # use ptpm::{Clock, ClockSettings, Error, Manager, Outbox, PortSettings, Rights, SavingClock, Saved, Say, CLOCK_IMAGE_OCTETS};
@@ -150,8 +151,8 @@ impl SavingClock {
         Asked::by(|question| unsafe { sys::ptpm_clock_undertake(self.clock.handle_mut(), port, octets, size, question) })
     }
 
-    /// The change that is under way. After a restore of its image the device may have been asked. The host then looks whether it has the
-    /// change, and says so ([`SavingClock::decide`]).
+    /// The change that is under way. After a restore the device may have been asked already. The host then looks whether the
+    /// device has the change, and says so ([`SavingClock::decide`]).
     pub fn under_way(&self) -> Option<Asked> {
         // SAFETY: the question may be written.
         Asked::by(|question| unsafe { sys::ptpm_clock_under_way(self.clock.handle_ref(), question) }).unwrap_or(None)
@@ -183,14 +184,14 @@ impl SavingClock {
         Ok((&room[..size], ImageToken(token)))
     }
 
-    /// Says once that a restart would find the latest image, whatever happens to the power. What waited when it was made can be had now
-    /// ([`SavingClock::next_message`]). It is [`Saved::ActNow`] if the image has a change that is still under way. Each change has this
-    /// once, and one that a restore found never.
+    /// Says once that a restart would find the latest image, whatever happens to the power. What waited when that image was
+    /// made can be had now ([`SavingClock::next_message`]). It returns [`Saved::ActNow`] if the image has a change that is
+    /// still under way: once for each, and never for one that a restore found.
     ///
     /// # Errors
     ///
-    /// [`Error::OtherImage`]: it is not the latest image, or was said already. Or nothing was unsaved when it was made, and something
-    /// was observed since. Nothing changes.
+    /// [`Error::OtherImage`]: it is not the latest image, or was confirmed already. Or nothing was unsaved when it was made, and
+    /// something was observed since. Nothing changes.
     pub fn saved(&mut self, token: ImageToken) -> Result<Saved, Error> {
         // SAFETY: the handle holds a clock.
         let number = judged(unsafe { sys::ptpm_clock_saved(self.clock.handle_mut(), token.0) })?;
@@ -253,7 +254,7 @@ impl SavingClock {
         self.clock.observe(observed, ports)
     }
 
-    /// Does what [`Clock::read`] does: what was saved, and observed since.
+    /// Does what [`Clock::read`] does, with what was saved and observed since.
     ///
     /// # Errors
     ///

@@ -16,7 +16,8 @@ pub struct Sealed<'a> {
     pub count: u64,
 }
 
-/// Writes the seal of an image after it, and gives both. The image is the first `size` octets, and this is the save of that count.
+/// Writes the seal of an image after it, and gives both. The image is the first `size` octets, and `count` is the number of this
+/// save.
 ///
 /// # Errors
 ///

@@ -65,7 +65,8 @@ impl SessionSettings {
     }
 }
 
-/// One request at a time to one clock, sent until it is answered. Such a clock carries it out once, however often it is sent.
+/// One request at a time to one clock, sent until it is answered. A clock of ptpm carries the request out once, however often
+/// it is sent.
 ///
 /// ```
 /// use ptpm::{Action, Error, ManagementId, Report, Session, SessionSettings, MOST_DATA, MOST_OCTETS};
@@ -125,8 +126,8 @@ impl Session {
     /// # Errors
     ///
     /// The first of [`Error::NotAnImage`], [`Error::OtherVersion`], [`Error::OtherKind`], [`Error::Damaged`],
-    /// [`Error::OtherSession`] and [`Error::NoMemory`] that holds. That is no reason to start a fresh session: the clock would
-    /// treat its requests as old, or as others.
+    /// [`Error::OtherSession`] and [`Error::NoMemory`] that holds. Do not start a fresh session after one of these: the clock
+    /// would treat its requests as old, or as conflicts.
     pub fn restore(settings: &SessionSettings, image: &[u8]) -> Result<Self, Error> {
         done(sys::ptpm_header_agrees())?;
         let mut session = Self::none();
@@ -208,7 +209,8 @@ impl Session {
         done(alone(|| unsafe { sys::ptpm_session_give_up(&mut self.handle) }))
     }
 
-    /// Has requests sent, and replies expected, in this domain from now on, the unanswered request among them.
+    /// From now on requests are sent, and replies expected, in this domain. That includes the unanswered
+    /// request.
     pub fn retune(&mut self, domain: u8) -> Result<(), Error> {
         // SAFETY: the handle is live.
         done(unsafe { sys::ptpm_session_retune(&mut self.handle, domain) })
@@ -231,8 +233,8 @@ impl Session {
         unsafe { sys::ptpm_session_issued(&self.handle) }
     }
 
-    /// Reports what the answer to the latest request says; a dataField in the room that it is given, for which
-    /// [`MOST_DATA`](crate::MOST_DATA) octets do.
+    /// Reports what the answer to the latest request says; a dataField is in the room that is given, for which
+    /// [`MOST_DATA`](crate::MOST_DATA) octets are enough.
     ///
     /// # Errors
     ///

@@ -25,8 +25,9 @@ standard_numbers! {
 }
 
 standard_numbers! {
-    /// A delayMechanism (table 21). A clock of this library has no [`CommonP2p`](Self::CommonP2p) and no [`Special`](Self::Special): a
-    /// start with one is refused by [`Error::BadDelayMechanism`](crate::Error::BadDelayMechanism). Other clocks may answer them.
+    /// A delayMechanism (table 21). A clock of this library has neither [`CommonP2p`](Self::CommonP2p) nor
+    /// [`Special`](Self::Special): a start with one is refused with
+    /// [`Error::BadDelayMechanism`](crate::Error::BadDelayMechanism). Other clocks may answer with them.
     #[non_exhaustive]
     DelayMechanism: u8 {
         /// E2E: the delay request-response mechanism.
@@ -42,7 +43,8 @@ standard_numbers! {
     }
 }
 
-/// The start values of a clock's own members. [`ClockSettings::new`] has the library's, and `None` is the clock's own value:
+/// The start values of a clock's own members. [`ClockSettings::new`] has the library's defaults, and `None` means the
+/// clock's own value:
 ///
 /// ```
 /// use ptpm::ClockSettings;
@@ -69,7 +71,7 @@ pub struct ClockSettings {
     pub steps_removed: u16,
     pub offset_from_master: TimeInterval,
     pub mean_path_delay: TimeInterval,
-    /// Port 0 of the clock itself, if there is none.
+    /// `None` is port 0 of the clock itself.
     pub parent_port: Option<PortIdentity>,
     pub parent_stats: bool,
     pub observed_variance: u16,

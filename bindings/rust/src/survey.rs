@@ -15,9 +15,9 @@ use core::ptr::null_mut;
 /// The portNumber of a survey whose manager has port 0. No session has it.
 pub const SURVEY_PORT: u16 = sys::PTPM_SURVEY_PORT;
 
-/// One manager, and the GET that it sends to every port of every clock, or of one. Each survey gets a number that is not on its way
-/// any more. A session of the same manager may treat an answer as its own. So the manager here has no session: it is another port number
-/// of the same clockIdentity. With port 0 it is [`SURVEY_PORT`].
+/// One manager, and the GET that it sends to every port of every clock, or of one. Give each survey a number that no message in
+/// flight has. A session of the same manager may treat an answer as its own. So the survey's manager has no session: it is
+/// another port of the same clockIdentity. Port 0 stands for [`SURVEY_PORT`].
 #[derive(Clone, Copy, Debug, PartialEq, Eq)]
 pub struct SurveySettings {
     /// The manager; its clock is not all ones.
@@ -95,9 +95,9 @@ impl Survey {
         Ok(survey)
     }
 
-    /// Starts a survey of one clock, without answers: every port of it is asked, and no other clock answers. A clock treats
-    /// such a GET from one of its managers as a numbered request, like one of a session. So the manager here is none of them, and
-    /// has no session: for example, it is another port number of the same clockIdentity.
+    /// Starts a survey of one clock, without answers: every port of it is asked, and no other clock answers. A clock treats such
+    /// a GET from one of its managers as a numbered request, like one of a session. So the survey's manager is not one of these,
+    /// and has no session: for example, it is another port of the same clockIdentity.
     ///
     /// # Errors
     ///
@@ -142,8 +142,8 @@ impl Survey {
         unsafe { sys::ptpm_survey_count(&self.handle) }
     }
 
-    /// Reports what an answer says, and who gave it; a dataField in the room that it is given, for which [`MOST_DATA`](crate::MOST_DATA) octets do.
-    /// The answers are counted from 0, in the order in which they came.
+    /// Reports what an answer says, and who gave it; a dataField is in the room that is given, for which
+    /// [`MOST_DATA`](crate::MOST_DATA) octets are enough. The answers are counted from 0, in the order in which they came.
     ///
     /// # Errors
     ///

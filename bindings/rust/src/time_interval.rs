@@ -13,7 +13,8 @@
 pub struct TimeInterval(pub i64);
 
 impl TimeInterval {
-    /// An interval of N nanoseconds. What is out of the range of a TimeInterval becomes its nearest limit.
+    /// An interval of N nanoseconds. A number out of the range of a TimeInterval becomes the nearest
+    /// limit.
     pub const fn from_nanoseconds(nanoseconds: i64) -> Self {
         Self(nanoseconds.saturating_mul(1 << 16))
     }

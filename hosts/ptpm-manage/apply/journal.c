@@ -75,7 +75,7 @@ static void add(struct journal *journal, const struct ptpm_journal_record *recor
     enum ptpm_journaled answer = ptpm_journal_add(&journal->kept, record, first, record->first_size, second, record->second_size,
                                                   added, sizeof added, &added_size);
     if (answer == PTPM_JOURNAL_NO_MEMORY) end_without_memory();
-    if (answer != PTPM_JOURNALED) refuse_storage("%s: %s: no run notes that here", journal->path, answer_name(answer));
+    if (answer != PTPM_JOURNALED) refuse_storage("%s: %s: no run writes such a record here", journal->path, answer_name(answer));
 }
 
 static void write_text(FILE *to, struct journal *journal, uint8_t what, const char *text, size_t size) {
@@ -294,7 +294,7 @@ bool note_record(struct journal *journal, const uint8_t *octets, size_t size, lo
     *answered = NO_STEP;
     if (!append(journal, octets, size)) return false;
     enum ptpm_journaled answer = ptpm_journal_next(&journal->kept, octets, size, &record, &taken);
-    if (answer != PTPM_JOURNALED) refuse_storage("%s: %s: no run notes that here", journal->path, answer_name(answer));
+    if (answer != PTPM_JOURNALED) refuse_storage("%s: %s: no run writes such a record here", journal->path, answer_name(answer));
     if (record.kind == PTPM_RECORD_TOLD) *answered = record.step;
     return take_record(journal, &record, octets);
 }

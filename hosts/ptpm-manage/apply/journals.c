@@ -78,7 +78,7 @@ static void refuse_copy(const struct journal *journal, const char *path) {
     const char *name = strrchr(path, '/') + 1;
     size_t size = strlen(name) - strlen(ending);
     if (journal->ending != IS_OPEN || (size == strlen(journal->name) && memcmp(name, journal->name, size) == 0)) return;
-    refuse_storage("nothing was sent: %s: it is the journal of %s, which is open: remove a copy, or give it that name", path, journal->name);
+    refuse_storage("nothing was sent: %s: it is the journal of %s, which is open: remove it if it is a copy, or give it that name", path, journal->name);
 }
 
 /* Reads one that is there. */

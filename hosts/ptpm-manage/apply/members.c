@@ -129,7 +129,7 @@ int leave_needed_steps(const struct task *task, struct journal *back) {
 static const char *why_left_out(const struct journal *journal, size_t place) {
     switch (journal->told[place].outcome) {
     case IS_REFUSED: return "was refused";
-    case OTHER_VALUE: return "was answered by another value";
+    case OTHER_VALUE: return "was answered with a different value";
     case NOT_TOLD: return is_uncertain(journal, (long)place) ? "may have been carried out" : NULL;
     default: return NULL;
     }

@@ -331,7 +331,7 @@ static void add_refusal(struct plan *plan, const struct task *task, const char *
     char text[128], number[8];
     const char *error = error_name(refusal);
     snprintf(number, sizeof number, "0x%04x", refusal);
-    snprintf(text, sizeof text, "%s refuses a SET that changes nothing (%s): it may take none of this manager", clock,
+    snprintf(text, sizeof text, "%s refuses a SET that changes nothing (%s): it may take no SET from this manager", clock,
              error != NULL ? error : number);
     add_warning(plan, text, task->is_json);
 }
@@ -358,10 +358,10 @@ static int end_asked(struct run *run) {
 static int end_probe(struct plan *plan, const struct probe *probe, const struct task *task) {
     char clock[IDENTITY_TEXT];
     write_identity(clock, probe->request.settings.target);
-    show_progress("%s: does it take SETs of this manager?", clock);
+    show_progress("%s: does it take SETs from this manager?", clock);
     int status = end_asked(probe->run);
     if (status == ANSWERED && refusal != 0) add_refusal(plan, task, clock), say_of_ptp4l(refusal);
-    if (status == NOT_ANSWERED) complain("%s gave no answer: whether it takes SETs of this manager is not known", clock);
+    if (status == NOT_ANSWERED) complain("%s gave no answer: whether it takes SETs from this manager is not known", clock);
     return status;
 }
 
@@ -407,7 +407,7 @@ static int end_standing(const struct probe *probe, const struct task *task, cons
     show_progress("does each clock take SETs of what is changed?");
     int status = read_member(task, step, step->domain, &answer);
     if (status == ANSWERED && !has_value(step->id, step->before.octets, step->before.size, &answer)) status = NOT_AS_ASKED;
-    if (status == NOT_AS_ASKED) complain("change %zu: the value before it has changed since", probe->number);
+    if (status == NOT_AS_ASKED) complain("change %zu: the value that it replaces has changed since", probe->number);
     if (status == ANSWERED) status = end_asked(probe->run);
     if (status == ANSWERED && refusal != 0) say_refusal(task, step);
     *refused += status == ANSWERED && refusal != 0;

@@ -239,7 +239,7 @@ void say_of_ptp4l(uint16_t error) {
 
 /* Without a file the port of the manager is another one in each run. */
 void say_right(const struct task *task, uint16_t error) {
-    char identity[IDENTITY_TEXT], manager[IDENTITY_TEXT + 16] = "whoever gives no --manager";
+    char identity[IDENTITY_TEXT], manager[IDENTITY_TEXT + 16] = "a request without --manager";
     if (error != NOT_SUPPORTED) return;
     write_identity(identity, task->settings.clock);
     if (task->is_kept) snprintf(manager, sizeof manager, "manager %s/%u", identity, task->settings.port);

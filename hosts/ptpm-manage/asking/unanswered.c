@@ -43,7 +43,7 @@ static void say_reason(const struct task *task, enum unanswered what, uint16_t n
     case NUMBER:
         complain("it dropped number %u of manager %s/%u, since another file or a copy of the manager is ahead, or each answer was "
                  "lost%s", number, manager, port, unsaved);
-        complain("if it does so each time: once %s is removed, the next run begins a new session", path);
+        complain("if it does so each time, remove %s: the next run then begins a new session", path);
         break;
     case FIRST_NUMBER:
         complain("it answers no GET of manager %s/%u under any of four numbers: each answer was lost%s", manager, port, unsaved);
@@ -96,9 +96,9 @@ static void say_rest(const struct task *task, enum unanswered what, uint16_t num
     if (what == REQUEST) {
         complain("the next run sends %s again, under number %u, before its own; --give-up gives it up", words, number);
     } else if (what == EARLIER_REQUEST) {
-        complain("%s of an earlier run, number %u, comes before it; --give-up gives it up", words, number);
+        complain("%s of an earlier run, number %u, comes first; --give-up gives it up", words, number);
     } else if (what == EARLIER_ELSEWHERE) {
-        complain("%s of an earlier run, number %u, was asked in domain %u, and comes before it; --give-up gives it up, and --domain "
+        complain("%s of an earlier run, number %u, was asked in domain %u, and comes first; --give-up gives it up, and --domain "
                  "%u asks there", words, number, domain, domain);
     }
 }

@@ -534,7 +534,7 @@ static void tell_lowered_hops(const struct task *task) {
     bool is_at_limit = farthest == HOPS_OF_CLOCKS && farthest_switch == HOPS_OF_CLOCKS && task->settings.hops > HOPS_OF_CLOCKS;
     if (is_told || !is_at_limit) return;
     is_told = true;
-    complain("clocks answer past %d boundary clocks, and none past more: some may not be asked, since a ptpm-clock passes on no further "
+    complain("clocks answer past %d boundary clocks, and none further away: some may not be asked, since a ptpm-clock forwards no further "
              "without --hops", HOPS_OF_CLOCKS);
 }
 

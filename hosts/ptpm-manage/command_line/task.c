@@ -180,7 +180,7 @@ static void judge_site_options(const struct site_options *site) {
     if (site->is_sdo_named && !site->is_collected) refuse("--sdo: only collect and status take it");
     if (site->listen >= 0 && !site->is_collected) refuse("--listen: only collect and status take it");
     if (site->duration > 0 && (site->is_once || site->watch > 0)) refuse("--for excludes --once and --watch");
-    if (site->forget > 0 && site->watch == 0) refuse("--forget: it takes --watch");
+    if (site->forget > 0 && site->watch == 0) refuse("--forget: only with --watch");
     if (site->form != AS_TEXT && site->watch > 0 && site->output == NULL) {
         refuse("--watch excludes --draw, --html, --openmetrics and --nagios, unless there is a file for them: --output FILE");
     }
@@ -593,7 +593,7 @@ void read_task(struct task *task, int argc, char **argv) {
     if (is_beyond && task->numbers != NULL) refuse("--numbers: a request to a port above %d has no session", SESSION_PORTS);
     task->is_kept = is_by_one_manager(task) && !is_beyond;
     bool is_asked = task->plan.verb == NO_PLAN;
-    if (task->is_letting_go && !is_asked && task->plan.verb != RESUME) refuse("--give-up: of these only resume takes it");
+    if (task->is_letting_go && !is_asked && task->plan.verb != RESUME) refuse("--give-up: of the commands for a plan only resume takes it");
     if (task->is_letting_go && is_asked && !task->is_kept) refuse("--give-up: this request has no session");
 }
 

@@ -39,7 +39,7 @@ struct plan_options {
     enum plan_verb verb;
     const char *word;                           /* the file, or the apply that is rolled back or shown; NULL if each is */
     const char *expected;                       /* the id of the plan that was approved, or NULL */
-    bool is_probed;                             /* each clock is asked whether it takes SETs of this manager */
+    bool is_probed;                             /* each clock is asked whether it takes SETs from this manager */
     bool tells_changes;                         /* by a status of its own: there are some */
     bool skips_unreached;                       /* what is not reached is left out */
     bool keeps_going;                           /* at other clocks if one fails */

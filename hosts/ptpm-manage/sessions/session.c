@@ -177,7 +177,7 @@ int say_settled(const struct earlier *earlier, const struct task *task, const st
 }
 
 void say_before_steps(const struct earlier *earlier, const struct task *task) {
-    complain("%s, comes before it: once resume --give-up has ended the apply, any other run gives it up by --give-up",
+    complain("%s, comes first: once resume --give-up has ended the apply, any other run can give it up with --give-up",
              earlier_words(earlier, task));
 }
 

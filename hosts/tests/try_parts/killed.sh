@@ -74,7 +74,7 @@ END
     { left sendmsg $by_me -d 1 set PRIORITY1 50 && stop_beside; } 2> /dev/null
     check "a SET of domain 1 is not sent in domain 0" "$(asked '' $by_me -a 2 get PRIORITY1 && ended 3 &&
         says 'no answer at near0 in domain 1 to 2 messages: an earlier request may have been carried out, and this one was not sent$' &&
-        says "set PRIORITY1 $earlier, was asked in domain 1, and comes before it; --give-up gives it up, and --domain 1 asks there$" &&
+        says "set PRIORITY1 $earlier, was asked in domain 1, and comes first; --give-up gives it up, and --domain 1 asks there$" &&
         says 'it answers no read either$' && echo yes)"
     check "and not carried out there" "$(asks 'priority1 10' -u "$work/socket" get PRIORITY1)"
     start_beside

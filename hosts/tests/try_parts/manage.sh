@@ -35,7 +35,7 @@ check "manage with an old number" "$(asks '' -i near0 -k "$work/old" -a 2 set PR
 check "it then says what is known" "$(ended 3 && says 'no answer at near0 in domain 0 to 2 messages: the request itself was not sent$' &&
     says 'the clock answers reads, and has by now$' && says 'priority1 100$' &&
     says 'it dropped number 50 of manager 000000fffe000010/1, since another file or a copy of the manager is ahead, or each' &&
-    says "if it does so each time: once $work/old is removed, the next run begins a new session$" && echo yes)"
+    says "if it does so each time, remove $work/old: the next run then begins a new session$" && echo yes)"
 check "manage get PRIORITY1 with an old number" "$(asks '' -i near0 -k "$work/old" -a 2 get PRIORITY1)"
 check "manage with the file of another clock" "$(refuses "nothing was asked: OTHER_SESSION: $work/number has the session of manager \
 000000fffe000010/1 with clock $identity, and not of manager 000000fffe000010/1 with clock $other" $through set PRIORITY1 32 --target $other)"

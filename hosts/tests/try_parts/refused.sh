@@ -59,7 +59,7 @@ $to_utc -32769 leap61 0 leap59 0 currentUtcOffsetValid 1|currentUtcOffset -32769
 -u $work/nowhere --target $to set PRIORITY1 1|nothing was sent: $work/nowhere: No such file or directory
 -i near0 --target ffffffffffffffff get PRIORITY1|nothing was asked: TARGET_IS_EVERY
 -i near0 --give-up --target $to get PRIORITY1|--give-up: this request has no session
--i near0 --give-up apply $work/site.toml|--give-up: of these only resume takes it
+-i near0 --give-up apply $work/site.toml|--give-up: of the commands for a plan only resume takes it
 -i near0 --target $to get PORT_DATA_SET|nothing was asked: NEEDS_PORT
 -i near0 --target $to -p 256 -k $work/other get PRIORITY1|a request to a port above 255 has no session
 -i near0 --target $to get PRIORITY1 PRIORITY2|get takes one managementId: ask for PRIORITY2 in a run of its own
