@@ -406,7 +406,7 @@ enum ptpm_set_here ptpm_clock_set(struct ptpm_clock *clock, uint8_t action, uint
     return answer;
 }
 
-enum ptpm_observed ptpm_clock_observe(struct ptpm_clock *clock, const struct ptpm_observed_clock *observed, const struct ptpm_observed_port *ports, size_t port_count, uint8_t *left) {
+enum ptpm_observed ptpm_clock_observe(struct ptpm_clock *clock, const struct ptpm_observed_clock *observed, const struct ptpm_observed_port *ports, size_t port_count, uint64_t *left) {
     fill();
 #if !IS_LITTLE_ENDIAN
     struct ptpm_observed_clock observed_in = *observed;
@@ -420,7 +420,10 @@ enum ptpm_observed ptpm_clock_observe(struct ptpm_clock *clock, const struct ptp
     }
     ports = ports_in;
 #endif
-    return (enum ptpm_observed)portable_ptpm_clock_observe(ADDRESS(clock), ADDRESS(observed), ADDRESS(ports), port_count, ADDRESS(left));
+    u64 left_out = 0;
+    enum ptpm_observed answer = (enum ptpm_observed)portable_ptpm_clock_observe(ADDRESS(clock), ADDRESS(observed), ADDRESS(ports), port_count, ADDRESS(&left_out));
+    *left = load64(ADDRESS(&left_out));
+    return answer;
 }
 
 enum ptpm_read ptpm_clock_read(const struct ptpm_clock *clock, uint16_t id, uint16_t port, uint8_t *octets, size_t room, size_t *size) {

@@ -3,7 +3,6 @@ pub mod Courses
 pub mod Doublings
 pub mod Gathering
 pub mod Groups
-pub mod Keys
 pub mod Least
 pub mod Once
 pub mod OneBest

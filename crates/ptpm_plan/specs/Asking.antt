@@ -1,5 +1,5 @@
 -- What the tables of a plan file ask for, member by member.
-use Rattle.std.specs.Prelude.{ℕ, ◌==◌, nat_lt, Bool, true, false, not, ◌&&◌, if◌then◌else◌, List, [], ◌++◌, flat_map, map, Option, Some, None}
+use Rattle.std.specs.Prelude.{ℕ, ◌==◌, nat_lt, Bool, true, false, not, ◌&&◌, if◌then◌else◌, List, [], ◌∷◌, ◌++◌, flat_map, map, Option, Some, None}
 use Rattle.std.specs.List.{list_any, range_with_len}
 use Rattle.ptpm_codec.specs.Identity.{same_clock}
 use Rattle.ptpm_codec.specs.declared.identity.ClockIdentity.{ClockIdentity}
