@@ -151,7 +151,7 @@ struct ptpm_observed_clock {
     PTPM_AT_EIGHT int64_t offset_from_master; /* in nanoseconds times 2^16 */
     int64_t mean_path_delay;            /* in nanoseconds times 2^16 */
     int32_t observed_rate;              /* observedParentClockPhaseChangeRate */
-    uint16_t variance;                  /* offsetScaledLogVariance of the clock itself, as clock_class and clock_accuracy */
+    uint16_t variance;                  /* offsetScaledLogVariance of the clock itself; clock_class and clock_accuracy are the clock's own too */
     uint16_t steps_removed;
     uint16_t observed_variance;         /* observedParentOffsetScaledLogVariance */
     uint16_t grandmaster_variance;      /* offsetScaledLogVariance of grandmasterClockQuality */
@@ -320,10 +320,10 @@ enum { PTPM_GET = 0, PTPM_SET = 1, PTPM_COMMAND = 3 };
 /* A survey of a manager: what it asks and its answers, at one pointer. All zeros hold no survey. */
 struct ptpm_survey { void *at; PTPM_TO_EIGHT bool live; bool restored; };
 
-/* One manager, and the GET that it sends to every port of every clock, or of one. A clock answers a GET for every clock whatever
-   numbers it took from this manager before. A late answer to an earlier GET with the same number and id counts for this survey:
-   use a number with nothing in flight. No session may have the same portIdentity. Port 0 stands for PTPM_SURVEY_PORT, which no
-   session should have. */
+/* One manager, and the GET that it sends to every port of every clock, or of one. A clock answers a GET for every clock, whatever
+   numbers it took from this manager before. A late answer to an earlier GET with the same number and id counts for this survey: use
+   a number with nothing in flight. No session may have the same portIdentity. Port 0 stands for PTPM_SURVEY_PORT, which no session
+   should have. */
 struct ptpm_survey_settings {
     uint16_t port;                      /* portNumber of the manager; 0 for PTPM_SURVEY_PORT */
     uint16_t number;                    /* sequenceId */
@@ -351,7 +351,7 @@ struct ptpm_handed {
     uint32_t what;                      /* one of the names below */
     uint16_t number;                    /* the sequenceId of the request: after PTPM_NOTE_BEGUN and PTPM_NOTE_ANSWER */
     bool was_sent;                      /* after PTPM_FAILED: whether a message of the request left */
-    bool is_read_answered;              /* after PTPM_FAILED: whether the clock answered a read by nobody */
+    bool is_read_answered;              /* after PTPM_FAILED: whether the clock answered an anonymous read */
 };
 
 /* What an asker hands out. After PTPM_NOTE_BEGUN, PTPM_SAVE_IT and PTPM_NOTE_ANSWER it hands out nothing else before the host has done it. */
@@ -360,7 +360,7 @@ enum {
     PTPM_NOTE_BEGUN = 1,                /* note that this request is begun, and then call ptpm_asker_noted */
     PTPM_SAVE_IT = 2,                   /* save the session's image, and then call ptpm_asker_saved */
     PTPM_SEND_IT = 3,                   /* send the message */
-    PTPM_SEND_READ = 4,                 /* send the message; it is a read by nobody */
+    PTPM_SEND_READ = 4,                 /* send the message; it is an anonymous read, from the port `nobody` */
     PTPM_WAIT = 5,
     PTPM_NOTE_ANSWER = 6,               /* note what the report says, and then call ptpm_asker_noted */
     PTPM_FAILED = 7                     /* there is no answer */
@@ -466,9 +466,9 @@ struct ptpm_rollout_action {
 
 enum {
     PTPM_DO_LOOK = 1,                   /* hand in what the file of the lane's session has */
-    PTPM_DO_SETTLE = 2,                 /* send again what an earlier run left; without a step, what another program left */
+    PTPM_DO_SETTLE = 2,                 /* send again what an earlier run left, or, if step is PTPM_NO_STEP, what another program left */
     PTPM_DO_LET_GO = 3,                 /* give up what is under way in the session, and save that */
-    PTPM_DO_READ = 4,                   /* read the member of the step in this domain, by nobody */
+    PTPM_DO_READ = 4,                   /* read the member of the step in this domain, from the port `nobody` */
     PTPM_DO_CHECK = 5,                  /* say whether the change goes on: this step is the first one at another clock */
     PTPM_DO_ASK = 6,                    /* ask the step */
     PTPM_DO_NOTE = 7,                   /* append the record to the journal's file, and synchronize it */
@@ -512,7 +512,7 @@ struct ptpm_passed_on {
 struct ptpm_rate {
     PTPM_AT_EIGHT uint64_t rate;        /* tokens per second */
     uint64_t left;                      /* thousandths of a token */
-    uint64_t time;                      /* the latest that it was asked at, in milliseconds */
+    uint64_t time;                      /* the latest time at which it was asked, in milliseconds */
 };
 
 /* No compiler flag may lay a struct out differently from the library. If one does, the compiler refuses an array with the name
@@ -553,8 +553,8 @@ PTPM_HAS_SIZE(ptpm_rollout_action, 12);
 enum { PTPM_MOST_SENT = 15, PTPM_MOST_READ = 130, PTPM_MOST_OCTETS = 1472, PTPM_SESSION_IMAGE_OCTETS = 1478 };
 enum { PTPM_CLOCK_IMAGE_OCTETS = 27385 };
 
-/* The most messages that a clock with this number of ports sends for a datagram. The most octets of the image of a clock with this
-   number of ports, and this of managers. */
+/* The most messages that a clock with this number of ports sends for a datagram. The most octets of the image of a clock with these
+   numbers of ports and of managers. */
 #define PTPM_MOST_SENT_OF(ports) (2 * (ports) - 1)
 #define PTPM_CLOCK_IMAGE_BOUND(ports, managers) (417 + 15 * (ports) + (managers) * (1438 + 30 * ((ports) > 8 ? (ports) : 8)))
 
@@ -588,7 +588,7 @@ enum { PTPM_MOST_ANSWERS = 16384, PTPM_SURVEY_PORT = 65534 };
 /* Why a session or a survey ignores a datagram. It also ignores other domains, and what is not a management message. */
 #define PTPM_NOT_A_REPLY 10             /* its action is neither RESPONSE nor ACKNOWLEDGE */
 #define PTPM_OTHER_TARGET 11            /* its targetPortIdentity is not that of the manager */
-#define PTPM_OTHER_SOURCE 12            /* it is of another clock, or of a different port than is asked */
+#define PTPM_OTHER_SOURCE 12            /* it is of another clock, or of a different port than the one asked */
 #define PTPM_OTHER_NUMBER 14            /* its sequenceId is not that of the request */
 #define PTPM_OTHER_CONTENT 15           /* it has another managementId, or its action answers no request of this action */
 
@@ -698,7 +698,7 @@ __extension__ enum PTPM_FOUR_OCTETS(ptpm_handled) {
     PTPM_HANDLE_BAD_TEXT = PTPM_BAD_TEXT,
     PTPM_HANDLE_NO_CLOCK = PTPM_NO_CLOCK,
     PTPM_HANDLE_NO_PORT = PTPM_NO_PORT,
-    PTPM_HANDLE_NO_ROOM = PTPM_NO_ROOM, /* for fewer than ptpm_clock_most_sent messages */
+    PTPM_HANDLE_NO_ROOM = PTPM_NO_ROOM, /* room is smaller than ptpm_clock_most_sent */
     PTPM_HANDLE_NO_MEMORY = PTPM_NO_MEMORY,
     PTPM_HANDLE_UNSAVED = PTPM_UNSAVED,
     PTPM_BAD_SAY = 121,                 /* it is of an unknown kind, has an error that no device gives, or gives what can't be a dataField */
@@ -744,7 +744,7 @@ __extension__ enum PTPM_FOUR_OCTETS(ptpm_read) {
     PTPM_READ = 0,
     PTPM_READ_NO_CLOCK = PTPM_NO_CLOCK,
     PTPM_READ_NO_PORT = PTPM_NO_PORT,
-    PTPM_READ_NO_ROOM = PTPM_NO_ROOM,   /* for fewer than PTPM_MOST_READ octets */
+    PTPM_READ_NO_ROOM = PTPM_NO_ROOM,   /* room is smaller than PTPM_MOST_READ */
     PTPM_NOT_READABLE = 36              /* the id is not in the table, or permits no GET */
 };
 
@@ -763,7 +763,7 @@ __extension__ enum PTPM_FOUR_OCTETS(ptpm_begun) {
 /* ptpm_session_send and ptpm_survey_send. The second never returns PTPM_IDLE or PTPM_GAVE_UP. */
 __extension__ enum PTPM_FOUR_OCTETS(ptpm_sending) {
     PTPM_SENT = 0,
-    PTPM_SEND_NO_ROOM = PTPM_NO_ROOM,   /* for fewer than PTPM_MOST_OCTETS octets */
+    PTPM_SEND_NO_ROOM = PTPM_NO_ROOM,   /* room is smaller than PTPM_MOST_OCTETS */
     PTPM_SEND_NO_SESSION = PTPM_NO_SESSION,
     PTPM_SEND_IDLE = PTPM_IDLE,
     PTPM_GAVE_UP = 44,                  /* no attempts are left */
@@ -838,10 +838,10 @@ __extension__ enum PTPM_FOUR_OCTETS(ptpm_survey_received) {
 
 /* ptpm_session_report, ptpm_survey_answer and ptpm_asker_report. */
 __extension__ enum PTPM_FOUR_OCTETS(ptpm_reported) {
-    PTPM_VALUE = 0,                     /* the clock answered a dataField */
+    PTPM_VALUE = 0,                     /* the clock answered with a dataField */
     PTPM_DONE = 25,                     /* it carried a COMMAND out */
-    PTPM_REFUSED = 26,                  /* it answered a managementErrorId */
-    PTPM_REPORT_NO_ROOM = PTPM_NO_ROOM, /* for fewer octets than the dataField has */
+    PTPM_REFUSED = 26,                  /* it answered with a managementErrorId */
+    PTPM_REPORT_NO_ROOM = PTPM_NO_ROOM, /* room is smaller than the dataField */
     PTPM_REPORT_NO_SESSION = PTPM_NO_SESSION,
     PTPM_NO_REPORT = 45,                /* no request was begun, or the latest is not answered; the survey has no such answer */
     PTPM_REPORT_NO_SURVEY = PTPM_NO_SURVEY,
@@ -853,7 +853,7 @@ __extension__ enum PTPM_FOUR_OCTETS(ptpm_saved) {
     PTPM_SAVED = 0,
     PTPM_ACT_NOW = 31,                  /* ptpm_clock_saved: saved, and now the device is asked for what is under way */
     PTPM_SAVE_NO_CLOCK = PTPM_NO_CLOCK,
-    PTPM_SAVE_NO_ROOM = PTPM_NO_ROOM,   /* for fewer octets than the image has, or than it has with its seal */
+    PTPM_SAVE_NO_ROOM = PTPM_NO_ROOM,   /* room is smaller than the image, or than the image with its seal */
     PTPM_SAVE_NO_MEMORY = PTPM_NO_MEMORY, /* ptpm_clock_image_of, of a clock of over eight ports */
     PTPM_SAVE_NO_SESSION = PTPM_NO_SESSION,
     PTPM_OTHER_IMAGE = 119              /* not the latest image, or it counted already */
@@ -878,7 +878,7 @@ __extension__ enum PTPM_FOUR_OCTETS(ptpm_restored) {
 /* ptpm_field_parse. */
 __extension__ enum PTPM_FOUR_OCTETS(ptpm_parsed) {
     PTPM_PARSED = 0,
-    PTPM_PARSE_NO_ROOM = PTPM_NO_ROOM,  /* for fewer octets than the dataField has */
+    PTPM_PARSE_NO_ROOM = PTPM_NO_ROOM,  /* room is smaller than the dataField */
     PTPM_NOT_WORDS = 113,               /* there are octets and the last is not a zero, a word is not UTF-8, or there are over 20 words */
     PTPM_UNKNOWN_ID = 114,              /* this profile lacks the id */
     PTPM_WORD_COUNT = 115,              /* more or fewer words than a name and a value for each member */
@@ -907,7 +907,7 @@ __extension__ enum PTPM_FOUR_OCTETS(ptpm_asker_restored) {
 /* The other calls of an asker. Only ptpm_asker_ask returns PTPM_BUSY to PTPM_BAD_VALUE. */
 __extension__ enum PTPM_FOUR_OCTETS(ptpm_asked) {
     PTPM_ASKED = 0,
-    PTPM_ASK_NO_ROOM = PTPM_NO_ROOM,    /* for fewer octets than there are: ptpm_asker_message and ptpm_asker_image */
+    PTPM_ASK_NO_ROOM = PTPM_NO_ROOM,    /* room is smaller than the message or the image: ptpm_asker_message and ptpm_asker_image */
     PTPM_ASK_NO_MEMORY = PTPM_NO_MEMORY,
     PTPM_ASK_BUSY = PTPM_BUSY,          /* the asker does not rest, or a request of an earlier run is not settled */
     PTPM_ASK_NEEDS_PORT = PTPM_NEEDS_PORT,
@@ -927,7 +927,7 @@ __extension__ enum PTPM_FOUR_OCTETS(ptpm_journaled) {
     PTPM_JOURNAL_OTHER_VERSION = PTPM_OTHER_VERSION,    /* ptpm_journal_next */
     PTPM_JOURNAL_DAMAGED = PTPM_DAMAGED,                /* ptpm_journal_next: these octets are not a record that may come here */
     PTPM_JOURNAL_NO_JOURNAL = PTPM_NO_JOURNAL,
-    PTPM_NO_RECORD = 127,               /* ptpm_journal_add: it has no such kind, outcome or ending, or too many octets */
+    PTPM_NO_RECORD = 127,               /* ptpm_journal_add: the record's kind, outcome or ending does not exist, or it has too many octets */
     PTPM_NOT_ALLOWED = 128,             /* ptpm_journal_add: no run makes this record here */
     PTPM_JOURNAL_WHOLE = 129            /* ptpm_journal_next: there is no further record; octets that are left were torn */
 };
@@ -1079,12 +1079,13 @@ enum ptpm_handled ptpm_clock_take(struct ptpm_clock *clock, uint16_t port, const
                                   struct ptpm_taken *taken);
 
 /* Keeps a change as under way, so that the device is asked for it once, whatever happens to the power. It is for a clock that
-   saves (ptpm_clock_saving). If ptpm_clock_ask, by the clock as it is, would return PTPM_ASKED_CHANGE, the change is under way,
-   and in each image from now on. Then the clock is unsaved. The host saves it, ptpm_clock_saved returns PTPM_ACT_NOW once, and
-   the host asks its device. ptpm_clock_decide then says what the device did. After a restart the host only looks whether its
-   device has the change. While it is under way, ptpm_clock_take returns PTPM_UNDER_WAY for what the same manager asks of only
-   this clock. It returns that too for any datagram for which ptpm_clock_ask would return PTPM_ASKED_CHANGE. Of the owner's
-   requests only a SET of DOMAIN is answered so, by ptpm_clock_set too: in another domain the change would get no answer.
+   saves (ptpm_clock_saving). If ptpm_clock_ask would return PTPM_ASKED_CHANGE for the clock in its present state, the change is
+   under way, and in each image from now on. Then the clock is unsaved. The host saves it, ptpm_clock_saved returns PTPM_ACT_NOW
+   once, and the host asks its device. ptpm_clock_decide then says what the device did. After a restart the host only looks whether
+   its device has the change. While the change is under way, ptpm_clock_take returns PTPM_UNDER_WAY for each request of the same
+   manager that is addressed to exactly this clock. It returns PTPM_UNDER_WAY too for any datagram for which ptpm_clock_ask would
+   return PTPM_ASKED_CHANGE. Of the owner's requests only a SET of DOMAIN is answered so, by ptpm_clock_set too: in another domain
+   the change would get no answer.
    Takes:   what ptpm_clock_ask takes.
    Returns: PTPM_ASKED_CHANGE. PTPM_ASKED_VALUE and PTPM_ASKED_NOTHING as ptpm_clock_ask does, and nothing is kept. Or why not, the
             first of these: PTPM_NO_CLOCK, also for a clock that does not save, PTPM_NO_PORT, PTPM_UNSAVED and PTPM_UNDER_WAY. It
@@ -1108,12 +1109,14 @@ enum ptpm_asking ptpm_clock_under_way(const struct ptpm_clock *clock, struct ptp
             a clock that does not save, PTPM_NOTHING_UNDER_WAY, PTPM_NO_ROOM, PTPM_BAD_SAY, and PTPM_UNSAVED as at ptpm_clock_take.
    Writes:  what ptpm_clock_take writes.
    Caller:  after PTPM_UNSAVED takes the messages that were released or saves the clock, and calls again. If the device has the
-            change and the answer is not PTPM_ANSWERED_NEW, the caller undoes it: the restore was not given that manager. */
+            change and the answer is not PTPM_ANSWERED_NEW, the caller undoes the change: the clock was restored without that
+            manager. */
 enum ptpm_handled ptpm_clock_decide(struct ptpm_clock *clock, const struct ptpm_say *say, struct ptpm_sent *sent, size_t room,
                                     struct ptpm_taken *taken);
 
 /* Writes exactly the values of a range to a limit.
-   Takes:   the least and the most, each from -128 to 255. A number under 0 has the octet of an Integer8. Any other range has no value.
+   Takes:   the least and the most, each from -128 to 255. A number under 0 has the octet of an Integer8. A range that is not within
+            -128 to 255 leaves the limit without a value.
    Writes:  all of limit->values. */
 void ptpm_limit_range(struct ptpm_limit *limit, int32_t least, int32_t most);
 
@@ -1165,9 +1168,9 @@ enum ptpm_saved ptpm_clock_image(const struct ptpm_clock *clock, uint8_t *octets
 
 /* Writes the copies that a boundary clock forwards of a management message that this library does not read. Such a message is
    refused only for its actionField, its TLV or its displayData: PTPM_BAD_ACTION to PTPM_BAD_TEXT. It is forwarded like any other
-   message of sdoId 0 and the clock's domain. It has a hop left, is not for exactly this clock, and goes between ports that may
-   forward. Each copy has octet 45, boundaryHops, decremented. Every other octet is as it came. Nothing is answered, and nothing
-   changes. A host that wants such messages to pass calls it after ptpm_clock_take.
+   message of sdoId 0 and the clock's domain. That is only if it has a hop left and is not for exactly this clock, and only between
+   ports that may forward. Each copy has octet 45, boundaryHops, decremented. Every other octet is as it came. Nothing is answered,
+   and nothing changes. A host that wants such messages to pass calls it after ptpm_clock_take.
    Takes:   the port it came in at, and the datagram, of size octets; and room places, as many as the clock has ports, or more.
    Returns: how many copies there are: 0 for any other datagram, without a clock, for a port that it lacks, and for fewer places.
    Writes:  that many places of sent, each with its port. */
@@ -1205,8 +1208,8 @@ enum ptpm_saved ptpm_clock_image_of(struct ptpm_clock *clock, uint8_t *octets, s
 
 /* Takes the caller's word that a restart would find the image of this token. Strangers are shown what it has, and the messages that
    waited when it was made can be had (ptpm_clock_next).
-   Takes:   the token of the latest ptpm_clock_image_of, which counts once. If no change waited when its image was made, the token
-            does not count after an observation either.
+   Takes:   the token of the latest ptpm_clock_image_of, which counts once. An observation after the image also ends the token, if
+            no change waited when the image was made.
    Returns: PTPM_SAVED. PTPM_ACT_NOW if the image has a change that is still under way, once for each change and never for one that a
             restore found. Or PTPM_NO_CLOCK, also for a clock that does not save, or PTPM_OTHER_IMAGE for any other token, and then
             nothing changes.
@@ -1225,7 +1228,7 @@ size_t ptpm_clock_next(struct ptpm_clock *clock, struct ptpm_sent *message);
    clock. */
 size_t ptpm_clock_free(const struct ptpm_clock *clock);
 
-/* Returns 1 if a clock that saves has a change that is not saved, or was never saved. Otherwise it is 0. */
+/* Returns 1 if a clock that saves was never saved, or has a change that is not saved. Otherwise it returns 0. */
 uint32_t ptpm_clock_unsaved(const struct ptpm_clock *clock);
 
 /* Puts the clock of an image in the handle, instead of what it holds, which is then freed.
@@ -1368,9 +1371,9 @@ static inline void ptpm_session_stop_any(struct ptpm_session *session) {
 
 #define ptpm_session_stop(session) ptpm_session_stop_any(session)
 
-/* Starts a survey without answers instead of what the handle holds, which is freed first. A session of the same manager may treat
-   an answer to the survey's GET as its own. So the survey's manager has no session. It is another port of the same identity; port
-   0 stands for PTPM_SURVEY_PORT.
+/* Starts a survey, which has no answers yet, instead of what the handle holds; that is freed first. A session of the same manager
+   may treat an answer to the survey's GET as its own. So the survey's manager has no session. It is another port of the same
+   identity; port 0 stands for PTPM_SURVEY_PORT.
    Returns: PTPM_STARTED; or why not, and then the handle holds nothing.
    Memory:  the survey, until it is stopped.
    Caller:  stops the survey. */
@@ -1590,7 +1593,7 @@ enum ptpm_journaled ptpm_journal_add(struct ptpm_journal *journal, const struct 
 enum ptpm_journaled ptpm_journal_next(struct ptpm_journal *journal, const uint8_t *octets, size_t octet_count,
                                       struct ptpm_journal_record *record, size_t *size);
 
-/* Returns: what the journal says of a step, PTPM_MARK_UNTOUCHED and on. */
+/* Returns: what the journal says of a step, one of PTPM_MARK_UNTOUCHED to PTPM_MARK_NONE. */
 uint32_t ptpm_journal_mark(const struct ptpm_journal *journal, uint16_t step);
 
 /* Ends what the handle holds, if it holds anything. The handle then holds nothing, and may be started again. NULL as for
@@ -1790,7 +1793,7 @@ enum ptpm_member_kind {
     PTPM_IS_INTERVAL = 3,
     PTPM_IS_CLOCK = 4,                  /* a clockIdentity */
     PTPM_IS_PORT = 5,                   /* a portIdentity */
-    PTPM_IS_CLOCKS = 6,                 /* clockIdentities, with a space between two of them */
+    PTPM_IS_CLOCKS = 6,                 /* clockIdentities, with a space between each and the next */
     PTPM_IS_TEXT = 7,
     PTPM_IS_OCTETS = 8,
     PTPM_IS_PORT_STATE = 16,
