@@ -143,9 +143,9 @@ struct ptpm_port_settings {
 /* What a host observes about its clock, by its servo, its port state machines and its best master clock algorithm (clause 8.2 of
    IEEE 1588-2019). Start from all zeros, struct ptpm_observed_clock observed = { 0 }; a member without its has_ flag stays. A
    flag is set if it is not 0. A grandmaster is observed as a whole. If is_grandmaster is set, the grandmaster is the clock
-   itself, and the members of a grandmaster and of the parent port do not count. Otherwise, if has_grandmaster is set, it is the
-   one that these members name. If neither is set, the quality of a clock that is its own grandmaster is shown as its
-   grandmaster's too. What only managers set can't be observed. Managers may also set clock_accuracy, utc_offset, the two leaps
+   itself, and the members of a grandmaster and of the parent port do not count. Otherwise, if has_grandmaster is set, the
+   grandmaster is the one that these members name. If neither is set, the quality of a clock that is its own grandmaster is shown as
+   its grandmaster's too. What only managers set can't be observed. Managers may also set clock_accuracy, utc_offset, the two leaps
    and utc_valid: the later value counts. */
 struct ptpm_observed_clock {
     PTPM_AT_EIGHT int64_t offset_from_master; /* in nanoseconds times 2^16 */
@@ -195,7 +195,7 @@ struct ptpm_observed_clock {
 };
 
 /* What a host observes of a port. Only a manager's command enters or leaves state 3, DISABLED. An enabled port is not observed in
-   it, and a disabled port stays in it. A number that is not a portState counts as 3. */
+   that state, and a disabled port stays in it. A number that is not a portState counts as 3. */
 struct ptpm_observed_port {
     PTPM_AT_EIGHT int64_t peer_delay;   /* in nanoseconds times 2^16 */
     uint8_t state;                      /* portState, PTPM_STATE_INITIALIZING to PTPM_STATE_SLAVE */
@@ -206,8 +206,9 @@ struct ptpm_observed_port {
 enum { PTPM_CLOCK_SET = 1, PTPM_PORT_SET = 2, PTPM_PORT_COMMAND = 4 };
 
 /* Who may change the clock, and what. The library takes any value here. A manager with the identity of the clock itself is never
-   heard: what it sends is a PTPM_OWN_MESSAGE. One without rights may read: its requests are numbered, and saved. Other bits of the
-   rights than these three do not count. So a host whose settings come from people refuses such values itself, as ptpm-clock does. */
+   heard: what it sends is a PTPM_OWN_MESSAGE. A manager without rights may read: its requests are numbered, and saved. Other bits
+   of the rights than these three do not count. So a host whose settings come from people refuses such values itself, as ptpm-clock
+   does. */
 struct ptpm_manager_settings {
     uint8_t clock[8];
     uint16_t port;
@@ -294,7 +295,7 @@ struct ptpm_say {
 struct ptpm_limit {
     uint16_t id;                        /* managementId */
     uint16_t port;                      /* portNumber; 0xFFFF is every port */
-    uint8_t values[32];                 /* ptpm_limit_range writes them. All zeros: it has none */
+    uint8_t values[32];                 /* ptpm_limit_range writes them. All zeros: no value */
 };
 
 /* A session of a manager, about 1,600 octets at one pointer. All zeros hold no session. */
@@ -372,20 +373,20 @@ struct ptpm_journal { void *at; PTPM_TO_EIGHT bool live; bool restored; };
 /* A record of a journal. A member that its kind lacks is not read, and is written as 0. Steps count from 0. */
 struct ptpm_journal_record {
     PTPM_AT_EIGHT uint64_t time;        /* of PTPM_RECORD_BEGUN to PTPM_RECORD_END: in seconds since 1970 */
-    uint32_t first;                     /* of the first group of octets, its place among those that ptpm_journal_next was given */
-    uint32_t second;                    /* that of the second group; ptpm_journal_add reads neither place, and no size */
+    uint32_t first;                     /* the place of the first group of octets among those that ptpm_journal_next was given */
+    uint32_t second;                    /* the place of the second group; ptpm_journal_add reads neither place, and no size */
     uint16_t first_size;
     uint16_t second_size;
-    uint16_t count;                     /* PTPM_RECORD_HEAD: of the steps */
-    uint16_t port;                      /* PTPM_RECORD_HEAD: of the manager; PTPM_RECORD_STEP: as the host says */
+    uint16_t count;                     /* PTPM_RECORD_HEAD: how many steps there are */
+    uint16_t port;                      /* PTPM_RECORD_HEAD: the manager's; PTPM_RECORD_STEP: as the host says */
     uint16_t id;                        /* PTPM_RECORD_STEP: the managementId that is set */
-    uint16_t step;                      /* PTPM_RECORD_BEGUN to PTPM_RECORD_TOLD; PTPM_RECORD_END: at which it ended, or PTPM_NO_STEP */
+    uint16_t step;                      /* PTPM_RECORD_BEGUN to PTPM_RECORD_TOLD; PTPM_RECORD_END: at which the change ended, or PTPM_NO_STEP */
     uint16_t number;                    /* PTPM_RECORD_BEGUN: the sequenceId */
     uint16_t error;                     /* PTPM_RECORD_TOLD: the managementErrorId of a refusal */
-    uint8_t clock[8];                   /* PTPM_RECORD_HEAD: of the manager; PTPM_RECORD_STEP: which is changed */
+    uint8_t clock[8];                   /* PTPM_RECORD_HEAD: the manager's; PTPM_RECORD_STEP: the one that is changed */
     uint8_t kind;                       /* one of the names below */
     uint8_t flags;                      /* PTPM_RECORD_HEAD and PTPM_RECORD_POLICY: the sum of flags */
-    uint8_t together;                   /* the same: how many clocks are asked side by side */
+    uint8_t together;                   /* PTPM_RECORD_HEAD and PTPM_RECORD_POLICY: how many clocks are asked side by side */
     uint8_t domain;                     /* PTPM_RECORD_STEP */
     uint8_t group;                      /* PTPM_RECORD_STEP: the group of the plan, from 1 to 6 */
     uint8_t what;                       /* PTPM_RECORD_TOLD: the outcome; PTPM_RECORD_END: the ending; PTPM_RECORD_TEXT: as the host says */
@@ -394,10 +395,10 @@ struct ptpm_journal_record {
 
 /* The kinds of records. Two of them have two groups of octets, and two have one. */
 enum {
-    PTPM_RECORD_HEAD = 1,               /* comes first; its name, and that of the change that it rolls back: 255 octets each at most */
+    PTPM_RECORD_HEAD = 1,               /* comes first; the change's name, and that of the one that it rolls back: 255 octets each at most */
     PTPM_RECORD_STEP = 2,               /* these come next; the dataField before, and the one that is set: 4,096 octets each at most */
     PTPM_RECORD_BEGUN = 3,              /* a message of the step may leave from now on */
-    PTPM_RECORD_NOT_BEGUN = 4,          /* no message of it left after all */
+    PTPM_RECORD_NOT_BEGUN = 4,          /* no message of the step left after all */
     PTPM_RECORD_LET_GO = 5,             /* the step is given up: no run sends it again */
     PTPM_RECORD_TOLD = 6,               /* the step is answered; the dataField of the answer: 4,096 octets at most */
     PTPM_RECORD_POLICY = 7,             /* the flags and `together` from here on */
@@ -422,8 +423,8 @@ enum {
     PTPM_MARK_NONE = 6                  /* there is no such step */
 };
 
-/* A change of several clocks, as it goes on from its journal. A lane is a clock of it: the lanes are in the order of the clockIdentities. All
-   zeros hold none. */
+/* A change of several clocks, as it goes on from its journal. A lane is one of its clocks: the lanes are in the order of the
+   clockIdentities. All zeros hold none. */
 struct ptpm_rollout { void *at; PTPM_TO_EIGHT bool live; bool restored; };
 
 /* How a change goes on: it stops where a step fails, goes on at other clocks, or is given up, which sends nothing.
@@ -480,7 +481,7 @@ enum {
 /* Why a change stays open. */
 enum {
     PTPM_OPEN_SILENT = 1,               /* an answer is missing */
-    PTPM_OPEN_UNKNOWN = 2,              /* another program used the session of a step without an answer, or its file is gone */
+    PTPM_OPEN_UNKNOWN = 2,              /* another program used the session of a step without an answer, or the session's file is gone */
     PTPM_OPEN_NOT_WRITTEN = 3,
     PTPM_OPEN_INTERRUPTED = 4,
     PTPM_OPEN_SETTLED = 5               /* it was opened with PTPM_SETTLE_ALONE, and nothing of it is uncertain */
@@ -616,12 +617,12 @@ enum { PTPM_MOST_ANSWERS = 16384, PTPM_SURVEY_PORT = 65534 };
 #define PTPM_OTHER_SIZES 47             /* a struct of the caller has a different size than the library's */
 #define PTPM_GRANDMASTER_DIFFERS 50     /* a clock is its own grandmaster, with another priority or quality */
 #define PTPM_TOO_MANY_MANAGERS 51       /* over PTPM_MOST_MANAGERS */
-#define PTPM_MANAGER_TWICE 52           /* or `nobody` of an asker is its manager's port */
+#define PTPM_MANAGER_TWICE 52           /* a manager is given twice; or `nobody` of an asker is its manager's port */
 #define PTPM_IDENTITY_IS_ZERO 56        /* the clock's identity is all zeros */
 #define PTPM_UNSAVED 118                /* the clock is not saved, and this call needs a save first */
 #define PTPM_UNDER_WAY 123              /* a change of the device is under way, and this call has to wait for ptpm_clock_decide */
 #define PTPM_BAD_CLOCK_ACCURACY 70
-#define PTPM_BAD_LEAP59 88              /* both leaps */
+#define PTPM_BAD_LEAP59 88              /* both leaps are set */
 #define PTPM_BAD_STATE 94
 
 /* A type of answers has the four octets of the library's answers, even if -fshort-enums would give it one. In C clang takes the
@@ -664,7 +665,7 @@ __extension__ enum PTPM_FOUR_OCTETS(ptpm_started) {
     PTPM_BAD_LOG_MIN_PDELAY = 101
 };
 
-/* The members that are never out of range, since every value of their types is in it. No call returns these names;
+/* The members that are never out of range, since every value of their types is in range. No call returns these names;
    ptpm_answer_name knows them. */
 enum {
     PTPM_BAD_DOMAIN = 65, PTPM_BAD_TWO_STEP = 67, PTPM_BAD_PRIORITY1, PTPM_BAD_CLOCK_CLASS, PTPM_BAD_VARIANCE = 71,
@@ -686,7 +687,7 @@ __extension__ enum PTPM_FOUR_OCTETS(ptpm_handled) {
     PTPM_ANSWERED_NEW = 5,              /* a new request from a manager */
     PTPM_ANSWERED_REPEAT = 6,           /* the latest request of a manager again */
     PTPM_DROPPED_OLD = 7,               /* a manager's request older than its latest */
-    PTPM_DROPPED_CONFLICT = 8,          /* another request with the number of its latest */
+    PTPM_DROPPED_CONFLICT = 8,          /* another request with the number of the manager's latest */
     PTPM_ANSWERED_UNNUMBERED = 9,       /* a request from anyone else, or to every clock */
     PTPM_HANDLE_TOO_SHORT = PTPM_TOO_SHORT,
     PTPM_HANDLE_NOT_MANAGEMENT = PTPM_NOT_MANAGEMENT,
@@ -701,7 +702,7 @@ __extension__ enum PTPM_FOUR_OCTETS(ptpm_handled) {
     PTPM_HANDLE_NO_ROOM = PTPM_NO_ROOM, /* room is smaller than ptpm_clock_most_sent */
     PTPM_HANDLE_NO_MEMORY = PTPM_NO_MEMORY,
     PTPM_HANDLE_UNSAVED = PTPM_UNSAVED,
-    PTPM_BAD_SAY = 121,                 /* it is of an unknown kind, has an error that no device gives, or gives what can't be a dataField */
+    PTPM_BAD_SAY = 121,                 /* *say is of an unknown kind, has an error that no device gives, or gives what can't be a dataField */
     PTPM_HANDLE_UNDER_WAY = PTPM_UNDER_WAY, /* ptpm_clock_take */
     PTPM_NOTHING_UNDER_WAY = 124        /* ptpm_clock_decide */
 };
@@ -1035,8 +1036,8 @@ static inline enum ptpm_started ptpm_clock_start_sized(struct ptpm_clock *handle
 
 /* Judges a datagram that came in at a port, carries its request out, and makes what is to be sent.
    Takes:   the port, counted from 1; size octets; and room places, ptpm_clock_most_sent or more: one for a clock of one port.
-   Returns: what became of the datagram; or why it was not judged, and then *count is 0. That is PTPM_NO_CLOCK also for a clock
-            that saves (ptpm_clock_saving).
+   Returns: what became of the datagram; or why it was not judged, and then *count is 0. For a clock that saves (ptpm_clock_saving),
+            it is PTPM_NO_CLOCK too.
    Writes:  *count, and the first *count places of sent: of each its port, its size, and as many octets.
    Caller:  sends these messages in their order, each at its port. If the answer is PTPM_ANSWERED_NEW and the clock is to outlast
             a loss of power, the caller first saves its image. Until that is done it sends nothing, not even messages of later
@@ -1049,9 +1050,9 @@ enum ptpm_handled ptpm_clock_handle(struct ptpm_clock *clock, uint16_t port, con
    Takes:   the port, counted from 1; size octets.
    Returns: PTPM_ASKED_CHANGE or PTPM_ASKED_VALUE; PTPM_ASKED_NOTHING for any other datagram; or PTPM_NO_CLOCK or PTPM_NO_PORT.
    Writes:  *asked; all zeros unless one of the first two is returned.
-   Caller:  writes a change to its hardware, if that can do it, in a way that may be done twice. If power fails before the clock
-            is saved, the request comes again, and is new. For a device that is to be asked once there is ptpm_clock_undertake. A
-            value that is asked for is looked up in a list of the caller's own. */
+   Caller:  writes a change to its hardware, if the hardware can make it, in a way that may be done twice. If power fails before the
+            clock is saved, the request comes again, and is new. For a device that is to be asked once there is
+            ptpm_clock_undertake. A value that is asked for is looked up in a list of the caller's own. */
 enum ptpm_asking ptpm_clock_ask(const struct ptpm_clock *clock, uint16_t port, const uint8_t *datagram, size_t size,
                                 struct ptpm_question *asked);
 
@@ -1059,11 +1060,11 @@ enum ptpm_asking ptpm_clock_ask(const struct ptpm_clock *clock, uint16_t port, c
    the device objects where ptpm_clock_ask would return PTPM_ASKED_CHANGE, the request is answered and kept with that error, and
    no member changes. If it gives a value where ptpm_clock_ask would return PTPM_ASKED_VALUE, this is the answer of the clock. For
    the GET of a manager the value has 130 octets at most, since the answer is kept. A longer one is answered with RESPONSE_TOO_BIG
-   (1), and that is kept. For any other GET it has 1,418 at most, and nothing is kept. Each later copy of a request whose answer
-   is kept gets that answer. If the device is not asked, what it says does not count.
+   (1), and that is kept. For any other GET the value has 1,418 at most, and nothing is kept. Each later copy of a request whose
+   answer is kept gets that answer. If the device is not asked, what it says does not count.
    A request of the device's owner is judged as one of a manager with every right, and what the device says does not count. Nothing of
-   it is kept, so a copy of it is carried out again. A GET of the owner is answered PTPM_ANSWERED_UNNUMBERED.
-   At a clock that saves (ptpm_clock_saving) messages may wait for a save, as is said there.
+   it is kept, so a copy of it is carried out again. For a GET of the owner, PTPM_ANSWERED_UNNUMBERED is returned.
+   At a clock that saves (ptpm_clock_saving), messages may wait for a save, as is said there.
    Takes:   what ptpm_clock_handle takes; *say; and of_owner: 1 for a datagram of the owner, and 0 for any other.
    Returns: what became of the datagram; or why it was not judged, the first of these: PTPM_NO_CLOCK, PTPM_NO_PORT, PTPM_NO_ROOM,
             PTPM_BAD_SAY, PTPM_UNDER_WAY (ptpm_clock_undertake) and PTPM_UNSAVED. A datagram that is not judged counts as lost.
@@ -1072,8 +1073,8 @@ enum ptpm_asking ptpm_clock_ask(const struct ptpm_clock *clock, uint16_t port, c
             answer is PTPM_ANSWERED_NEW, nor after a GET or a request that was refused.
    Caller:  sends these messages in their order, each at its port, and then acts on each change. A clock that does not save is
             first saved, as after ptpm_clock_handle. If taken->waiting is not 0, the caller acts on the change once these messages
-            are given out. If it has written to its hardware and the answer is not PTPM_ANSWERED_NEW, it undoes that: another
-            request came in between. */
+            are given out. If the caller has written to its hardware and the answer is not PTPM_ANSWERED_NEW, it undoes the write:
+            another request came in between. */
 enum ptpm_handled ptpm_clock_take(struct ptpm_clock *clock, uint16_t port, const uint8_t *datagram, size_t size,
                                   const struct ptpm_say *say, uint8_t of_owner, struct ptpm_sent *sent, size_t room,
                                   struct ptpm_taken *taken);
@@ -1095,7 +1096,7 @@ enum ptpm_handled ptpm_clock_take(struct ptpm_clock *clock, uint16_t port, const
 enum ptpm_asking ptpm_clock_undertake(struct ptpm_clock *clock, uint16_t port, const uint8_t *datagram, size_t size,
                                       struct ptpm_question *asked);
 
-/* Says which change is under way. After a restore that is one whose device may have been asked.
+/* Says which change is under way. After a restore, the device may have been asked for it.
    Returns: PTPM_ASKED_CHANGE; PTPM_ASKED_NOTHING if none is; or PTPM_NO_CLOCK.
    Writes:  *asked, as ptpm_clock_undertake did; all zeros unless PTPM_ASKED_CHANGE is returned.
    Caller:  after a restore of its image looks whether its device has the change, and calls ptpm_clock_decide. */
@@ -1128,9 +1129,9 @@ void ptpm_limit_range(struct ptpm_limit *limit, int32_t least, int32_t most);
             USER_DESCRIPTION or UTC_PROPERTIES has no value in its first octet, so it never gets PTPM_ERROR_WRONG_VALUE. */
 uint16_t ptpm_limits_say(const struct ptpm_limit *limits, size_t limit_count, const struct ptpm_question *asked);
 
-/* Carries out a SET or a COMMAND of the device's owner, as one of a manager with every right. It is for a command line of the
-   device, or for another protocol of management. What is kept of each manager stays: a copy of its latest request gets the cached
-   answer. The host asks its hardware before: the device has no say here.
+/* Carries out a SET or a COMMAND of the device's owner, as one of a manager with every right. This call is for a command line of
+   the device, or for another protocol of management. What is kept of each manager stays: a copy of its latest request gets the
+   cached answer. The host asks its hardware before: the device has no say here.
    Takes:   the action, the id and the port of the target, counted from 1, or 0xFFFF for every port; size octets, the dataField.
    Returns: PTPM_SET_HERE; or why not, and then nothing changes.
    Writes:  *changed: the members that have another value after the call than before it; all zeros if the call is refused. *error:
@@ -1149,8 +1150,8 @@ enum ptpm_set_here ptpm_clock_set(struct ptpm_clock *clock, uint8_t action, uint
 enum ptpm_observed ptpm_clock_observe(struct ptpm_clock *clock, const struct ptpm_observed_clock *observed,
                                       const struct ptpm_observed_port *ports, size_t port_count, uint64_t *left);
 
-/* Reads the answer that a GET of a managementId would get. At a clock that saves (ptpm_clock_saving) that is what a stranger is
-   shown: nothing that is unsaved, except what was observed.
+/* Reads the answer that a GET of a managementId would get. At a clock that saves (ptpm_clock_saving), it is the answer that a
+   stranger gets: it shows nothing that is unsaved, except what was observed.
    Takes:   the id; a port of the clock, which matters only for an id of a port; and room octets, PTPM_MOST_READ or more.
    Returns: PTPM_READ, or why not.
    Writes:  *size, and as many octets from octets on: the dataField, whose members are where docs/protocol.md says ("dataFields"). *size
@@ -1170,22 +1171,23 @@ enum ptpm_saved ptpm_clock_image(const struct ptpm_clock *clock, uint8_t *octets
    refused only for its actionField, its TLV or its displayData: PTPM_BAD_ACTION to PTPM_BAD_TEXT. It is forwarded like any other
    message of sdoId 0 and the clock's domain. That is only if it has a hop left and is not for exactly this clock, and only between
    ports that may forward. Each copy has octet 45, boundaryHops, decremented. Every other octet is as it came. Nothing is answered,
-   and nothing changes. A host that wants such messages to pass calls it after ptpm_clock_take.
+   and nothing changes. A host that wants such messages to pass calls ptpm_clock_transit after ptpm_clock_take.
    Takes:   the port it came in at, and the datagram, of size octets; and room places, as many as the clock has ports, or more.
    Returns: how many copies there are: 0 for any other datagram, without a clock, for a port that it lacks, and for fewer places.
    Writes:  that many places of sent, each with its port. */
 size_t ptpm_clock_transit(const struct ptpm_clock *clock, uint16_t port, const uint8_t *datagram, size_t size, struct ptpm_sent *sent,
                           size_t room);
 
-/* Has a clock show no change before it is saved. Without it a host has to see to that itself, for each message that it sends. Such a
-   clock takes datagrams by ptpm_clock_take, also during a save. What a manager or the owner asks of it, and not of every clock, is carried
-   out at once. If that changed the clock, or something was unsaved before, its messages wait in the clock. That includes a repeat,
-   and all else the same manager sends. Anyone else is answered at once, by what was saved last and observed since.
+/* Has a clock show no change before it is saved. Without this call, a host has to see to that itself, for each message that it
+   sends. A clock that saves takes datagrams by ptpm_clock_take, also during a save. What a manager or the owner asks of this clock,
+   and not of every clock, is carried out at once. If the request changed the clock, or something was unsaved before, the messages
+   that it makes wait in the clock. That includes a repeat, and all else the same manager sends. Anyone else is answered at once, by
+   what was saved last and observed since.
    A save is: ptpm_clock_image_of, the image stored, and ptpm_clock_saved. Then ptpm_clock_next gives the messages that waited when
-   the image was made. What came later goes on waiting for the next image, unless it changed nothing. After a save that fails nothing
+   the image was made. What came later goes on waiting for the next image, unless it changed nothing. After a failed save, nothing
    has to be undone: the next image has all of it.
-   A clock that was just restored is saved. Any other clock is not: it takes no datagram before ptpm_clock_saved. Call it right after
-   the start or the restore.
+   A clock that was just restored is saved. Any other clock is not: it takes no datagram before ptpm_clock_saved. Call
+   ptpm_clock_saving right after the start or the restore.
    ptpm_clock_take returns PTPM_UNSAVED in three cases, and nothing changes. The first is any datagram before the first save of a
    clock that was not restored. The second is any datagram while ptpm_clock_next has a message to give. The third is a datagram
    whose messages would wait, if fewer than ptpm_clock_most_sent places are free (ptpm_clock_free).
@@ -1206,8 +1208,8 @@ enum ptpm_handled ptpm_clock_saving(struct ptpm_clock *clock, size_t places);
             power. Not before: what is sent earlier may be forgotten. */
 enum ptpm_saved ptpm_clock_image_of(struct ptpm_clock *clock, uint8_t *octets, size_t room, size_t *size, uint64_t *token);
 
-/* Takes the caller's word that a restart would find the image of this token. Strangers are shown what it has, and the messages that
-   waited when it was made can be had (ptpm_clock_next).
+/* Takes the caller's word that a restart would find the image of this token. Strangers are shown what the image has, and
+   ptpm_clock_next gives the messages that waited when the image was made.
    Takes:   the token of the latest ptpm_clock_image_of, which counts once. An observation after the image also ends the token, if
             no change waited when the image was made.
    Returns: PTPM_SAVED. PTPM_ACT_NOW if the image has a change that is still under way, once for each change and never for one that a
@@ -1256,7 +1258,7 @@ enum ptpm_restored ptpm_clock_restore(struct ptpm_clock *clock, const uint8_t id
 size_t ptpm_clock_most_sent(const struct ptpm_clock *clock);
 
 /* Ends what the handle holds, if it holds anything. The handle then holds nothing, and may be started again. NULL is allowed, as for
-   free, and nothing happens. It is not allowed where the function is called through a pointer, or by another language. */
+   free, and nothing happens. NULL is not allowed where the function is called through a pointer, or by another language. */
 void ptpm_clock_stop(struct ptpm_clock *clock);
 
 static inline void ptpm_clock_stop_any(struct ptpm_clock *clock) {
@@ -1371,9 +1373,9 @@ static inline void ptpm_session_stop_any(struct ptpm_session *session) {
 
 #define ptpm_session_stop(session) ptpm_session_stop_any(session)
 
-/* Starts a survey, which has no answers yet, instead of what the handle holds; that is freed first. A session of the same manager
-   may treat an answer to the survey's GET as its own. So the survey's manager has no session. It is another port of the same
-   identity; port 0 stands for PTPM_SURVEY_PORT.
+/* Starts a survey with no answers yet, instead of what the handle holds; that is freed first. A session of the same manager may
+   treat an answer to the survey's GET as its own. So the survey's manager must not have a session: use another port of the same
+   identity. Port 0 stands for PTPM_SURVEY_PORT.
    Returns: PTPM_STARTED; or why not, and then the handle holds nothing.
    Memory:  the survey, until it is stopped.
    Caller:  stops the survey. */
@@ -1386,10 +1388,10 @@ static inline enum ptpm_started ptpm_survey_start_sized(struct ptpm_survey *hand
     return answer != PTPM_STARTED ? answer : ptpm_survey_start(handle, settings);
 }
 
-/* Starts a survey of one clock, without answers, instead of what the handle holds, which is freed first. Every port of the
-   clock is asked, and another clock's answer is ignored (PTPM_OTHER_SOURCE). A clock treats such a GET from one of its managers
-   as a numbered request, like one of a session. And a session of the same manager may treat an answer as its own. So the
-   survey's manager is not one of the clock's, and has no session. It is another port of the same identity; port 0 stands for
+/* Starts a survey of one clock with no answers yet, instead of what the handle holds; that is freed first. Every port of the clock
+   is asked, and another clock's answer is ignored (PTPM_OTHER_SOURCE). A clock treats such a GET from one of its managers as a
+   numbered request, like one of a session. And a session of the same manager may treat an answer as its own. So the survey's
+   manager must not be one of the clock's, nor have a session: use another port of the same identity. Port 0 stands for
    PTPM_SURVEY_PORT.
    Takes:   the identity of the clock: a different one than the manager's, and neither all ones nor all zeros.
    Returns: PTPM_STARTED; or why not, and then the handle holds nothing.
@@ -1444,9 +1446,9 @@ static inline void ptpm_survey_stop_any(struct ptpm_survey *survey) {
 #define ptpm_survey_stop(survey) ptpm_survey_stop_any(survey)
 
 /* Starts an asker whose session has no file yet, instead of what the handle holds, which is freed first. An asker is handed what
-   came in and what was done, and hands out what is to be done next. It sends nothing before the host has saved it, and nothing
-   leaves the file before the host has noted its answer. So what an earlier run asked is completed, and no request is carried out
-   twice.
+   came in and what was done, and hands out what is to be done next. It sends no request before the host has saved that request, and
+   no request leaves the file before the host has noted its answer. So what an earlier run asked is completed, and no request is
+   carried out twice.
    Takes:   26 octets that are drawn at random. They are the dataField of the question whether a number is new.
    Returns: PTPM_STARTED; or why not, and then the handle holds nothing.
    Memory:  the asker, until it is stopped.
@@ -1485,7 +1487,7 @@ enum ptpm_asked ptpm_asker_ask(struct ptpm_asker *asker, uint64_t now, uint64_t 
    which it was asked, whichever is given. A GET is sent in the domain that is given, as is a SET that moves the clock to that
    domain.
    Takes:   the time, a number by which the host names the request, and a domain.
-   Returns: PTPM_ASKED; or PTPM_IDLE if there is none or the asker does not rest, and then nothing changes.
+   Returns: PTPM_ASKED; or PTPM_IDLE if there is no such request or the asker does not rest, and then nothing changes.
    Writes:  all of *handed. */
 enum ptpm_asked ptpm_asker_settle(struct ptpm_asker *asker, uint64_t now, uint64_t tag, uint8_t domain, struct ptpm_handed *handed);
 
@@ -1606,7 +1608,7 @@ static inline void ptpm_journal_stop_any(struct ptpm_journal *journal) {
 
 #define ptpm_journal_stop(journal) ptpm_journal_stop_any(journal)
 
-/* Opens a change of several clocks from its journal, instead of what the handle holds. It goes on where the journal ends.
+/* Opens a change of several clocks from its journal, instead of what the handle holds. The change goes on where the journal ends.
    Takes:   the octets of the journal's file; a new one has only the head and the steps. And PTPM_STOP_AT_FAILURE, PTPM_KEEP_GOING,
             PTPM_GIVE_UP or PTPM_SETTLE_ALONE. A journal with PTPM_RECORD_LET_GO is given up in any case.
    Returns: PTPM_ROLLED, or why not, and then the handle holds what it held.
@@ -1616,7 +1618,7 @@ static inline void ptpm_journal_stop_any(struct ptpm_journal *journal) {
 enum ptpm_rolled ptpm_rollout_open(struct ptpm_rollout *rollout, const uint8_t *journal, size_t size, uint32_t choice, size_t *whole);
 
 /* Hands in the outcome of the last action, and gives the next one.
-   Takes:   first PTPM_EVENT_BEGIN. The octets are of PTPM_EVENT_FOUND and PTPM_EVENT_VALUE.
+   Takes:   first PTPM_EVENT_BEGIN. Only PTPM_EVENT_FOUND and PTPM_EVENT_VALUE have octets.
    Returns: PTPM_ROLLED, or why not, and then nothing changes.
    Writes:  *action, all 0 if it is refused.
    Memory:  for the record that is to be noted. */
@@ -1673,9 +1675,9 @@ static inline size_t ptpm_newest_image(const uint8_t *octets, size_t place, size
     return place == 0 ? places : newest;
 }
 
-/* Says whether a message is to be forwarded, and if it is, records it. It is if no message with the same
-   sourcePortIdentity, sequenceId, targetPortIdentity, actionField and managementId is recorded, and there is a place to
-   record it. So a message that circulates is forwarded once, and one that keeps coming once in the time of a record.
+/* Says whether a message is to be forwarded, and if so, records it. It is to be forwarded if there is a place for it, and none with
+   the same sourcePortIdentity, sequenceId, targetPortIdentity, actionField and managementId is recorded. So a message that
+   circulates is forwarded once, and one that keeps coming once in the time of a record.
    Takes:   the message, of size octets; a time; and for how long it is recorded, in the unit of that time. Both are the host's.
    Returns: whether it is to be forwarded; false too for what is not a management message. One that the library does not
             read counts as one (ptpm_clock_transit).
@@ -1773,10 +1775,10 @@ bool ptpm_port_identity_parse(const char *text, size_t size, uint8_t clock[8], u
 /* The most octets that ptpm_field_text writes, of a dataField that a message can have. */
 enum { PTPM_MOST_FIELD_TEXT = 5034 };
 
-/* Gives the members of a dataField as text, one per line: its name in the standard (15.5.3), a space and its value, such as
-   "priority1 128". How each kind of value is written is in docs/ptpm.md. There is only one line if the octets are not a dataField
-   of the id, or it has no member. That is "value" and the octets in hexadecimal, or "value -" for none. The id may be one of
-   ptpm_other_id_at too.
+/* Gives a dataField's members as text, one per line: the member's name in the standard (15.5.3), a space and its value, such as
+   "priority1 128". How each kind of value is written is in docs/ptpm.md. If the octets are not a dataField of the id, or the
+   dataField has no member, there is only one line. It is "value" and the octets in hexadecimal, or "value -" for none. The id may
+   be one of ptpm_other_id_at too.
    Takes:   the managementId; a dataField of size octets; and room octets, for which PTPM_MOST_FIELD_TEXT is enough.
    Returns: how many octets the lines have; 0 if room is too small for all of them.
    Writes:  as many octets from text on: each line with its newline, and no zero after the last. If it returns 0, anything may be
@@ -1804,7 +1806,7 @@ enum ptpm_member_kind {
 
 /* Says what a member's value is. So a program that prints or stores members needs no list of their names.
    Takes:   the managementId; a dataField of size octets; and the place of the member's line in ptpm_field_text, from 0 on.
-   Returns: what its value is; or PTPM_NO_MEMBER if there is no such line, or it has the octets and no member. */
+   Returns: what its value is; or PTPM_NO_MEMBER if there is no such line, or the line has the octets and no member. */
 enum ptpm_member_kind ptpm_member_kind(uint16_t id, const uint8_t *octets, size_t size, size_t place);
 
 /* Gives the dataField of a SET from what a person types: the name of each member in the standard, in either case, and its value.
