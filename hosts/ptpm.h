@@ -583,13 +583,13 @@ enum { PTPM_MOST_ANSWERS = 16384, PTPM_SURVEY_PORT = 65534 };
 /* From now on a clock shows no change before it is saved (ptpm_clock_saving). */
 #define PTPM_SAVING 0
 
-/* A datagram is of another domain. */
+/* A datagram belongs to another domain. */
 #define PTPM_OTHER_DOMAIN 1
 
 /* Why a session or a survey ignores a datagram. It also ignores other domains, and what is not a management message. */
 #define PTPM_NOT_A_REPLY 10             /* its action is neither RESPONSE nor ACKNOWLEDGE */
 #define PTPM_OTHER_TARGET 11            /* its targetPortIdentity is not that of the manager */
-#define PTPM_OTHER_SOURCE 12            /* it is of another clock, or of a different port than the one asked */
+#define PTPM_OTHER_SOURCE 12            /* it is from another clock, or from a different port than the one asked */
 #define PTPM_OTHER_NUMBER 14            /* its sequenceId is not that of the request */
 #define PTPM_OTHER_CONTENT 15           /* it has another managementId, or its action answers no request of this action */
 
@@ -1656,7 +1656,7 @@ static inline enum ptpm_saved ptpm_image_seal(uint8_t *octets, size_t size, size
    seal does not matter.
    Takes:   size octets, what a file or a place of a flash memory has.
    Returns: PTPM_RESTORED; PTPM_NOT_AN_IMAGE; or PTPM_DAMAGED if octets are missing, the seal is missing, or octets are not those
-            that were sealed. The restore judges what the image is of.
+            that were sealed. The restore judges what kind of image it is, and whose.
    Writes:  *image: how many octets it has, from the first on; and *count, how often it was saved. If the call is refused, both
             are 0. */
 enum ptpm_restored ptpm_image_unseal(const uint8_t *octets, size_t size, uint64_t *count, size_t *image);
@@ -1731,7 +1731,7 @@ uint32_t ptpm_id_at(size_t place);
 size_t ptpm_id_name(uint16_t id, char *text, size_t room);
 
 /* The same three for managementIds that other clocks have and this profile lacks. ptpm_field_text writes their dataFields by their
-   members. Five are of the standard, such as CLOCK_DESCRIPTION, and five of linuxptp, such as TIME_STATUS_NP. */
+   members. Five are the standard's, such as CLOCK_DESCRIPTION, and five are linuxptp's, such as TIME_STATUS_NP. */
 uint32_t ptpm_other_id_named(const char *name, size_t size);
 uint32_t ptpm_other_id_at(size_t place);
 size_t ptpm_other_id_name(uint16_t id, char *text, size_t room);
@@ -1816,8 +1816,9 @@ enum ptpm_member_kind ptpm_member_kind(uint16_t id, const uint8_t *octets, size_
    hexadecimal. The clock decides whether it accepts the value.
    Takes:   the managementId; size octets of words in UTF-8, with a zero octet after each; and room octets, for which
             PTPM_MOST_READ is enough.
-   Returns: PTPM_PARSED; or the first of these in this order: PTPM_NOT_WORDS, PTPM_UNKNOWN_ID, PTPM_WORD_COUNT, that of a member,
-            PTPM_NO_ROOM. That of a member is PTPM_OTHER_NAME or PTPM_NO_VALUE, of the first member that has one of them.
+   Returns: PTPM_PARSED; or the first of these in this order: PTPM_NOT_WORDS, PTPM_UNKNOWN_ID, PTPM_WORD_COUNT, the refusal of a
+            member, PTPM_NO_ROOM. The refusal of a member is PTPM_OTHER_NAME or PTPM_NO_VALUE, whichever the first refused member
+            has.
    Writes:  *count, how many octets the dataField has, and as many octets from octets on. If it is refused, *count is 0 and no octet
             is written. *member, the place of the member with PTPM_OTHER_NAME or PTPM_NO_VALUE, from 0 on, and else 0. */
 enum ptpm_parsed ptpm_field_parse(uint16_t id, const char *words, size_t size, uint8_t *octets, size_t room, size_t *count,
