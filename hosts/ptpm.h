@@ -1051,7 +1051,7 @@ enum ptpm_handled ptpm_clock_handle(struct ptpm_clock *clock, uint16_t port, con
    Returns: PTPM_ASKED_CHANGE or PTPM_ASKED_VALUE; PTPM_ASKED_NOTHING for any other datagram; or PTPM_NO_CLOCK or PTPM_NO_PORT.
    Writes:  *asked; all zeros unless one of the first two is returned.
    Caller:  writes a change to its hardware, if the hardware can make it, in a way that may be done twice. If power fails before the
-            clock is saved, the request comes again, and is new. For a device that is to be asked once there is
+            clock is saved, the request comes again, and is new. For a device that is to be asked only once, there is
             ptpm_clock_undertake. A value that is asked for is looked up in a list of the caller's own. */
 enum ptpm_asking ptpm_clock_ask(const struct ptpm_clock *clock, uint16_t port, const uint8_t *datagram, size_t size,
                                 struct ptpm_question *asked);
@@ -1242,8 +1242,8 @@ uint32_t ptpm_clock_unsaved(const struct ptpm_clock *clock);
             PTPM_OTHER_CLOCK, PTPM_OTHER_PORTS and PTPM_NO_MEMORY. A change under way at a port over port_count is PTPM_DAMAGED
             too. Do not start a fresh clock after a refused restore: it would carry out requests again that were carried
             out before.
-   Writes:  *gone: the number of requests of the image whose managers are not among those that are given. They are forgotten. If
-            the call is refused it is 0.
+   Writes:  *gone: the number of requests of the image whose managers are not among those that are given. They are forgotten. If the
+            call is refused, it is 0.
    Memory:  the clock, until it is stopped, as much as for a start. Over eight ports also 160 octets for each port until the call
             returns, and PTPM_NO_MEMORY comes right after PTPM_OTHER_KIND.
    Caller:  stops the clock. */
@@ -1315,7 +1315,7 @@ enum ptpm_resumed ptpm_session_resume(struct ptpm_session *session, uint8_t atte
 /* Gives up the unanswered request, so that the next can be begun. Its number is used for no other, and an answer to it is
    ignored from then on. The clock may have carried it out, once, or may still: until it accepts a later request of this session.
    So once a later one is answered, the one that was given up was carried out before it, or never will be.
-   Returns: PTPM_GIVEN_UP; or PTPM_IDLE or PTPM_OUT_OF_REACH, and then nothing changes. After PTPM_OUT_OF_REACH send the request
+   Returns: PTPM_GIVEN_UP; or PTPM_IDLE or PTPM_OUT_OF_REACH, and then nothing changes. After PTPM_OUT_OF_REACH, send the request
             until it is answered: the clock might treat a number further ahead as an old one.
    Caller:  begins the next request before it ends, or saves the session's image. Otherwise a restart continues with
             the request that was given up. */
