@@ -143,15 +143,15 @@ struct ptpm_port_settings {
 /* What a host observes about its clock, by its servo, its port state machines and its best master clock algorithm (clause 8.2 of
    IEEE 1588-2019). Start from all zeros, struct ptpm_observed_clock observed = { 0 }; a member without its has_ flag stays. A
    flag is set if it is not 0. A grandmaster is observed as a whole. If is_grandmaster is set, the grandmaster is the clock
-   itself, and the members of a grandmaster and of the parent port do not count. Otherwise, if has_grandmaster is set, it is the
-   one that these members name. If neither is set, the quality of a clock that is its own grandmaster is shown as its
-   grandmaster's too. What only managers set can't be observed. Managers may also set clock_accuracy, utc_offset, the two leaps
+   itself, and the members of a grandmaster and of the parent port do not count. Otherwise, if has_grandmaster is set, the
+   grandmaster is the one that these members name. If neither is set, the quality of a clock that is its own grandmaster is shown as
+   its grandmaster's too. What only managers set can't be observed. Managers may also set clock_accuracy, utc_offset, the two leaps
    and utc_valid: the later value counts. */
 struct ptpm_observed_clock {
     PTPM_AT_EIGHT int64_t offset_from_master; /* in nanoseconds times 2^16 */
     int64_t mean_path_delay;            /* in nanoseconds times 2^16 */
     int32_t observed_rate;              /* observedParentClockPhaseChangeRate */
-    uint16_t variance;                  /* offsetScaledLogVariance of the clock itself, as clock_class and clock_accuracy */
+    uint16_t variance;                  /* offsetScaledLogVariance of the clock itself; clock_class and clock_accuracy are the clock's own too */
     uint16_t steps_removed;
     uint16_t observed_variance;         /* observedParentOffsetScaledLogVariance */
     uint16_t grandmaster_variance;      /* offsetScaledLogVariance of grandmasterClockQuality */
@@ -195,7 +195,7 @@ struct ptpm_observed_clock {
 };
 
 /* What a host observes of a port. Only a manager's command enters or leaves state 3, DISABLED. An enabled port is not observed in
-   it, and a disabled port stays in it. A number that is not a portState counts as 3. */
+   that state, and a disabled port stays in it. A number that is not a portState counts as 3. */
 struct ptpm_observed_port {
     PTPM_AT_EIGHT int64_t peer_delay;   /* in nanoseconds times 2^16 */
     uint8_t state;                      /* portState, PTPM_STATE_INITIALIZING to PTPM_STATE_SLAVE */
@@ -206,8 +206,9 @@ struct ptpm_observed_port {
 enum { PTPM_CLOCK_SET = 1, PTPM_PORT_SET = 2, PTPM_PORT_COMMAND = 4 };
 
 /* Who may change the clock, and what. The library takes any value here. A manager with the identity of the clock itself is never
-   heard: what it sends is a PTPM_OWN_MESSAGE. One without rights may read: its requests are numbered, and saved. Other bits of the
-   rights than these three do not count. So a host whose settings come from people refuses such values itself, as ptpm-clock does. */
+   heard: what it sends is a PTPM_OWN_MESSAGE. A manager without rights may read: its requests are numbered, and saved. Other bits
+   of the rights than these three do not count. So a host whose settings come from people refuses such values itself, as ptpm-clock
+   does. */
 struct ptpm_manager_settings {
     uint8_t clock[8];
     uint16_t port;
@@ -294,7 +295,7 @@ struct ptpm_say {
 struct ptpm_limit {
     uint16_t id;                        /* managementId */
     uint16_t port;                      /* portNumber; 0xFFFF is every port */
-    uint8_t values[32];                 /* ptpm_limit_range writes them. All zeros: it has none */
+    uint8_t values[32];                 /* ptpm_limit_range writes them. All zeros: no value */
 };
 
 /* A session of a manager, about 1,600 octets at one pointer. All zeros hold no session. */
@@ -320,10 +321,10 @@ enum { PTPM_GET = 0, PTPM_SET = 1, PTPM_COMMAND = 3 };
 /* A survey of a manager: what it asks and its answers, at one pointer. All zeros hold no survey. */
 struct ptpm_survey { void *at; PTPM_TO_EIGHT bool live; bool restored; };
 
-/* One manager, and the GET that it sends to every port of every clock, or of one. A clock answers a GET for every clock whatever
-   numbers it took from this manager before. A late answer to an earlier GET with the same number and id counts for this survey:
-   use a number with nothing in flight. No session may have the same portIdentity. Port 0 stands for PTPM_SURVEY_PORT, which no
-   session should have. */
+/* One manager, and the GET that it sends to every port of every clock, or of one. A clock answers a GET for every clock, whatever
+   numbers it took from this manager before. A late answer to an earlier GET with the same number and id counts for this survey: use
+   a number with nothing in flight. No session may have the same portIdentity. Port 0 stands for PTPM_SURVEY_PORT, which no session
+   should have. */
 struct ptpm_survey_settings {
     uint16_t port;                      /* portNumber of the manager; 0 for PTPM_SURVEY_PORT */
     uint16_t number;                    /* sequenceId */
@@ -351,7 +352,7 @@ struct ptpm_handed {
     uint32_t what;                      /* one of the names below */
     uint16_t number;                    /* the sequenceId of the request: after PTPM_NOTE_BEGUN and PTPM_NOTE_ANSWER */
     bool was_sent;                      /* after PTPM_FAILED: whether a message of the request left */
-    bool is_read_answered;              /* after PTPM_FAILED: whether the clock answered a read by nobody */
+    bool is_read_answered;              /* after PTPM_FAILED: whether the clock answered an anonymous read */
 };
 
 /* What an asker hands out. After PTPM_NOTE_BEGUN, PTPM_SAVE_IT and PTPM_NOTE_ANSWER it hands out nothing else before the host has done it. */
@@ -360,7 +361,7 @@ enum {
     PTPM_NOTE_BEGUN = 1,                /* note that this request is begun, and then call ptpm_asker_noted */
     PTPM_SAVE_IT = 2,                   /* save the session's image, and then call ptpm_asker_saved */
     PTPM_SEND_IT = 3,                   /* send the message */
-    PTPM_SEND_READ = 4,                 /* send the message; it is a read by nobody */
+    PTPM_SEND_READ = 4,                 /* send the message; it is an anonymous read, from the port `nobody` */
     PTPM_WAIT = 5,
     PTPM_NOTE_ANSWER = 6,               /* note what the report says, and then call ptpm_asker_noted */
     PTPM_FAILED = 7                     /* there is no answer */
@@ -372,20 +373,20 @@ struct ptpm_journal { void *at; PTPM_TO_EIGHT bool live; bool restored; };
 /* A record of a journal. A member that its kind lacks is not read, and is written as 0. Steps count from 0. */
 struct ptpm_journal_record {
     PTPM_AT_EIGHT uint64_t time;        /* of PTPM_RECORD_BEGUN to PTPM_RECORD_END: in seconds since 1970 */
-    uint32_t first;                     /* of the first group of octets, its place among those that ptpm_journal_next was given */
-    uint32_t second;                    /* that of the second group; ptpm_journal_add reads neither place, and no size */
+    uint32_t first;                     /* the place of the first group of octets among those that ptpm_journal_next was given */
+    uint32_t second;                    /* the place of the second group; ptpm_journal_add reads neither place, and no size */
     uint16_t first_size;
     uint16_t second_size;
-    uint16_t count;                     /* PTPM_RECORD_HEAD: of the steps */
-    uint16_t port;                      /* PTPM_RECORD_HEAD: of the manager; PTPM_RECORD_STEP: as the host says */
+    uint16_t count;                     /* PTPM_RECORD_HEAD: how many steps there are */
+    uint16_t port;                      /* PTPM_RECORD_HEAD: the manager's; PTPM_RECORD_STEP: as the host says */
     uint16_t id;                        /* PTPM_RECORD_STEP: the managementId that is set */
-    uint16_t step;                      /* PTPM_RECORD_BEGUN to PTPM_RECORD_TOLD; PTPM_RECORD_END: at which it ended, or PTPM_NO_STEP */
+    uint16_t step;                      /* PTPM_RECORD_BEGUN to PTPM_RECORD_TOLD; PTPM_RECORD_END: at which the change ended, or PTPM_NO_STEP */
     uint16_t number;                    /* PTPM_RECORD_BEGUN: the sequenceId */
     uint16_t error;                     /* PTPM_RECORD_TOLD: the managementErrorId of a refusal */
-    uint8_t clock[8];                   /* PTPM_RECORD_HEAD: of the manager; PTPM_RECORD_STEP: which is changed */
+    uint8_t clock[8];                   /* PTPM_RECORD_HEAD: the manager's; PTPM_RECORD_STEP: the one that is changed */
     uint8_t kind;                       /* one of the names below */
     uint8_t flags;                      /* PTPM_RECORD_HEAD and PTPM_RECORD_POLICY: the sum of flags */
-    uint8_t together;                   /* the same: how many clocks are asked side by side */
+    uint8_t together;                   /* PTPM_RECORD_HEAD and PTPM_RECORD_POLICY: how many clocks are asked side by side */
     uint8_t domain;                     /* PTPM_RECORD_STEP */
     uint8_t group;                      /* PTPM_RECORD_STEP: the group of the plan, from 1 to 6 */
     uint8_t what;                       /* PTPM_RECORD_TOLD: the outcome; PTPM_RECORD_END: the ending; PTPM_RECORD_TEXT: as the host says */
@@ -394,10 +395,10 @@ struct ptpm_journal_record {
 
 /* The kinds of records. Two of them have two groups of octets, and two have one. */
 enum {
-    PTPM_RECORD_HEAD = 1,               /* comes first; its name, and that of the change that it rolls back: 255 octets each at most */
+    PTPM_RECORD_HEAD = 1,               /* comes first; the change's name, and that of the one that it rolls back: 255 octets each at most */
     PTPM_RECORD_STEP = 2,               /* these come next; the dataField before, and the one that is set: 4,096 octets each at most */
     PTPM_RECORD_BEGUN = 3,              /* a message of the step may leave from now on */
-    PTPM_RECORD_NOT_BEGUN = 4,          /* no message of it left after all */
+    PTPM_RECORD_NOT_BEGUN = 4,          /* no message of the step left after all */
     PTPM_RECORD_LET_GO = 5,             /* the step is given up: no run sends it again */
     PTPM_RECORD_TOLD = 6,               /* the step is answered; the dataField of the answer: 4,096 octets at most */
     PTPM_RECORD_POLICY = 7,             /* the flags and `together` from here on */
@@ -422,8 +423,8 @@ enum {
     PTPM_MARK_NONE = 6                  /* there is no such step */
 };
 
-/* A change of several clocks, as it goes on from its journal. A lane is a clock of it: the lanes are in the order of the clockIdentities. All
-   zeros hold none. */
+/* A change of several clocks, as it goes on from its journal. A lane is one of its clocks: the lanes are in the order of the
+   clockIdentities. All zeros hold none. */
 struct ptpm_rollout { void *at; PTPM_TO_EIGHT bool live; bool restored; };
 
 /* How a change goes on: it stops where a step fails, goes on at other clocks, or is given up, which sends nothing.
@@ -466,9 +467,9 @@ struct ptpm_rollout_action {
 
 enum {
     PTPM_DO_LOOK = 1,                   /* hand in what the file of the lane's session has */
-    PTPM_DO_SETTLE = 2,                 /* send again what an earlier run left; without a step, what another program left */
+    PTPM_DO_SETTLE = 2,                 /* send again what an earlier run left, or, if step is PTPM_NO_STEP, what another program left */
     PTPM_DO_LET_GO = 3,                 /* give up what is under way in the session, and save that */
-    PTPM_DO_READ = 4,                   /* read the member of the step in this domain, by nobody */
+    PTPM_DO_READ = 4,                   /* read the member of the step in this domain, from the port `nobody` */
     PTPM_DO_CHECK = 5,                  /* say whether the change goes on: this step is the first one at another clock */
     PTPM_DO_ASK = 6,                    /* ask the step */
     PTPM_DO_NOTE = 7,                   /* append the record to the journal's file, and synchronize it */
@@ -480,7 +481,7 @@ enum {
 /* Why a change stays open. */
 enum {
     PTPM_OPEN_SILENT = 1,               /* an answer is missing */
-    PTPM_OPEN_UNKNOWN = 2,              /* another program used the session of a step without an answer, or its file is gone */
+    PTPM_OPEN_UNKNOWN = 2,              /* another program used the session of a step without an answer, or the session's file is gone */
     PTPM_OPEN_NOT_WRITTEN = 3,
     PTPM_OPEN_INTERRUPTED = 4,
     PTPM_OPEN_SETTLED = 5               /* it was opened with PTPM_SETTLE_ALONE, and nothing of it is uncertain */
@@ -512,7 +513,7 @@ struct ptpm_passed_on {
 struct ptpm_rate {
     PTPM_AT_EIGHT uint64_t rate;        /* tokens per second */
     uint64_t left;                      /* thousandths of a token */
-    uint64_t time;                      /* the latest that it was asked at, in milliseconds */
+    uint64_t time;                      /* the latest time at which it was asked, in milliseconds */
 };
 
 /* No compiler flag may lay a struct out differently from the library. If one does, the compiler refuses an array with the name
@@ -553,8 +554,8 @@ PTPM_HAS_SIZE(ptpm_rollout_action, 12);
 enum { PTPM_MOST_SENT = 15, PTPM_MOST_READ = 130, PTPM_MOST_OCTETS = 1472, PTPM_SESSION_IMAGE_OCTETS = 1478 };
 enum { PTPM_CLOCK_IMAGE_OCTETS = 27385 };
 
-/* The most messages that a clock with this number of ports sends for a datagram. The most octets of the image of a clock with this
-   number of ports, and this of managers. */
+/* The most messages that a clock with this number of ports sends for a datagram. The most octets of the image of a clock with these
+   numbers of ports and of managers. */
 #define PTPM_MOST_SENT_OF(ports) (2 * (ports) - 1)
 #define PTPM_CLOCK_IMAGE_BOUND(ports, managers) (417 + 15 * (ports) + (managers) * (1438 + 30 * ((ports) > 8 ? (ports) : 8)))
 
@@ -582,13 +583,13 @@ enum { PTPM_MOST_ANSWERS = 16384, PTPM_SURVEY_PORT = 65534 };
 /* From now on a clock shows no change before it is saved (ptpm_clock_saving). */
 #define PTPM_SAVING 0
 
-/* A datagram is of another domain. */
+/* A datagram belongs to another domain. */
 #define PTPM_OTHER_DOMAIN 1
 
 /* Why a session or a survey ignores a datagram. It also ignores other domains, and what is not a management message. */
 #define PTPM_NOT_A_REPLY 10             /* its action is neither RESPONSE nor ACKNOWLEDGE */
 #define PTPM_OTHER_TARGET 11            /* its targetPortIdentity is not that of the manager */
-#define PTPM_OTHER_SOURCE 12            /* it is of another clock, or of a different port than is asked */
+#define PTPM_OTHER_SOURCE 12            /* it is from another clock, or from a different port than the one asked */
 #define PTPM_OTHER_NUMBER 14            /* its sequenceId is not that of the request */
 #define PTPM_OTHER_CONTENT 15           /* it has another managementId, or its action answers no request of this action */
 
@@ -616,12 +617,12 @@ enum { PTPM_MOST_ANSWERS = 16384, PTPM_SURVEY_PORT = 65534 };
 #define PTPM_OTHER_SIZES 47             /* a struct of the caller has a different size than the library's */
 #define PTPM_GRANDMASTER_DIFFERS 50     /* a clock is its own grandmaster, with another priority or quality */
 #define PTPM_TOO_MANY_MANAGERS 51       /* over PTPM_MOST_MANAGERS */
-#define PTPM_MANAGER_TWICE 52           /* or `nobody` of an asker is its manager's port */
+#define PTPM_MANAGER_TWICE 52           /* a manager is given twice; or `nobody` of an asker is its manager's port */
 #define PTPM_IDENTITY_IS_ZERO 56        /* the clock's identity is all zeros */
 #define PTPM_UNSAVED 118                /* the clock is not saved, and this call needs a save first */
 #define PTPM_UNDER_WAY 123              /* a change of the device is under way, and this call has to wait for ptpm_clock_decide */
 #define PTPM_BAD_CLOCK_ACCURACY 70
-#define PTPM_BAD_LEAP59 88              /* both leaps */
+#define PTPM_BAD_LEAP59 88              /* both leaps are set */
 #define PTPM_BAD_STATE 94
 
 /* A type of answers has the four octets of the library's answers, even if -fshort-enums would give it one. In C clang takes the
@@ -664,7 +665,7 @@ __extension__ enum PTPM_FOUR_OCTETS(ptpm_started) {
     PTPM_BAD_LOG_MIN_PDELAY = 101
 };
 
-/* The members that are never out of range, since every value of their types is in it. No call returns these names;
+/* The members that are never out of range, since every value of their types is in range. No call returns these names;
    ptpm_answer_name knows them. */
 enum {
     PTPM_BAD_DOMAIN = 65, PTPM_BAD_TWO_STEP = 67, PTPM_BAD_PRIORITY1, PTPM_BAD_CLOCK_CLASS, PTPM_BAD_VARIANCE = 71,
@@ -686,7 +687,7 @@ __extension__ enum PTPM_FOUR_OCTETS(ptpm_handled) {
     PTPM_ANSWERED_NEW = 5,              /* a new request from a manager */
     PTPM_ANSWERED_REPEAT = 6,           /* the latest request of a manager again */
     PTPM_DROPPED_OLD = 7,               /* a manager's request older than its latest */
-    PTPM_DROPPED_CONFLICT = 8,          /* another request with the number of its latest */
+    PTPM_DROPPED_CONFLICT = 8,          /* another request with the number of the manager's latest */
     PTPM_ANSWERED_UNNUMBERED = 9,       /* a request from anyone else, or to every clock */
     PTPM_HANDLE_TOO_SHORT = PTPM_TOO_SHORT,
     PTPM_HANDLE_NOT_MANAGEMENT = PTPM_NOT_MANAGEMENT,
@@ -698,10 +699,10 @@ __extension__ enum PTPM_FOUR_OCTETS(ptpm_handled) {
     PTPM_HANDLE_BAD_TEXT = PTPM_BAD_TEXT,
     PTPM_HANDLE_NO_CLOCK = PTPM_NO_CLOCK,
     PTPM_HANDLE_NO_PORT = PTPM_NO_PORT,
-    PTPM_HANDLE_NO_ROOM = PTPM_NO_ROOM, /* for fewer than ptpm_clock_most_sent messages */
+    PTPM_HANDLE_NO_ROOM = PTPM_NO_ROOM, /* room is smaller than ptpm_clock_most_sent */
     PTPM_HANDLE_NO_MEMORY = PTPM_NO_MEMORY,
     PTPM_HANDLE_UNSAVED = PTPM_UNSAVED,
-    PTPM_BAD_SAY = 121,                 /* it is of an unknown kind, has an error that no device gives, or gives what can't be a dataField */
+    PTPM_BAD_SAY = 121,                 /* *say is of an unknown kind, has an error that no device gives, or gives what can't be a dataField */
     PTPM_HANDLE_UNDER_WAY = PTPM_UNDER_WAY, /* ptpm_clock_take */
     PTPM_NOTHING_UNDER_WAY = 124        /* ptpm_clock_decide */
 };
@@ -744,7 +745,7 @@ __extension__ enum PTPM_FOUR_OCTETS(ptpm_read) {
     PTPM_READ = 0,
     PTPM_READ_NO_CLOCK = PTPM_NO_CLOCK,
     PTPM_READ_NO_PORT = PTPM_NO_PORT,
-    PTPM_READ_NO_ROOM = PTPM_NO_ROOM,   /* for fewer than PTPM_MOST_READ octets */
+    PTPM_READ_NO_ROOM = PTPM_NO_ROOM,   /* room is smaller than PTPM_MOST_READ */
     PTPM_NOT_READABLE = 36              /* the id is not in the table, or permits no GET */
 };
 
@@ -763,7 +764,7 @@ __extension__ enum PTPM_FOUR_OCTETS(ptpm_begun) {
 /* ptpm_session_send and ptpm_survey_send. The second never returns PTPM_IDLE or PTPM_GAVE_UP. */
 __extension__ enum PTPM_FOUR_OCTETS(ptpm_sending) {
     PTPM_SENT = 0,
-    PTPM_SEND_NO_ROOM = PTPM_NO_ROOM,   /* for fewer than PTPM_MOST_OCTETS octets */
+    PTPM_SEND_NO_ROOM = PTPM_NO_ROOM,   /* room is smaller than PTPM_MOST_OCTETS */
     PTPM_SEND_NO_SESSION = PTPM_NO_SESSION,
     PTPM_SEND_IDLE = PTPM_IDLE,
     PTPM_GAVE_UP = 44,                  /* no attempts are left */
@@ -838,10 +839,10 @@ __extension__ enum PTPM_FOUR_OCTETS(ptpm_survey_received) {
 
 /* ptpm_session_report, ptpm_survey_answer and ptpm_asker_report. */
 __extension__ enum PTPM_FOUR_OCTETS(ptpm_reported) {
-    PTPM_VALUE = 0,                     /* the clock answered a dataField */
+    PTPM_VALUE = 0,                     /* the clock answered with a dataField */
     PTPM_DONE = 25,                     /* it carried a COMMAND out */
-    PTPM_REFUSED = 26,                  /* it answered a managementErrorId */
-    PTPM_REPORT_NO_ROOM = PTPM_NO_ROOM, /* for fewer octets than the dataField has */
+    PTPM_REFUSED = 26,                  /* it answered with a managementErrorId */
+    PTPM_REPORT_NO_ROOM = PTPM_NO_ROOM, /* room is smaller than the dataField */
     PTPM_REPORT_NO_SESSION = PTPM_NO_SESSION,
     PTPM_NO_REPORT = 45,                /* no request was begun, or the latest is not answered; the survey has no such answer */
     PTPM_REPORT_NO_SURVEY = PTPM_NO_SURVEY,
@@ -853,7 +854,7 @@ __extension__ enum PTPM_FOUR_OCTETS(ptpm_saved) {
     PTPM_SAVED = 0,
     PTPM_ACT_NOW = 31,                  /* ptpm_clock_saved: saved, and now the device is asked for what is under way */
     PTPM_SAVE_NO_CLOCK = PTPM_NO_CLOCK,
-    PTPM_SAVE_NO_ROOM = PTPM_NO_ROOM,   /* for fewer octets than the image has, or than it has with its seal */
+    PTPM_SAVE_NO_ROOM = PTPM_NO_ROOM,   /* room is smaller than the image, or than the image with its seal */
     PTPM_SAVE_NO_MEMORY = PTPM_NO_MEMORY, /* ptpm_clock_image_of, of a clock of over eight ports */
     PTPM_SAVE_NO_SESSION = PTPM_NO_SESSION,
     PTPM_OTHER_IMAGE = 119              /* not the latest image, or it counted already */
@@ -878,7 +879,7 @@ __extension__ enum PTPM_FOUR_OCTETS(ptpm_restored) {
 /* ptpm_field_parse. */
 __extension__ enum PTPM_FOUR_OCTETS(ptpm_parsed) {
     PTPM_PARSED = 0,
-    PTPM_PARSE_NO_ROOM = PTPM_NO_ROOM,  /* for fewer octets than the dataField has */
+    PTPM_PARSE_NO_ROOM = PTPM_NO_ROOM,  /* room is smaller than the dataField */
     PTPM_NOT_WORDS = 113,               /* there are octets and the last is not a zero, a word is not UTF-8, or there are over 20 words */
     PTPM_UNKNOWN_ID = 114,              /* this profile lacks the id */
     PTPM_WORD_COUNT = 115,              /* more or fewer words than a name and a value for each member */
@@ -907,7 +908,7 @@ __extension__ enum PTPM_FOUR_OCTETS(ptpm_asker_restored) {
 /* The other calls of an asker. Only ptpm_asker_ask returns PTPM_BUSY to PTPM_BAD_VALUE. */
 __extension__ enum PTPM_FOUR_OCTETS(ptpm_asked) {
     PTPM_ASKED = 0,
-    PTPM_ASK_NO_ROOM = PTPM_NO_ROOM,    /* for fewer octets than there are: ptpm_asker_message and ptpm_asker_image */
+    PTPM_ASK_NO_ROOM = PTPM_NO_ROOM,    /* room is smaller than the message or the image: ptpm_asker_message and ptpm_asker_image */
     PTPM_ASK_NO_MEMORY = PTPM_NO_MEMORY,
     PTPM_ASK_BUSY = PTPM_BUSY,          /* the asker does not rest, or a request of an earlier run is not settled */
     PTPM_ASK_NEEDS_PORT = PTPM_NEEDS_PORT,
@@ -927,7 +928,7 @@ __extension__ enum PTPM_FOUR_OCTETS(ptpm_journaled) {
     PTPM_JOURNAL_OTHER_VERSION = PTPM_OTHER_VERSION,    /* ptpm_journal_next */
     PTPM_JOURNAL_DAMAGED = PTPM_DAMAGED,                /* ptpm_journal_next: these octets are not a record that may come here */
     PTPM_JOURNAL_NO_JOURNAL = PTPM_NO_JOURNAL,
-    PTPM_NO_RECORD = 127,               /* ptpm_journal_add: it has no such kind, outcome or ending, or too many octets */
+    PTPM_NO_RECORD = 127,               /* ptpm_journal_add: the record's kind, outcome or ending does not exist, or it has too many octets */
     PTPM_NOT_ALLOWED = 128,             /* ptpm_journal_add: no run makes this record here */
     PTPM_JOURNAL_WHOLE = 129            /* ptpm_journal_next: there is no further record; octets that are left were torn */
 };
@@ -1035,8 +1036,8 @@ static inline enum ptpm_started ptpm_clock_start_sized(struct ptpm_clock *handle
 
 /* Judges a datagram that came in at a port, carries its request out, and makes what is to be sent.
    Takes:   the port, counted from 1; size octets; and room places, ptpm_clock_most_sent or more: one for a clock of one port.
-   Returns: what became of the datagram; or why it was not judged, and then *count is 0. That is PTPM_NO_CLOCK also for a clock
-            that saves (ptpm_clock_saving).
+   Returns: what became of the datagram; or why it was not judged, and then *count is 0. For a clock that saves (ptpm_clock_saving),
+            it is PTPM_NO_CLOCK too.
    Writes:  *count, and the first *count places of sent: of each its port, its size, and as many octets.
    Caller:  sends these messages in their order, each at its port. If the answer is PTPM_ANSWERED_NEW and the clock is to outlast
             a loss of power, the caller first saves its image. Until that is done it sends nothing, not even messages of later
@@ -1049,9 +1050,9 @@ enum ptpm_handled ptpm_clock_handle(struct ptpm_clock *clock, uint16_t port, con
    Takes:   the port, counted from 1; size octets.
    Returns: PTPM_ASKED_CHANGE or PTPM_ASKED_VALUE; PTPM_ASKED_NOTHING for any other datagram; or PTPM_NO_CLOCK or PTPM_NO_PORT.
    Writes:  *asked; all zeros unless one of the first two is returned.
-   Caller:  writes a change to its hardware, if that can do it, in a way that may be done twice. If power fails before the clock
-            is saved, the request comes again, and is new. For a device that is to be asked once there is ptpm_clock_undertake. A
-            value that is asked for is looked up in a list of the caller's own. */
+   Caller:  writes a change to its hardware, if the hardware can make it, in a way that may be done twice. If power fails before the
+            clock is saved, the request comes again, and is new. For a device that is to be asked only once, there is
+            ptpm_clock_undertake. A value that is asked for is looked up in a list of the caller's own. */
 enum ptpm_asking ptpm_clock_ask(const struct ptpm_clock *clock, uint16_t port, const uint8_t *datagram, size_t size,
                                 struct ptpm_question *asked);
 
@@ -1059,11 +1060,11 @@ enum ptpm_asking ptpm_clock_ask(const struct ptpm_clock *clock, uint16_t port, c
    the device objects where ptpm_clock_ask would return PTPM_ASKED_CHANGE, the request is answered and kept with that error, and
    no member changes. If it gives a value where ptpm_clock_ask would return PTPM_ASKED_VALUE, this is the answer of the clock. For
    the GET of a manager the value has 130 octets at most, since the answer is kept. A longer one is answered with RESPONSE_TOO_BIG
-   (1), and that is kept. For any other GET it has 1,418 at most, and nothing is kept. Each later copy of a request whose answer
-   is kept gets that answer. If the device is not asked, what it says does not count.
+   (1), and that is kept. For any other GET the value has 1,418 at most, and nothing is kept. Each later copy of a request whose
+   answer is kept gets that answer. If the device is not asked, what it says does not count.
    A request of the device's owner is judged as one of a manager with every right, and what the device says does not count. Nothing of
-   it is kept, so a copy of it is carried out again. A GET of the owner is answered PTPM_ANSWERED_UNNUMBERED.
-   At a clock that saves (ptpm_clock_saving) messages may wait for a save, as is said there.
+   it is kept, so a copy of it is carried out again. For a GET of the owner, PTPM_ANSWERED_UNNUMBERED is returned.
+   At a clock that saves (ptpm_clock_saving), messages may wait for a save, as is said there.
    Takes:   what ptpm_clock_handle takes; *say; and of_owner: 1 for a datagram of the owner, and 0 for any other.
    Returns: what became of the datagram; or why it was not judged, the first of these: PTPM_NO_CLOCK, PTPM_NO_PORT, PTPM_NO_ROOM,
             PTPM_BAD_SAY, PTPM_UNDER_WAY (ptpm_clock_undertake) and PTPM_UNSAVED. A datagram that is not judged counts as lost.
@@ -1072,19 +1073,20 @@ enum ptpm_asking ptpm_clock_ask(const struct ptpm_clock *clock, uint16_t port, c
             answer is PTPM_ANSWERED_NEW, nor after a GET or a request that was refused.
    Caller:  sends these messages in their order, each at its port, and then acts on each change. A clock that does not save is
             first saved, as after ptpm_clock_handle. If taken->waiting is not 0, the caller acts on the change once these messages
-            are given out. If it has written to its hardware and the answer is not PTPM_ANSWERED_NEW, it undoes that: another
-            request came in between. */
+            are given out. If the caller has written to its hardware and the answer is not PTPM_ANSWERED_NEW, it undoes the write:
+            another request came in between. */
 enum ptpm_handled ptpm_clock_take(struct ptpm_clock *clock, uint16_t port, const uint8_t *datagram, size_t size,
                                   const struct ptpm_say *say, uint8_t of_owner, struct ptpm_sent *sent, size_t room,
                                   struct ptpm_taken *taken);
 
 /* Keeps a change as under way, so that the device is asked for it once, whatever happens to the power. It is for a clock that
-   saves (ptpm_clock_saving). If ptpm_clock_ask, by the clock as it is, would return PTPM_ASKED_CHANGE, the change is under way,
-   and in each image from now on. Then the clock is unsaved. The host saves it, ptpm_clock_saved returns PTPM_ACT_NOW once, and
-   the host asks its device. ptpm_clock_decide then says what the device did. After a restart the host only looks whether its
-   device has the change. While it is under way, ptpm_clock_take returns PTPM_UNDER_WAY for what the same manager asks of only
-   this clock. It returns that too for any datagram for which ptpm_clock_ask would return PTPM_ASKED_CHANGE. Of the owner's
-   requests only a SET of DOMAIN is answered so, by ptpm_clock_set too: in another domain the change would get no answer.
+   saves (ptpm_clock_saving). If ptpm_clock_ask would return PTPM_ASKED_CHANGE for the clock in its present state, the change is
+   under way, and in each image from now on. Then the clock is unsaved. The host saves it, ptpm_clock_saved returns PTPM_ACT_NOW
+   once, and the host asks its device. ptpm_clock_decide then says what the device did. After a restart the host only looks whether
+   its device has the change. While the change is under way, ptpm_clock_take returns PTPM_UNDER_WAY for each request of the same
+   manager that is addressed to exactly this clock. It returns PTPM_UNDER_WAY too for any datagram for which ptpm_clock_ask would
+   return PTPM_ASKED_CHANGE. Of the owner's requests only a SET of DOMAIN is answered so, by ptpm_clock_set too: in another domain
+   the change would get no answer.
    Takes:   what ptpm_clock_ask takes.
    Returns: PTPM_ASKED_CHANGE. PTPM_ASKED_VALUE and PTPM_ASKED_NOTHING as ptpm_clock_ask does, and nothing is kept. Or why not, the
             first of these: PTPM_NO_CLOCK, also for a clock that does not save, PTPM_NO_PORT, PTPM_UNSAVED and PTPM_UNDER_WAY. It
@@ -1094,7 +1096,7 @@ enum ptpm_handled ptpm_clock_take(struct ptpm_clock *clock, uint16_t port, const
 enum ptpm_asking ptpm_clock_undertake(struct ptpm_clock *clock, uint16_t port, const uint8_t *datagram, size_t size,
                                       struct ptpm_question *asked);
 
-/* Says which change is under way. After a restore that is one whose device may have been asked.
+/* Says which change is under way. After a restore, the device may have been asked for it.
    Returns: PTPM_ASKED_CHANGE; PTPM_ASKED_NOTHING if none is; or PTPM_NO_CLOCK.
    Writes:  *asked, as ptpm_clock_undertake did; all zeros unless PTPM_ASKED_CHANGE is returned.
    Caller:  after a restore of its image looks whether its device has the change, and calls ptpm_clock_decide. */
@@ -1108,12 +1110,14 @@ enum ptpm_asking ptpm_clock_under_way(const struct ptpm_clock *clock, struct ptp
             a clock that does not save, PTPM_NOTHING_UNDER_WAY, PTPM_NO_ROOM, PTPM_BAD_SAY, and PTPM_UNSAVED as at ptpm_clock_take.
    Writes:  what ptpm_clock_take writes.
    Caller:  after PTPM_UNSAVED takes the messages that were released or saves the clock, and calls again. If the device has the
-            change and the answer is not PTPM_ANSWERED_NEW, the caller undoes it: the restore was not given that manager. */
+            change and the answer is not PTPM_ANSWERED_NEW, the caller undoes the change: the clock was restored without that
+            manager. */
 enum ptpm_handled ptpm_clock_decide(struct ptpm_clock *clock, const struct ptpm_say *say, struct ptpm_sent *sent, size_t room,
                                     struct ptpm_taken *taken);
 
 /* Writes exactly the values of a range to a limit.
-   Takes:   the least and the most, each from -128 to 255. A number under 0 has the octet of an Integer8. Any other range has no value.
+   Takes:   the least and the most, each from -128 to 255. A number under 0 has the octet of an Integer8. A range that is not within
+            -128 to 255 leaves the limit without a value.
    Writes:  all of limit->values. */
 void ptpm_limit_range(struct ptpm_limit *limit, int32_t least, int32_t most);
 
@@ -1125,9 +1129,9 @@ void ptpm_limit_range(struct ptpm_limit *limit, int32_t least, int32_t most);
             USER_DESCRIPTION or UTC_PROPERTIES has no value in its first octet, so it never gets PTPM_ERROR_WRONG_VALUE. */
 uint16_t ptpm_limits_say(const struct ptpm_limit *limits, size_t limit_count, const struct ptpm_question *asked);
 
-/* Carries out a SET or a COMMAND of the device's owner, as one of a manager with every right. It is for a command line of the
-   device, or for another protocol of management. What is kept of each manager stays: a copy of its latest request gets the cached
-   answer. The host asks its hardware before: the device has no say here.
+/* Carries out a SET or a COMMAND of the device's owner, as one of a manager with every right. This call is for a command line of
+   the device, or for another protocol of management. What is kept of each manager stays: a copy of its latest request gets the
+   cached answer. The host asks its hardware before: the device has no say here.
    Takes:   the action, the id and the port of the target, counted from 1, or 0xFFFF for every port; size octets, the dataField.
    Returns: PTPM_SET_HERE; or why not, and then nothing changes.
    Writes:  *changed: the members that have another value after the call than before it; all zeros if the call is refused. *error:
@@ -1146,8 +1150,8 @@ enum ptpm_set_here ptpm_clock_set(struct ptpm_clock *clock, uint8_t action, uint
 enum ptpm_observed ptpm_clock_observe(struct ptpm_clock *clock, const struct ptpm_observed_clock *observed,
                                       const struct ptpm_observed_port *ports, size_t port_count, uint64_t *left);
 
-/* Reads the answer that a GET of a managementId would get. At a clock that saves (ptpm_clock_saving) that is what a stranger is
-   shown: nothing that is unsaved, except what was observed.
+/* Reads the answer that a GET of a managementId would get. At a clock that saves (ptpm_clock_saving), it is the answer that a
+   stranger gets: it shows nothing that is unsaved, except what was observed.
    Takes:   the id; a port of the clock, which matters only for an id of a port; and room octets, PTPM_MOST_READ or more.
    Returns: PTPM_READ, or why not.
    Writes:  *size, and as many octets from octets on: the dataField, whose members are where docs/protocol.md says ("dataFields"). *size
@@ -1165,24 +1169,25 @@ enum ptpm_saved ptpm_clock_image(const struct ptpm_clock *clock, uint8_t *octets
 
 /* Writes the copies that a boundary clock forwards of a management message that this library does not read. Such a message is
    refused only for its actionField, its TLV or its displayData: PTPM_BAD_ACTION to PTPM_BAD_TEXT. It is forwarded like any other
-   message of sdoId 0 and the clock's domain. It has a hop left, is not for exactly this clock, and goes between ports that may
-   forward. Each copy has octet 45, boundaryHops, decremented. Every other octet is as it came. Nothing is answered, and nothing
-   changes. A host that wants such messages to pass calls it after ptpm_clock_take.
+   message of sdoId 0 and the clock's domain. That is only if it has a hop left and is not for exactly this clock, and only between
+   ports that may forward. Each copy has octet 45, boundaryHops, decremented. Every other octet is as it came. Nothing is answered,
+   and nothing changes. A host that wants such messages to pass calls ptpm_clock_transit after ptpm_clock_take.
    Takes:   the port it came in at, and the datagram, of size octets; and room places, as many as the clock has ports, or more.
    Returns: how many copies there are: 0 for any other datagram, without a clock, for a port that it lacks, and for fewer places.
    Writes:  that many places of sent, each with its port. */
 size_t ptpm_clock_transit(const struct ptpm_clock *clock, uint16_t port, const uint8_t *datagram, size_t size, struct ptpm_sent *sent,
                           size_t room);
 
-/* Has a clock show no change before it is saved. Without it a host has to see to that itself, for each message that it sends. Such a
-   clock takes datagrams by ptpm_clock_take, also during a save. What a manager or the owner asks of it, and not of every clock, is carried
-   out at once. If that changed the clock, or something was unsaved before, its messages wait in the clock. That includes a repeat,
-   and all else the same manager sends. Anyone else is answered at once, by what was saved last and observed since.
+/* Has a clock show no change before it is saved. Without this call, a host has to see to that itself, for each message that it
+   sends. A clock that saves takes datagrams by ptpm_clock_take, also during a save. What a manager or the owner asks of this clock,
+   and not of every clock, is carried out at once. If the request changed the clock, or something was unsaved before, the messages
+   that it makes wait in the clock. That includes a repeat, and all else the same manager sends. Anyone else is answered at once, by
+   what was saved last and observed since.
    A save is: ptpm_clock_image_of, the image stored, and ptpm_clock_saved. Then ptpm_clock_next gives the messages that waited when
-   the image was made. What came later goes on waiting for the next image, unless it changed nothing. After a save that fails nothing
+   the image was made. What came later goes on waiting for the next image, unless it changed nothing. After a failed save, nothing
    has to be undone: the next image has all of it.
-   A clock that was just restored is saved. Any other clock is not: it takes no datagram before ptpm_clock_saved. Call it right after
-   the start or the restore.
+   A clock that was just restored is saved. Any other clock is not: it takes no datagram before ptpm_clock_saved. Call
+   ptpm_clock_saving right after the start or the restore.
    ptpm_clock_take returns PTPM_UNSAVED in three cases, and nothing changes. The first is any datagram before the first save of a
    clock that was not restored. The second is any datagram while ptpm_clock_next has a message to give. The third is a datagram
    whose messages would wait, if fewer than ptpm_clock_most_sent places are free (ptpm_clock_free).
@@ -1203,10 +1208,10 @@ enum ptpm_handled ptpm_clock_saving(struct ptpm_clock *clock, size_t places);
             power. Not before: what is sent earlier may be forgotten. */
 enum ptpm_saved ptpm_clock_image_of(struct ptpm_clock *clock, uint8_t *octets, size_t room, size_t *size, uint64_t *token);
 
-/* Takes the caller's word that a restart would find the image of this token. Strangers are shown what it has, and the messages that
-   waited when it was made can be had (ptpm_clock_next).
-   Takes:   the token of the latest ptpm_clock_image_of, which counts once. If no change waited when its image was made, the token
-            does not count after an observation either.
+/* Takes the caller's word that a restart would find the image of this token. Strangers are shown what the image has, and
+   ptpm_clock_next gives the messages that waited when the image was made.
+   Takes:   the token of the latest ptpm_clock_image_of, which counts once. An observation after the image also ends the token, if
+            no change waited when the image was made.
    Returns: PTPM_SAVED. PTPM_ACT_NOW if the image has a change that is still under way, once for each change and never for one that a
             restore found. Or PTPM_NO_CLOCK, also for a clock that does not save, or PTPM_OTHER_IMAGE for any other token, and then
             nothing changes.
@@ -1225,7 +1230,7 @@ size_t ptpm_clock_next(struct ptpm_clock *clock, struct ptpm_sent *message);
    clock. */
 size_t ptpm_clock_free(const struct ptpm_clock *clock);
 
-/* Returns 1 if a clock that saves has a change that is not saved, or was never saved. Otherwise it is 0. */
+/* Returns 1 if a clock that saves was never saved, or has a change that is not saved. Otherwise it returns 0. */
 uint32_t ptpm_clock_unsaved(const struct ptpm_clock *clock);
 
 /* Puts the clock of an image in the handle, instead of what it holds, which is then freed.
@@ -1237,8 +1242,8 @@ uint32_t ptpm_clock_unsaved(const struct ptpm_clock *clock);
             PTPM_OTHER_CLOCK, PTPM_OTHER_PORTS and PTPM_NO_MEMORY. A change under way at a port over port_count is PTPM_DAMAGED
             too. Do not start a fresh clock after a refused restore: it would carry out requests again that were carried
             out before.
-   Writes:  *gone: the number of requests of the image whose managers are not among those that are given. They are forgotten. If
-            the call is refused it is 0.
+   Writes:  *gone: the number of requests of the image whose managers are not among those that are given. They are forgotten. If the
+            call is refused, it is 0.
    Memory:  the clock, until it is stopped, as much as for a start. Over eight ports also 160 octets for each port until the call
             returns, and PTPM_NO_MEMORY comes right after PTPM_OTHER_KIND.
    Caller:  stops the clock. */
@@ -1253,7 +1258,7 @@ enum ptpm_restored ptpm_clock_restore(struct ptpm_clock *clock, const uint8_t id
 size_t ptpm_clock_most_sent(const struct ptpm_clock *clock);
 
 /* Ends what the handle holds, if it holds anything. The handle then holds nothing, and may be started again. NULL is allowed, as for
-   free, and nothing happens. It is not allowed where the function is called through a pointer, or by another language. */
+   free, and nothing happens. NULL is not allowed where the function is called through a pointer, or by another language. */
 void ptpm_clock_stop(struct ptpm_clock *clock);
 
 static inline void ptpm_clock_stop_any(struct ptpm_clock *clock) {
@@ -1310,7 +1315,7 @@ enum ptpm_resumed ptpm_session_resume(struct ptpm_session *session, uint8_t atte
 /* Gives up the unanswered request, so that the next can be begun. Its number is used for no other, and an answer to it is
    ignored from then on. The clock may have carried it out, once, or may still: until it accepts a later request of this session.
    So once a later one is answered, the one that was given up was carried out before it, or never will be.
-   Returns: PTPM_GIVEN_UP; or PTPM_IDLE or PTPM_OUT_OF_REACH, and then nothing changes. After PTPM_OUT_OF_REACH send the request
+   Returns: PTPM_GIVEN_UP; or PTPM_IDLE or PTPM_OUT_OF_REACH, and then nothing changes. After PTPM_OUT_OF_REACH, send the request
             until it is answered: the clock might treat a number further ahead as an old one.
    Caller:  begins the next request before it ends, or saves the session's image. Otherwise a restart continues with
             the request that was given up. */
@@ -1368,9 +1373,9 @@ static inline void ptpm_session_stop_any(struct ptpm_session *session) {
 
 #define ptpm_session_stop(session) ptpm_session_stop_any(session)
 
-/* Starts a survey without answers instead of what the handle holds, which is freed first. A session of the same manager may treat
-   an answer to the survey's GET as its own. So the survey's manager has no session. It is another port of the same identity; port
-   0 stands for PTPM_SURVEY_PORT.
+/* Starts a survey with no answers yet, instead of what the handle holds; that is freed first. A session of the same manager may
+   treat an answer to the survey's GET as its own. So the survey's manager must not have a session: use another port of the same
+   identity. Port 0 stands for PTPM_SURVEY_PORT.
    Returns: PTPM_STARTED; or why not, and then the handle holds nothing.
    Memory:  the survey, until it is stopped.
    Caller:  stops the survey. */
@@ -1383,10 +1388,10 @@ static inline enum ptpm_started ptpm_survey_start_sized(struct ptpm_survey *hand
     return answer != PTPM_STARTED ? answer : ptpm_survey_start(handle, settings);
 }
 
-/* Starts a survey of one clock, without answers, instead of what the handle holds, which is freed first. Every port of the
-   clock is asked, and another clock's answer is ignored (PTPM_OTHER_SOURCE). A clock treats such a GET from one of its managers
-   as a numbered request, like one of a session. And a session of the same manager may treat an answer as its own. So the
-   survey's manager is not one of the clock's, and has no session. It is another port of the same identity; port 0 stands for
+/* Starts a survey of one clock with no answers yet, instead of what the handle holds; that is freed first. Every port of the clock
+   is asked, and another clock's answer is ignored (PTPM_OTHER_SOURCE). A clock treats such a GET from one of its managers as a
+   numbered request, like one of a session. And a session of the same manager may treat an answer as its own. So the survey's
+   manager must not be one of the clock's, nor have a session: use another port of the same identity. Port 0 stands for
    PTPM_SURVEY_PORT.
    Takes:   the identity of the clock: a different one than the manager's, and neither all ones nor all zeros.
    Returns: PTPM_STARTED; or why not, and then the handle holds nothing.
@@ -1441,9 +1446,9 @@ static inline void ptpm_survey_stop_any(struct ptpm_survey *survey) {
 #define ptpm_survey_stop(survey) ptpm_survey_stop_any(survey)
 
 /* Starts an asker whose session has no file yet, instead of what the handle holds, which is freed first. An asker is handed what
-   came in and what was done, and hands out what is to be done next. It sends nothing before the host has saved it, and nothing
-   leaves the file before the host has noted its answer. So what an earlier run asked is completed, and no request is carried out
-   twice.
+   came in and what was done, and hands out what is to be done next. It sends no request before the host has saved that request, and
+   no request leaves the file before the host has noted its answer. So what an earlier run asked is completed, and no request is
+   carried out twice.
    Takes:   26 octets that are drawn at random. They are the dataField of the question whether a number is new.
    Returns: PTPM_STARTED; or why not, and then the handle holds nothing.
    Memory:  the asker, until it is stopped.
@@ -1482,7 +1487,7 @@ enum ptpm_asked ptpm_asker_ask(struct ptpm_asker *asker, uint64_t now, uint64_t 
    which it was asked, whichever is given. A GET is sent in the domain that is given, as is a SET that moves the clock to that
    domain.
    Takes:   the time, a number by which the host names the request, and a domain.
-   Returns: PTPM_ASKED; or PTPM_IDLE if there is none or the asker does not rest, and then nothing changes.
+   Returns: PTPM_ASKED; or PTPM_IDLE if there is no such request or the asker does not rest, and then nothing changes.
    Writes:  all of *handed. */
 enum ptpm_asked ptpm_asker_settle(struct ptpm_asker *asker, uint64_t now, uint64_t tag, uint8_t domain, struct ptpm_handed *handed);
 
@@ -1590,7 +1595,7 @@ enum ptpm_journaled ptpm_journal_add(struct ptpm_journal *journal, const struct 
 enum ptpm_journaled ptpm_journal_next(struct ptpm_journal *journal, const uint8_t *octets, size_t octet_count,
                                       struct ptpm_journal_record *record, size_t *size);
 
-/* Returns: what the journal says of a step, PTPM_MARK_UNTOUCHED and on. */
+/* Returns: what the journal says of a step, one of PTPM_MARK_UNTOUCHED to PTPM_MARK_NONE. */
 uint32_t ptpm_journal_mark(const struct ptpm_journal *journal, uint16_t step);
 
 /* Ends what the handle holds, if it holds anything. The handle then holds nothing, and may be started again. NULL as for
@@ -1603,7 +1608,7 @@ static inline void ptpm_journal_stop_any(struct ptpm_journal *journal) {
 
 #define ptpm_journal_stop(journal) ptpm_journal_stop_any(journal)
 
-/* Opens a change of several clocks from its journal, instead of what the handle holds. It goes on where the journal ends.
+/* Opens a change of several clocks from its journal, instead of what the handle holds. The change goes on where the journal ends.
    Takes:   the octets of the journal's file; a new one has only the head and the steps. And PTPM_STOP_AT_FAILURE, PTPM_KEEP_GOING,
             PTPM_GIVE_UP or PTPM_SETTLE_ALONE. A journal with PTPM_RECORD_LET_GO is given up in any case.
    Returns: PTPM_ROLLED, or why not, and then the handle holds what it held.
@@ -1613,7 +1618,7 @@ static inline void ptpm_journal_stop_any(struct ptpm_journal *journal) {
 enum ptpm_rolled ptpm_rollout_open(struct ptpm_rollout *rollout, const uint8_t *journal, size_t size, uint32_t choice, size_t *whole);
 
 /* Hands in the outcome of the last action, and gives the next one.
-   Takes:   first PTPM_EVENT_BEGIN. The octets are of PTPM_EVENT_FOUND and PTPM_EVENT_VALUE.
+   Takes:   first PTPM_EVENT_BEGIN. Only PTPM_EVENT_FOUND and PTPM_EVENT_VALUE have octets.
    Returns: PTPM_ROLLED, or why not, and then nothing changes.
    Writes:  *action, all 0 if it is refused.
    Memory:  for the record that is to be noted. */
@@ -1651,7 +1656,7 @@ static inline enum ptpm_saved ptpm_image_seal(uint8_t *octets, size_t size, size
    seal does not matter.
    Takes:   size octets, what a file or a place of a flash memory has.
    Returns: PTPM_RESTORED; PTPM_NOT_AN_IMAGE; or PTPM_DAMAGED if octets are missing, the seal is missing, or octets are not those
-            that were sealed. The restore judges what the image is of.
+            that were sealed. The restore judges what kind of image it is, and whose.
    Writes:  *image: how many octets it has, from the first on; and *count, how often it was saved. If the call is refused, both
             are 0. */
 enum ptpm_restored ptpm_image_unseal(const uint8_t *octets, size_t size, uint64_t *count, size_t *image);
@@ -1670,9 +1675,9 @@ static inline size_t ptpm_newest_image(const uint8_t *octets, size_t place, size
     return place == 0 ? places : newest;
 }
 
-/* Says whether a message is to be forwarded, and if it is, records it. It is if no message with the same
-   sourcePortIdentity, sequenceId, targetPortIdentity, actionField and managementId is recorded, and there is a place to
-   record it. So a message that circulates is forwarded once, and one that keeps coming once in the time of a record.
+/* Says whether a message is to be forwarded, and if so, records it. It is to be forwarded if there is a place for it, and none with
+   the same sourcePortIdentity, sequenceId, targetPortIdentity, actionField and managementId is recorded. So a message that
+   circulates is forwarded once, and one that keeps coming once in the time of a record.
    Takes:   the message, of size octets; a time; and for how long it is recorded, in the unit of that time. Both are the host's.
    Returns: whether it is to be forwarded; false too for what is not a management message. One that the library does not
             read counts as one (ptpm_clock_transit).
@@ -1726,7 +1731,7 @@ uint32_t ptpm_id_at(size_t place);
 size_t ptpm_id_name(uint16_t id, char *text, size_t room);
 
 /* The same three for managementIds that other clocks have and this profile lacks. ptpm_field_text writes their dataFields by their
-   members. Five are of the standard, such as CLOCK_DESCRIPTION, and five of linuxptp, such as TIME_STATUS_NP. */
+   members. Five are the standard's, such as CLOCK_DESCRIPTION, and five are linuxptp's, such as TIME_STATUS_NP. */
 uint32_t ptpm_other_id_named(const char *name, size_t size);
 uint32_t ptpm_other_id_at(size_t place);
 size_t ptpm_other_id_name(uint16_t id, char *text, size_t room);
@@ -1770,10 +1775,10 @@ bool ptpm_port_identity_parse(const char *text, size_t size, uint8_t clock[8], u
 /* The most octets that ptpm_field_text writes, of a dataField that a message can have. */
 enum { PTPM_MOST_FIELD_TEXT = 5034 };
 
-/* Gives the members of a dataField as text, one per line: its name in the standard (15.5.3), a space and its value, such as
-   "priority1 128". How each kind of value is written is in docs/ptpm.md. There is only one line if the octets are not a dataField
-   of the id, or it has no member. That is "value" and the octets in hexadecimal, or "value -" for none. The id may be one of
-   ptpm_other_id_at too.
+/* Gives a dataField's members as text, one per line: the member's name in the standard (15.5.3), a space and its value, such as
+   "priority1 128". How each kind of value is written is in docs/ptpm.md. If the octets are not a dataField of the id, or the
+   dataField has no member, there is only one line. It is "value" and the octets in hexadecimal, or "value -" for none. The id may
+   be one of ptpm_other_id_at too.
    Takes:   the managementId; a dataField of size octets; and room octets, for which PTPM_MOST_FIELD_TEXT is enough.
    Returns: how many octets the lines have; 0 if room is too small for all of them.
    Writes:  as many octets from text on: each line with its newline, and no zero after the last. If it returns 0, anything may be
@@ -1790,7 +1795,7 @@ enum ptpm_member_kind {
     PTPM_IS_INTERVAL = 3,
     PTPM_IS_CLOCK = 4,                  /* a clockIdentity */
     PTPM_IS_PORT = 5,                   /* a portIdentity */
-    PTPM_IS_CLOCKS = 6,                 /* clockIdentities, with a space between two of them */
+    PTPM_IS_CLOCKS = 6,                 /* clockIdentities, with a space between each and the next */
     PTPM_IS_TEXT = 7,
     PTPM_IS_OCTETS = 8,
     PTPM_IS_PORT_STATE = 16,
@@ -1801,7 +1806,7 @@ enum ptpm_member_kind {
 
 /* Says what a member's value is. So a program that prints or stores members needs no list of their names.
    Takes:   the managementId; a dataField of size octets; and the place of the member's line in ptpm_field_text, from 0 on.
-   Returns: what its value is; or PTPM_NO_MEMBER if there is no such line, or it has the octets and no member. */
+   Returns: what its value is; or PTPM_NO_MEMBER if there is no such line, or the line has the octets and no member. */
 enum ptpm_member_kind ptpm_member_kind(uint16_t id, const uint8_t *octets, size_t size, size_t place);
 
 /* Gives the dataField of a SET from what a person types: the name of each member in the standard, in either case, and its value.
@@ -1811,8 +1816,9 @@ enum ptpm_member_kind ptpm_member_kind(uint16_t id, const uint8_t *octets, size_
    hexadecimal. The clock decides whether it accepts the value.
    Takes:   the managementId; size octets of words in UTF-8, with a zero octet after each; and room octets, for which
             PTPM_MOST_READ is enough.
-   Returns: PTPM_PARSED; or the first of these in this order: PTPM_NOT_WORDS, PTPM_UNKNOWN_ID, PTPM_WORD_COUNT, that of a member,
-            PTPM_NO_ROOM. That of a member is PTPM_OTHER_NAME or PTPM_NO_VALUE, of the first member that has one of them.
+   Returns: PTPM_PARSED; or the first of these in this order: PTPM_NOT_WORDS, PTPM_UNKNOWN_ID, PTPM_WORD_COUNT, the refusal of a
+            member, PTPM_NO_ROOM. The refusal of a member is PTPM_OTHER_NAME or PTPM_NO_VALUE, whichever the first refused member
+            has.
    Writes:  *count, how many octets the dataField has, and as many octets from octets on. If it is refused, *count is 0 and no octet
             is written. *member, the place of the member with PTPM_OTHER_NAME or PTPM_NO_VALUE, from 0 on, and else 0. */
 enum ptpm_parsed ptpm_field_parse(uint16_t id, const char *words, size_t size, uint8_t *octets, size_t room, size_t *count,

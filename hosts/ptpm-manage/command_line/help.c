@@ -57,7 +57,7 @@ static const char help_text[] =
     "  -d, --domain N          domainNumber, 0 to 255 (0). collect and status also take several: 0-7, or all:\n"
     "                          those in which clocks are heard or answer, 0 and 127\n"
     "      --sdo N             sdoId for collect and status, 0 to 4095 or 0x000 to 0xfff (0); 0x100 in 802.1AS.\n"
-    "                          With all it is 0, and each in which clocks are heard\n"
+    "                          all: 0, and each in which clocks are heard\n"
     "  -b, --hops N            how many boundary clocks forward the request, 0 to 255 (1; 7 for collect,\n"
     "                          status, plan, apply, resume and rollback)\n"
     "  -x, --hexadecimal       VALUE and answers are octets of the dataField in hexadecimal\n"
