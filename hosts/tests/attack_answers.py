@@ -247,7 +247,7 @@ def blind_answers():
     for words in [("set", "PRIORITY1", "100"), ("get", "PRIORITY1")]:
         status, printed, said = asked_at(wire, guesses, "--target", ME, *words)
         check(f"nobody answers {words} from beyond a router", (status, printed) == (3, ""))
-        check("and that is said", f"unicast from {wire.neighbour} " in said and "another machine sent it, or none has that address" in said)
+        check("and that is said", f" from {wire.neighbour} " in said and "another machine sent it, or none has that address" in said)
     for ttl, words, is_taken in [(64, (), True), (64, ("--ttl-security",), False), (255, ("--ttl-security",), True)]:
         status, printed, said = asked_at(
             wire, lambda request: wire.put(frame_four(answer_to(request), wire.neighbour, wire.own, wire.station, ttl=ttl)),
