@@ -7,7 +7,6 @@ pub mod ViewLaws
 pub mod CanonicalLaws
 pub mod RewritingLaws
 pub mod BufferLaws
-pub mod HeaderLaws
-pub mod EnvelopeLaws
+pub mod WritingLaws
 pub mod IdentityLaws
 pub mod MessageLaws
