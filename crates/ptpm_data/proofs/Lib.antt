@@ -10,13 +10,10 @@ pub mod FieldSizes
 pub mod ReplyLemmas
 pub mod Keeping
 pub mod AnswerCounts
-pub mod Setting
-pub mod OwnFields
 pub mod OwnOctets
+pub mod OwnFields
 pub mod PlainMap
-pub mod MapLemmas
 pub mod Observing
-pub mod PortLists
 pub mod Observed
 pub mod Differing
 pub mod Consistency
@@ -24,4 +21,3 @@ pub mod RestoringLaws
 pub mod ObservingBack
 pub mod ImageLemmas
 pub mod OneImage
-pub mod Starting

@@ -12,6 +12,7 @@ use Rattle.ptpm_data.specs.Ranges.{is_clock_accuracy}
 use Rattle.ptpm_data.proofs.Ranging.{ports_observed}
 use Rattle.ptpm_data.proofs.StartLemmas.{passes, precedence_sound, unless_ok}
 use Rattle.ptpm_codec.proofs.BufferLaws.{refilled}
+use Rattle.ptpm_data.proofs.Carrying.{length-named_changed}
 
 module _ (o : PortObservation) (p : PortDataSet) where
   disables_next : (os : List PortObservation) (ports : List PortDataSet) (i : ℕ)
@@ -137,3 +138,7 @@ module _ (o : ClockObservation) (ports : List PortObservation) (d : DataSetsValu
   }
 
 pub ruleset observe_laws = (unless_ok, has_places, refilled, ports_after-length, consistent)
+
+-- ---- what is written over the data sets of ports is as long as they are
+
+pub ruleset list_laws = (refilled, length-named_changed, ports_after-length)

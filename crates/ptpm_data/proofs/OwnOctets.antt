@@ -1,38 +1,91 @@
 -- An accepted SET is answered by its own octets.
-use Rattle.std.proofs.Common.{◌≡◌, ◌∙◌, arith, refl, ap, subst, ℕ, zero, suc, ◌+◌, ◌-◌, ◌<◌, ◌≤◌, ◌==◌, Bool, true, false, if◌then◌else◌, List, [], ◌∷◌, length, map, slice_get, Option, Some, None}
+use Rattle.std.proofs.Common.{arith, ◌≡◌, refl, subst, Bool, true, false, not, ◌||◌, Option, Some, None, ◌∙◌, ap, ℕ, zero, suc, ◌+◌, ◌-◌, ◌<◌, ◌≤◌, ◌==◌, if◌then◌else◌, List, [], ◌∷◌, length, map, slice_get}
+use Rattle.std.specs.List.{list_all, All, enumerate_from, filter, range_with_len}
+use Rattle.std.proofs.lemmas.Bool.{not-false, eqb-true}
+use Rattle.ptpm_codec.proofs.OrderedLaws.{first_of-none}
+use Rattle.ptpm_data.specs.declared.rights.Rights.{Rights}
+use Rattle.ptpm_data.specs.ManagementId.{RowValue, has_action, id_table, row_of, is_of_port, set_of}
+use Rattle.ptpm_data.specs.Members.{DataSetsValue, port_of}
+use Rattle.ptpm_data.specs.Request.{RequestValue}
+use Rattle.ptpm_data.specs.Refusals.{row_refusal, refusal_at, refusal_of, is_length, is_set_length, is_set_value, is_value}
+use Rattle.ptpm_data.specs.Changes.{changed_by, set_members, changed_if, is_named, named_changed, with_ports}
+use Rattle.ptpm_data.specs.Rights.{no_rights}
+use Rattle.ptpm_data.specs.Replies.{answer, read_reply_to, reply_of, reply_to, named_ports, outcome}
+use Rattle.ptpm_data.specs.SetLaws.{IsAcceptedSet, get_of, AreOctets, standard_field, standard_field_at}
+use Rattle.ptpm_data.proofs.FieldSizes.{found, is_port_layout, layout_of}
 use Rattle.std.specs.Prelude.{⊤}
-use Rattle.std.specs.List.{All, enumerate_from, filter, range_with_len}
 use Rattle.std.specs.Option.{option_map}
-use Rattle.std.proofs.lemmas.Bool.{eqb-true}
 use Rattle.std.proofs.lemmas.Bool.Decides.{nat_tests}
 use Rattle.std.proofs.lemmas.List.Elements.{All-cons, All-map}
 use Rattle.ptpm_codec.specs.declared.message.Action.{Action}
-use Rattle.ptpm_codec.specs.declared.message.Action.TheVariants as actions
 use Rattle.ptpm_data.specs.declared.management_id.Layout.{Layout}
-use Rattle.ptpm_data.specs.declared.management_id.Layout.TheVariants as layouts
 use Rattle.ptpm_data.specs.declared.data_sets.PortDataSet.{PortDataSet}
 use Rattle.ptpm_data.specs.declared.port_change.PortChange.{PortChange}
-use Rattle.ptpm_data.specs.declared.port_change.PortChange.TheVariants as changes
-use Rattle.ptpm_data.specs.declared.rights.Rights.{Rights}
-use Rattle.ptpm_data.specs.ManagementId.{RowValue, has_action, is_of_port, row_of, set_of}
-use Rattle.ptpm_data.specs.Members.{DataSetsValue, port_of}
 use Rattle.ptpm_data.specs.PortSettings.{octet_back}
-use Rattle.ptpm_data.specs.Request.{RequestValue}
 use Rattle.ptpm_data.specs.Reply.{Answer, Value}
 use Rattle.ptpm_data.specs.SetField.{octet}
 use Rattle.ptpm_data.specs.DataField.{clock_field_of, data_field_at, data_field_of, octet_data_field, port_field_of}
 use Rattle.ptpm_data.specs.PortChange.{port_after}
-use Rattle.ptpm_data.specs.Refusals.{is_length, is_set_length, is_set_value, is_value, refusal_at}
-use Rattle.ptpm_data.specs.Changes.{changed_by, changed_if, is_named, named_changed, set_members, with_ports}
-use Rattle.ptpm_data.specs.Replies.{answer, named_ports, outcome, reply_of, reply_to}
-use Rattle.ptpm_data.specs.SetLaws.{AreOctets, IsAcceptedSet, standard_field, standard_field_at}
 use Rattle.ptpm_data.proofs.Carrying.{suits_from}
-use Rattle.ptpm_data.proofs.FieldSizes.{found, is_port_layout, layout_of}
 use Rattle.ptpm_data.proofs.Keeping.{changed_by-ports}
 use Rattle.ptpm_data.proofs.ReplyLemmas.{answers_of}
 use Rattle.ptpm_data.proofs.OwnFields.{nothing_held, text_back, utc_back}
 use Rattle.ptpm_data.proofs.SettingLemmas.{itself}
-use Rattle.ptpm_data.proofs.Setting.{accepted_by, permitted, set_changes, then_get}
+use Rattle.ptpm_codec.specs.declared.message.Action.TheVariants as actions
+use Rattle.ptpm_data.specs.declared.management_id.Layout.TheVariants as layouts
+use Rattle.ptpm_data.specs.declared.port_change.PortChange.TheVariants as changes
+
+-- ---- what an accepted SET changes and is answered, and what a GET after it is answered
+
+-- ---- an id that permits SET permits GET
+
+abbrev gets_what_it_sets : RowValue → Bool
+gets_what_it_sets e = not (has_action actions.Set e.actions) || has_action actions.Get e.actions
+
+table_gets : list_all gets_what_it_sets id_table ≡ true
+table_gets = refl
+
+pub then_get : (s g : Bool) → (not s || g) ≡ true → s ≡ true → g ≡ true
+then_get true g e h = e
+then_get false g e h = cc
+
+pub permitted : (e : RowValue) (q : RequestValue) (rights : Rights)
+    → q.action ≡ actions.Set
+    → row_refusal e q rights ≡ None
+    → has_action actions.Set e.actions ≡ true
+unfolding row_refusal
+permitted e q rights set none = grind (arith, first_of-none, not-false)
+
+get_accepted : (q : RequestValue) (rights : Rights)
+    → IsAcceptedSet q rights
+    → refusal_of (get_of q) no_rights ≡ None
+unfolding row_of row_refusal
+get_accepted q rights a = grind (arith, found, table_gets, then_get, permitted)
+
+-- ---- the same answers as a GET's
+
+pub set_read_back : (q : RequestValue) (rights : Rights) (d : DataSetsValue)
+    → IsAcceptedSet q rights
+    → reply_to q rights d ≡ read_reply_to (get_of q) (changed_by q rights d)
+unfolding answer read_reply_to reply_of reply_to
+set_read_back q rights d a = grind (arith, get_accepted)
+
+-- ---- the data sets after it
+
+pub accepted_by : (q : RequestValue) (rights : Rights) (e : RowValue)
+    → IsAcceptedSet q rights
+    → row_of q.id ≡ Some e
+    → row_refusal e q rights ≡ None
+accepted_by q rights e a is =
+    let P : Option RowValue → Type 0 = λ o. refusal_at o q rights ≡ None in
+    subst P is a.accepted
+
+pub set_changes : (q : RequestValue) (rights : Rights) (d : DataSetsValue) (e : RowValue)
+    → IsAcceptedSet q rights
+    → row_of q.id ≡ Some e
+    → changed_by q rights d ≡ set_members e.layout q.port q.octets d
+unfolding changed_by
+set_changes q rights d e a is = rw (is, accepted_by q rights e a is, a.set) refl
 
 -- ---- the port that is shown
 
