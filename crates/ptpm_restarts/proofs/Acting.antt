@@ -23,9 +23,8 @@ use Rattle.ptpm_restarts.specs.AsIfNever.{IsTimely, is_late_in}
 use Rattle.ptpm_restarts.specs.Incidents.{GivesUp, Happens, Incident, Observes, incident, lets_go}
 use Rattle.ptpm_restarts.specs.Restarting.{RestartingNetwork, SessionLog, log_of, log_with, sent_or_waiting}
 use Rattle.ptpm_restarts.specs.Storage.{Stored, changed, noted}
-use Rattle.ptpm_restarts.proofs.Beside.{IsBeside, log-stays}
+use Rattle.ptpm_restarts.proofs.Beside.{IsBeside, log-stays, IsSettled, changed-act, noted-act, not_both, settled-live}
 use Rattle.ptpm_restarts.proofs.Sent.{all_contains}
-use Rattle.ptpm_restarts.proofs.Settled.{IsSettled, changed-act, noted-act, not_both, settled-live}
 use Rattle.ptpm_restarts.proofs.Shapes.{AreSound, ByShape, by-shape}
 use Rattle.ptpm_restarts.proofs.Standing.{late-fewer, settled-issued, unsent-unanswered}
 use Rattle.ptpm_restarts.proofs.Steps.{Facts, Goes, Stay, Stays, Step, among, is_delivery, log-other, logged, numbered}

@@ -10,9 +10,8 @@ use Rattle.ptpm_restarts.specs.AsIfNever.{AreSomeOf, AreTimely, Ended, IsAsIfNev
 use Rattle.ptpm_restarts.specs.Incidents.{CrashClock, CrashSession, GivesUp, Happens, Observes, Incident, SaveClock, SaveSession, after_incidents, happens, incident, refused, unless}
 use Rattle.ptpm_restarts.specs.Restarting.{RestartingNetwork, SessionLog, held_frames, initial_restarting, log_of, sent_or_waiting}
 use Rattle.ptpm_restarts.specs.Storage.{Stored}
-use Rattle.ptpm_restarts.proofs.Beside.{IsBeside, clock-crashed, clock-saved, session-crashed, session-saved}
+use Rattle.ptpm_restarts.proofs.Beside.{IsBeside, clock-crashed, clock-saved, session-crashed, session-saved, settled-as}
 use Rattle.ptpm_restarts.proofs.Sent.{all-held, all_contains}
-use Rattle.ptpm_restarts.proofs.Settled.{settled-as}
 use Rattle.ptpm_restarts.proofs.Shapes.{AreSound, ByShape, by-shape, incident-sound, incident-stay}
 use Rattle.ptpm_restarts.proofs.Standing.{heard-live, in_time-there, standing}
 use Rattle.ptpm_restarts.proofs.Steps.{Goes, Stay, Stays, Step, among, event-step, numbered, room-there}

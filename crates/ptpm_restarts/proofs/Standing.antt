@@ -13,9 +13,8 @@ use Rattle.ptpm_manager.specs.declared.setup.Setup.{Setup}
 use Rattle.ptpm_restarts.specs.AsIfNever.{is_late_in}
 use Rattle.ptpm_restarts.specs.Restarting.{RestartingNetwork, SessionLog, log_of}
 use Rattle.ptpm_restarts.specs.Storage.{Stored}
-use Rattle.ptpm_restarts.proofs.Beside.{IsBeside}
-use Rattle.ptpm_restarts.proofs.Sound.{IsSound}
-use Rattle.ptpm_restarts.proofs.Settled.{IsSettled, settled-live}
+use Rattle.ptpm_restarts.proofs.Beside.{IsBeside, IsSettled, settled-live}
+use Rattle.ptpm_restarts.proofs.Shapes.{IsSound}
 use Rattle.ptpm_restarts.proofs.Steps.{Facts, is_delivery, some-of}
 
 -- ---- in time
