@@ -22,11 +22,11 @@ use Rattle.ptpm_script.specs.RepeatFaults.{clock_repeats, end_repeats, repeat_ma
 use Rattle.ptpm_script.specs.ShapeFaults.{shape_marks}
 use Rattle.ptpm_script.specs.StartFaults.{start_marks}
 use Rattle.ptpm_script.proofs.ApartLemmas.{append-none}
-use Rattle.ptpm_script.proofs.ClockStartLemmas.{clocks-can-start}
+use Rattle.ptpm_script.proofs.StartLemmas.{clocks-can-start}
 use Rattle.ptpm_script.proofs.NameLemmas.{counts, ends-once, few-managers, links-are, targets-there}
 use Rattle.ptpm_script.proofs.RepeatLemmas.{clock-identities, clock-names, no-clock-identity, no-clock-name, repeat-parts, session-identities, session-names}
 use Rattle.ptpm_script.proofs.ShapeLemmas.{shape-sound}
-use Rattle.ptpm_script.proofs.Sound.{SoundSession}
+use Rattle.ptpm_script.proofs.TableLemmas.{SoundSession}
 
 ok_same : (x y : NetworkValue) → ◌≡◌ {A = Result NetworkValue NetError} (Ok x) (Ok y) → x ≡ y
 ok_same x y h = cc

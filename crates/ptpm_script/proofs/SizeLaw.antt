@@ -19,10 +19,9 @@ use Rattle.ptpm_script.specs.StartFaults.{some_clock}
 use Rattle.ptpm_script.specs.Starts.{clock_over}
 use Rattle.ptpm_script.specs.Values.{clock_at, port_at}
 use Rattle.ptpm_script.proofs.ApartLemmas.{all-map}
-use Rattle.ptpm_script.proofs.IdentityLemmas.{clock_at-size, port_at-fits}
+use Rattle.ptpm_script.proofs.ShapeLemmas.{clock_at-size, port_at-fits, shape-sound}
 use Rattle.ptpm_script.proofs.NetworkLaw.{accepted, document-of, unmarked}
-use Rattle.ptpm_script.proofs.ShapeLemmas.{shape-sound}
-use Rattle.ptpm_script.proofs.Sound.{SoundClock, SoundFile, SoundSession}
+use Rattle.ptpm_script.proofs.TableLemmas.{SoundClock, SoundFile, SoundSession}
 
 -- what holds of what is there, and of what stands in its place
 either : {A : Type 0} (P : A → Type 0) (o : Option A) (a : A) → ((x : A) → o ≡ Some x → P x) → P a → P (unwrap_or o a)
