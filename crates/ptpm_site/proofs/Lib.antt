@@ -1,7 +1,5 @@
-pub mod Below
+pub mod Rows
 pub mod Marking
 pub mod Parts
 pub mod Passing
-pub mod Rows
-pub mod Sorted
 pub mod Strays

@@ -12,7 +12,7 @@ use Rattle.ptpm_site.specs.declared.tree.TreeRow.{TreeRow}
 use Rattle.ptpm_site.specs.declared.tree.TreeRow.TheVariants as row
 use Rattle.ptpm_site.specs.declared.tree.builder.TreeBuilder.{TreeBuilder}
 use Rattle.ptpm_site.specs.Tree.{IsAbove}
-use Rattle.ptpm_site.proofs.Below.{IsAbove-last}
+use Rattle.ptpm_site.proofs.Rows.{IsAbove-last}
 use Rattle.ptpm_site.proofs.tree.add_lost.Goals as goal
 use Rattle.ptpm_site.proofs.tree.add_lost.Goals.{then-ne+in_ok-add_not_seen, else-ne}
 
