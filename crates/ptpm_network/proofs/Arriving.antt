@@ -3,9 +3,8 @@ use Rattle.ptpm_network.proofs.Common.{expected_ports, copy_parts, names_port, I
 use Rattle.std.proofs.lemmas.List.Elements.{filter_map-append}
 use Rattle.ptpm_network.proofs.Accepting.{IsAbove, JoinsOwn, Keeps, in_step-joined, keeps-joined, kept-joined, kept-le}
 use Rattle.ptpm_network.proofs.Frames.{IsHeard, SaysRequest, same_read, says_request}
-use Rattle.ptpm_network.proofs.Messages.{request_at}
+use Rattle.ptpm_network.proofs.Messages.{request_at, answered, for_one-there, kept, once}
 use Rattle.ptpm_network.proofs.Origins.{heard-true, is_copy_by}
-use Rattle.ptpm_network.proofs.Requests.{answered, for_one-there, kept, once}
 use Rattle.ptpm_network.proofs.Steps.{KeptStays, frames-stay}
 
 -- ---- the session that a numbered copy is of

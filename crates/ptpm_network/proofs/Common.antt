@@ -95,5 +95,4 @@ pub use Rattle.ptpm_network.specs.Stands.{AreFirsts, Stands, StandsAfter}
 pub use Rattle.ptpm_network.specs.State.{accepted_at_target, copies_at, Frame, frames_to, greatest_accepted, history, initial_state, is_idle, is_late, is_late_at, issued, Neither, NetworkState, new_frames, Origin, outcomes_kept, ReplyTo, reports_by, reports_of, RequestOf, session_value, SessionState, unanswered}
 pub use Rattle.ptpm_network.specs.Way.{AreLinked, ComeIn, ComesIn, ends_of, handed_in, Hop, IsAnswerable, IsWay, Leads, LinksHaveAtMost, made_along, made_each_way, passed_at_most, PassesOn, RunsToReport, visited}
 pub use Rattle.ptpm_network.specs.Worth.{entries_of, IsWorth, WasCarriedOut}
-pub use Rattle.ptpm_network.proofs.Lists.{all_append, all_flat, all_get, all_made, all_weaker, at_place, at_places, filter-few, filter-fewer, flat-few, frame_at-all, get_append, get_appended, get_last, with_place-other, with_place-same}
-pub use Rattle.ptpm_network.proofs.Tests.{by_test}
+pub use Rattle.ptpm_network.proofs.Lists.{all_append, all_flat, all_get, all_made, all_weaker, at_place, at_places, filter-few, filter-fewer, flat-few, frame_at-all, get_append, get_appended, get_last, with_place-other, with_place-same, by_test}

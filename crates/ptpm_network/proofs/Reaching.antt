@@ -4,12 +4,11 @@ use Rattle.ptpm_manager.specs.Ask as ask
 use Rattle.ptpm_network.proofs.Accepting.{IsToldOf, in_step-begun, in_step-reported}
 use Rattle.ptpm_network.proofs.Frames.{heard-frame, says_reply, IsHeard}
 use Rattle.ptpm_network.proofs.Messages.{reply_at}
-use Rattle.ptpm_network.proofs.Refusals.{asked-not_refused, begin-not_refused, idle-not_waiting, option_map-none}
+use Rattle.ptpm_network.proofs.Refusals.{asked-not_refused, begin-not_refused, idle-not_waiting, option_map-none, strange-message}
 use Rattle.ptpm_network.proofs.Steps.{more-frames, sends-reached, session-changes, session-set}
-use Rattle.ptpm_network.proofs.Strangers.{strange-message}
-use Rattle.ptpm_network.proofs.Unnumbered.{delivered_at_clock-reached}
+use Rattle.ptpm_network.proofs.Answering.{delivered_at_clock-reached}
 use Rattle.ptpm_network.specs.Machine.{delivered_at_session}
-use Rattle.ptpm_network.proofs.Tests.{and_first, and_rest}
+use Rattle.ptpm_network.proofs.Lists.{and_first, and_rest}
 
 -- ---- a frame comes in at a session
 

@@ -1,4 +1,4 @@
-use Rattle.ptpm_network.proofs.InTime.{copies-in_window, copies-numbered, in_window}
+use Rattle.ptpm_network.proofs.Running.{copies-in_window, copies-numbered, in_window}
 use Rattle.ptpm_network.proofs.laws.in_the_window.Goals as goal
 use Rattle.ptpm_network.proofs.Common.{subst, NetworkState, run, initial_state, sets_once, HasEnd}
 use Rattle.ptpm_network.proofs.Reaching.{frame_at-is}
