@@ -12,7 +12,7 @@ use Rattle.ptpm_data.specs.ManagementId.{set_of}
 use Rattle.ptpm_data.specs.Members.{IsConsistent, DataSetsValue, is_grandmaster, is_own_grandmaster}
 use Rattle.ptpm_data.specs.Ranges.{is_description, is_clock_accuracy}
 use Rattle.ptpm_data.specs.Start.{clock_fault, count_fault, default_clock, default_data_set, default_port, grandmaster_fault, no_identity, parent_data_set, port_fault, ports_fault, start_fault, start_of, start_within, started, unless}
-use Rattle.ptpm_data.proofs.Ranging.{ports_start, ports_changed, set_in_range}
+use Rattle.ptpm_data.proofs.SettingLemmas.{ports_start, ports_changed, set_in_range}
 use Rattle.ptpm_data.proofs.StartLemmas.{accuracy_sound, count_sound, description_small, description_sound, grandmaster_sound, identity_sound, leaps_sound}
 use Rattle.std.proofs.lemmas.Bool.{not-true}
 use Rattle.ptpm_codec.specs.declared.message.Action.{Action}

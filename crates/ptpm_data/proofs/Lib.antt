@@ -5,7 +5,6 @@ pub mod Carrying
 pub mod Answering
 pub mod NameLemmas
 pub mod StartLemmas
-pub mod Ranging
 pub mod FieldSizes
 pub mod ReplyLemmas
 pub mod Keeping
@@ -17,7 +16,6 @@ pub mod Observing
 pub mod Observed
 pub mod Differing
 pub mod Consistency
-pub mod RestoringLaws
+pub mod OneImage
 pub mod ObservingBack
 pub mod ImageLemmas
-pub mod OneImage

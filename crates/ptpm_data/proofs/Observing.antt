@@ -9,7 +9,7 @@ use Rattle.ptpm_data.specs.declared.observation.ClockObservation.{ClockObservati
 use Rattle.ptpm_data.specs.Members.{DataSetsValue, IsConsistent, is_grandmaster}
 use Rattle.ptpm_data.specs.Observation.{accepted_observation, default_after, disables, disables_one, is_left_disabled, left_disabled, observation_refusal, parent_after, port_after, ports_after, time_after}
 use Rattle.ptpm_data.specs.Ranges.{is_clock_accuracy}
-use Rattle.ptpm_data.proofs.Ranging.{ports_observed}
+use Rattle.ptpm_data.proofs.SettingLemmas.{ports_observed}
 use Rattle.ptpm_data.proofs.StartLemmas.{passes, precedence_sound, unless_ok}
 use Rattle.ptpm_codec.proofs.BufferLaws.{refilled}
 use Rattle.ptpm_data.proofs.Carrying.{length-named_changed}

@@ -15,7 +15,7 @@ use Rattle.ptpm_data.specs.Observation.{default_after, disables, disables_one, g
 use Rattle.ptpm_data.specs.ObservationBack.{Observation, clock_observation, observed_again, observed_each, port_observation}
 use Rattle.ptpm_data.proofs.Observed.{observed-accepted, observed-all, state_stays}
 use Rattle.ptpm_data.proofs.Observing.{enables_none}
-use Rattle.ptpm_data.proofs.RestoringLaws.{precedence_same}
+use Rattle.ptpm_data.proofs.OneImage.{precedence_same}
 
 -- ---- what no observation moves
 

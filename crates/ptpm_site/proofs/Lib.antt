@@ -1,5 +1,4 @@
 pub mod Rows
-pub mod Marking
+pub mod Strays
 pub mod Parts
 pub mod Passing
-pub mod Strays
