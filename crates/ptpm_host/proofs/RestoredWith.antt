@@ -1,28 +1,41 @@
 -- A clock that goes on from an image that may have what is under way.
-use Rattle.std.proofs.Common.{arith, ◌≡◌, ◌∙◌, ◌≤◌, ◌&&◌, ◌==◌, Bool, true, false, ap, refl, subst, sym, List, ℕ, length, All, Option, Some, None, Result, Ok, Err}
-use Rattle.std.specs.Prelude.{IfErr, IfOk, MatchResult, bytes_eq, nat_le, take}
+use Rattle.std.proofs.Common.{◌≡◌, ◌∙◌, ℕ, true, All, List, arith, ◌≤◌, ◌&&◌, ◌==◌, Bool, false, ap, refl, subst, sym, length, Option, Some, None, Result, Ok, Err}
 use Rattle.std.specs.FinMap.{entries}
+use Rattle.ptpm_agent.specs.Turn.{State}
+use Rattle.ptpm_table.specs.Entries.{is_known}
+use Rattle.ptpm_table.specs.Managers.{identities}
+use Rattle.ptpm_saved.specs.Image.{saved_of, SavedClock, saved_image}
+use Rattle.ptpm_saved.proofs.KeptAll.{kept_all, none_gone}
+use Rattle.ptpm_host.specs.declared.clock.HostedClock.{HostedClock}
+use Rattle.ptpm_host.specs.declared.settings.ManagerSettings.{ManagerSettings}
+use Rattle.ptpm_host.specs.Clock.{state_in}
+use Rattle.ptpm_host.specs.Restoring.{IsBack, CanRestore, CanRestoreWith, IsBackWith, IsOwnerRefused, IsRestoreRefused, IsUnderWayRefused, inside}
+use Rattle.ptpm_host.specs.Settings.{configured}
+use Rattle.std.specs.Prelude.{IfErr, IfOk, MatchResult, bytes_eq, nat_le, take}
 use Rattle.std.proofs.lemmas.Bool.{false≢true, le-leb}
 use Rattle.ptpm_codec.specs.declared.identity.ClockIdentity.{ClockIdentity}
 use Rattle.ptpm_codec.specs.Layout.{octet}
 use Rattle.ptpm_manager.specs.Image.{image_head, image_version, mark}
-use Rattle.ptpm_table.specs.Entries.{is_known}
-use Rattle.ptpm_table.specs.Managers.{identities}
-use Rattle.ptpm_saved.specs.declared.error.RestoreError.TheVariants as images
-use Rattle.ptpm_saved.specs.Image.{SavedClock, saved_image, saved_of}
 use Rattle.ptpm_saved.specs.Restoring.{IsImageOf, IsRefused}
 use Rattle.ptpm_saved.specs.SavingClock.{Datagram}
-use Rattle.ptpm_host.specs.declared.clock.HostedClock.{HostedClock}
 use Rattle.ptpm_host.specs.declared.refusal.ClockRestoreRefusal.{ClockRestoreRefusal}
-use Rattle.ptpm_host.specs.declared.refusal.ClockRestoreRefusal.TheVariants as refusals
-use Rattle.ptpm_host.specs.declared.settings.ManagerSettings.{ManagerSettings}
 use Rattle.ptpm_host.specs.Coming.{ClockState}
-use Rattle.ptpm_host.specs.Restoring.{CanRestore, CanRestoreWith, IsBackWith, IsOwnerRefused, IsRestoreRefused, IsUnderWayRefused, inside}
 use Rattle.ptpm_host.specs.SavingClock.{clock_state_in}
-use Rattle.ptpm_host.specs.Settings.{configured}
 use Rattle.ptpm_host.specs.UnderWay.{IsUnderWayImage, has_under_way, under_way_front, under_way_image}
-use Rattle.ptpm_host.proofs.GoingOn.{goes_on}
 use Rattle.ptpm_host.proofs.UnderWayImages.{image_length}
+use Rattle.ptpm_saved.specs.declared.error.RestoreError.TheVariants as images
+use Rattle.ptpm_host.specs.declared.refusal.ClockRestoreRefusal.TheVariants as refusals
+
+-- ---- a clock that goes on from what was saved of it, under managers that are all its own, is as it was
+
+pub goes_on : (s : State) (managers : List ManagerSettings) (d : HostedClock) (gone : ℕ)
+    → IsBack (saved_of s) managers d gone
+    → All (λ e. is_known e.0 (identities (configured managers)) ≡ true) (entries s.entries)
+    → (state_in d ≡ s) × (gone ≡ 0)
+goes_on s managers d gone back known =
+    let ms = identities (configured managers) in
+    let kept = back.entries_are.entries ∙ kept_all ms s.entries known in
+    ((λ i. record { sets = back.sets_are i; entries = kept i }), back.entries_are.gone_is ∙ none_gone ms (entries s.entries) known)
 
 -- ---- what it says that it has
 
