@@ -55,7 +55,7 @@ fn count_in(clocks: &[SurveyedClock], domain: u8) -> usize
 
 impl Known<'_> {
     /// Adds the rows of what is asked of every clock, table by table.
-    #[tactic(auto, using(crate::proofs::AskingLemmas::flat_more))]
+    #[tactic(auto, using(crate::proofs::Gathering::flat_more))]
     pub fn ask_all(&self, tables: &[EveryWishes], rows: &mut Vec<Row>) -> Added
         ensures { Adds result rows.old.items rows.new.items (rows_of_all self.now.answers.now.list.items self.now.surveyed.now tables.now) }
     {
@@ -66,7 +66,7 @@ impl Known<'_> {
     }
 
     /// Adds the rows of what a table asks of every clock of the domain that it does not leave out.
-    #[tactic(auto, using(crate::proofs::AskingLemmas::flat_more))]
+    #[tactic(auto, using(crate::proofs::Gathering::flat_more))]
     fn ask_every(&self, table: &EveryWishes, rows: &mut Vec<Row>) -> Added
         ensures { Adds result rows.old.items rows.new.items (rows_of_every self.now.answers.now.list.items self.now.surveyed.now table.now) }
     {
@@ -80,7 +80,7 @@ impl Known<'_> {
     }
 
     /// Adds the rows of a clock and of its ports.
-    #[tactic(auto, using(crate::proofs::AskingLemmas::flat_more))]
+    #[tactic(auto, using(crate::proofs::Gathering::flat_more))]
     fn ask_one(&self, table: &EveryWishes, clock: &SurveyedClock, rows: &mut Vec<Row>) -> Added
         ensures { Adds result rows.old.items rows.new.items
             (rows_of_every_clock self.now.answers.now.list.items self.now.surveyed.now table.now clock.now) }
