@@ -1,5 +1,4 @@
 -- The number of each answer has its own name: case by case.
--- A name of an id, of an answer or of an error has at most 27 octets: each of the tables' names has.
 use Rattle.std.proofs.Common.{◌≡◌, ◌≢◌, ◌++◌, Some, codes, refl, ◌==◌, ◌≤◌, ℕ, List, Option, None, true, length, nat_le, map, option_map, find, subst, arith}
 use Rattle.ptpm_codec.specs.declared.error.DecodeError.{DecodeError}
 use Rattle.ptpm_codec.specs.declared.error.ErrorId.{ErrorId}
@@ -159,6 +158,8 @@ error_named errors.WrongValue = refl
 error_named errors.NotSetable = refl
 error_named errors.NotSupported = refl
 error_named errors.GeneralError = refl
+
+-- A name of an id, of an answer or of an error has at most 27 octets: each of the tables' names has.
 
 -- no name, or one of at most 27 octets
 abbrev Fits : Option (List ℕ) → Type 0

@@ -1,5 +1,4 @@
 -- The best clock of a domain changes once at most along the order, if each clock has one change of its rank at most.
--- The order that is derived has what the law takes of it.
 use Rattle.std.proofs.Common.{◌≡◌, ℕ, zero, suc, ◌+◌, ◌<◌, ◌≤◌, ◌==◌, ◌&&◌, ◌⊎◌, Bool, true, false, cond, List, [], ◌∷◌, length, map, take, get_or, Option, None, Some, inl, inr, ⊎_elim, refl, sym, ◌∙◌, ap, subst, arith}
 use Rattle.std.proofs.lemmas.Bool.{and_parts, cases_Bool, cases_lt, eqb-true, true≢false}
 use Rattle.std.proofs.lemmas.Cmp.{tied_itself}
@@ -452,6 +451,7 @@ module _ (cmp : OrderKey → OrderKey → Ordering) (orders : OrdersRanks cmp) (
   pub one_best : length (alterations domain asked ranks (length asked)) ≤ 1
   one_best = by_present (best 0) refl
 
+-- The order that is derived has what the law takes of it.
 pub returns : goal.returns
 returns c = λ s given asked domain moved sorted apart one.
     one_best _ (record {

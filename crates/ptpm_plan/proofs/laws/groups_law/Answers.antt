@@ -1,5 +1,4 @@
 -- What is of an earlier group has a lesser key.
--- The keys are sorted, and so are the groups.
 use Rattle.std.proofs.Common.{◌≡◌, ◌<◌, ◌≤◌, List, get_or, ⊎_elim, refl, sym, ◌∙◌, ap, arith}
 use Rattle.std.proofs.lemmas.Bool.{cases_lt, true≢false}
 use Rattle.std.proofs.lemmas.List.Sorted.{ranks_by, sorted_far}
@@ -59,5 +58,6 @@ in_groups key xs sorted i j d upward within = ⊎_elim
     (λ upward_. upward_)
     (cases_lt (group (key (get_or xs j d)).turn) (group (key (get_or xs i d)).turn))
 
+-- The keys are sorted, and so are the groups.
 pub returns : goal.returns
 returns c = λ s given asked sorted. in_groups (order_key s given) asked sorted
