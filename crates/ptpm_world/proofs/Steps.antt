@@ -145,8 +145,8 @@ module _ (N : Network) (old new : World) (place : ℕ) (x y : RunningSession) (i
   session_is : (running old).session place ≡ x.session
   session_is = ap session_of c.at
 
-  there : no_session N place ≡ None
-  there = session-named N place (subst (λ n. place < n) is.session_count (slice_get_within old.sessions.items place x c.at))
+  session_there : no_session N place ≡ None
+  session_there = session-named N place (subst (λ n. place < n) is.session_count (slice_get_within old.sessions.items place x c.at))
 
   changed : IsOf N new
   changed = session_change-network N old new place x y c is
@@ -164,7 +164,7 @@ module _ (N : Network) (old new : World) (place : ℕ) (x y : RunningSession) (i
   acts-fine e why change at none v r f =
       let value : SessionValue = change ((running old).session place) in
       step_fine N old new e (record { deed = Done; network = with_session_value (running old) place value }) Fine
-      (at ∙ skips (no_session N place) _ _ there (skips (why ((running old).session place)) _ _ (ap why session_is ∙ none) refl))
+      (at ∙ skips (no_session N place) _ _ session_there (skips (why ((running old).session place)) _ _ (ap why session_is ∙ none) refl))
       (session_change-quiet old new place x y value (held_in old.frames) c (v ∙ ap change (sym session_is)) r f) refl changed
 
   pub acts-refused : (e : Event) (why : SessionValue → Option Refusal) (value : SessionValue) (reason : Refusal)
@@ -172,7 +172,7 @@ module _ (N : Network) (old new : World) (place : ℕ) (x y : RunningSession) (i
       ≡ acts N (running old) place (why ((running old).session place)) value
       → why x.session ≡ Some reason
       → IsStep N old new e (Err (error_of reason))
-  acts-refused e why value reason at some = grind (arith, step_refused, skips, there, stops, session_is, changed)
+  acts-refused e why value reason at some = grind (arith, step_refused, skips, session_there, stops, session_is, changed)
 
   -- by the session's error, which is want of memory or why it refuses
   pub begin-error : (a : Ask) (e : BeginError)
@@ -192,7 +192,7 @@ module _ (N : Network) (old new : World) (place : ℕ) (x y : RunningSession) (i
       → unless_refused (option_map SendRefused o) (Ok (record { deed = Done; network = sends_in N (running old) place })) ≡ z
       → network_event N (running old) (Send place) ≡ z
   unfolding network_event
-  send-judged o z room e last = grind (arith, skips, there, roomy, option_map, session_is)
+  send-judged o z room e last = grind (arith, skips, session_there, roomy, option_map, session_is)
 
   pub send-refused : (e : SendError)
       → nat_lt frames_limit (length (held_in old.frames)) ≡ false
