@@ -2,7 +2,6 @@ pub mod Placing
 pub mod Answered
 pub mod Placed
 pub mod LineLemmas
-pub mod Numerals
 pub mod ParsingLemmas
 pub mod IdNames
 pub mod SetBack

@@ -30,7 +30,7 @@ use Rattle.ptpm_members.specs.Names.{member_name}
 use Rattle.ptpm_members.specs.Parsed.{each_named, laid, overlay, with_all, with_named, with_value, with_words}
 use Rattle.ptpm_members.specs.RoundTrip.{IsInRange, words_of}
 use Rattle.ptpm_members.specs.Tables.{field_size, fields_of}
-use Rattle.ptpm_members.proofs.Numerals.{own}
+use Rattle.ptpm_members.proofs.ParsingLemmas.{own}
 use Rattle.ptpm_members.specs.declared.forms.Form.TheVariants as forms
 use Rattle.ptpm_members.specs.declared.number_names.Enumeration.TheVariants as enumerations
 use Rattle.ptpm_data.proofs.OwnFields.{text_back as field_of_text}
