@@ -3,11 +3,10 @@ pub mod Sent
 pub mod Shapes
 pub mod Worth
 pub mod Steps
-pub mod Standing
+pub mod Acting
 pub mod Runs
 pub mod AtOnce
 pub mod Again
-pub mod Acting
 pub mod Asking
 pub mod ActRuns
 pub mod DeskSessions

@@ -13,7 +13,7 @@ use Rattle.ptpm_restarts.specs.Storage.{Stored}
 use Rattle.ptpm_restarts.proofs.Beside.{IsBeside, clock-crashed, clock-saved, session-crashed, session-saved, settled-as}
 use Rattle.ptpm_restarts.proofs.Sent.{all-held, all_contains}
 use Rattle.ptpm_restarts.proofs.Shapes.{AreSound, ByShape, by-shape, incident-sound, incident-stay}
-use Rattle.ptpm_restarts.proofs.Standing.{heard-live, in_time-there, standing}
+use Rattle.ptpm_restarts.proofs.Acting.{heard-live, in_time-there, standing}
 use Rattle.ptpm_restarts.proofs.Steps.{Goes, Stay, Stays, Step, among, event-step, numbered, room-there}
 use Rattle.ptpm_restarts.proofs.Worth.{worth-heard, worth-step}
 
