@@ -2,7 +2,6 @@ pub mod Loops
 pub mod ItemLemmas
 pub mod TellLemmas
 pub mod TableLemmas
-pub mod ApartLemmas
 pub mod ShapeLemmas
 pub mod RepeatLemmas
 pub mod LimitLemmas

@@ -21,7 +21,7 @@ use Rattle.ptpm_script.specs.NetworkValue.{IsAccepted, IsSessionOf, NetworkValue
 use Rattle.ptpm_script.specs.RepeatFaults.{clock_repeats, end_repeats, repeat_marks, session_repeats}
 use Rattle.ptpm_script.specs.ShapeFaults.{shape_marks}
 use Rattle.ptpm_script.specs.StartFaults.{start_marks}
-use Rattle.ptpm_script.proofs.ApartLemmas.{append-none}
+use Rattle.ptpm_script.proofs.Loops.{append-none}
 use Rattle.ptpm_script.proofs.StartLemmas.{clocks-can-start}
 use Rattle.ptpm_script.proofs.NameLemmas.{counts, ends-once, few-managers, links-are, targets-there}
 use Rattle.ptpm_script.proofs.RepeatLemmas.{clock-identities, clock-names, no-clock-identity, no-clock-name, repeat-parts, session-identities, session-names}

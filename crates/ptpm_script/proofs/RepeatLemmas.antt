@@ -19,7 +19,7 @@ use Rattle.ptpm_script.specs.Rules.{clock_rules, session_rules}
 use Rattle.ptpm_script.specs.Spellings.{passes}
 use Rattle.ptpm_script.specs.StartFaults.{some_clock}
 use Rattle.ptpm_script.specs.Starts.{clock_over}
-use Rattle.ptpm_script.proofs.ApartLemmas.{after-none, all-both, all-map, append-none, distinct-made, value-none}
+use Rattle.ptpm_script.proofs.Loops.{after-none, all-both, all-map, append-none, distinct-made, value-none}
 use Rattle.ptpm_script.proofs.TableLemmas.{SoundClock, SoundSession, key-there}
 
 -- ---- what two have

@@ -20,7 +20,7 @@ use Rattle.ptpm_script.specs.KeyFaults.{key_marks, members_marks, missing_keys, 
 use Rattle.ptpm_script.specs.Marks.{Mark, Spot, at_item, each, if_any, in_file, in_port, in_table}
 use Rattle.ptpm_script.specs.Rules.{KeyRule, kind_of, clock_rules, file_rules, link_rules, port_rules, session_rules, u16}
 use Rattle.ptpm_script.specs.ShapeFaults.{clock_marks, end_marks, link_marks, port_marks, ports_marks, rights_marks, session_marks, shape_marks}
-use Rattle.ptpm_script.proofs.ApartLemmas.{all-weaker, append-none, each-none, mark-none}
+use Rattle.ptpm_script.proofs.Loops.{all-weaker, append-none, each-none, mark-none}
 use Rattle.ptpm_script.specs.declared.place.Array.TheVariants as arrays
 use Rattle.ptpm_script.specs.declared.rules.Kind.TheVariants as kinds
 

@@ -18,7 +18,7 @@ use Rattle.ptpm_script.specs.NetworkValue.{AreSized, CanStart, IsAccepted, Netwo
 use Rattle.ptpm_script.specs.StartFaults.{some_clock}
 use Rattle.ptpm_script.specs.Starts.{clock_over}
 use Rattle.ptpm_script.specs.Values.{clock_at, port_at}
-use Rattle.ptpm_script.proofs.ApartLemmas.{all-map}
+use Rattle.ptpm_script.proofs.Loops.{all-map}
 use Rattle.ptpm_script.proofs.ShapeLemmas.{clock_at-size, port_at-fits, shape-sound}
 use Rattle.ptpm_script.proofs.NetworkLaw.{accepted, document-of, unmarked}
 use Rattle.ptpm_script.proofs.TableLemmas.{SoundClock, SoundFile, SoundSession}

@@ -25,7 +25,7 @@ use Rattle.ptpm_script.specs.Spellings.{passes}
 use Rattle.ptpm_script.specs.StartFaults.{port_member_marks, port_start_members, ports_start_marks, rank, rank_marks, rank_of_number, ranked, clock_start_marks, count_start_marks, grandmaster_marks, has_octet, is_own_grandmaster, member_marks, own_marks, own_marks_if, own_mark_if, some_clock, start_mark_if, start_marks}
 use Rattle.ptpm_script.specs.Starts.{port_over, port_start, clock_over, clock_start}
 use Rattle.ptpm_script.specs.Values.{natural_at, natural_up_to, signed_at, signed_up_to, clock_at, description_at, flag_at}
-use Rattle.ptpm_script.proofs.ApartLemmas.{all-both, append-none, each-none, value-none, after-none, all-map, flat-none}
+use Rattle.ptpm_script.proofs.Loops.{all-both, append-none, each-none, value-none, after-none, all-map, flat-none}
 use Rattle.ptpm_script.proofs.TableLemmas.{SoundPort, Keeps, SoundClock, key-there, fitting, whole_given}
 use Rattle.ptpm_script.proofs.TellLemmas.{Tells, tells-append, tells-out, fault_if, tells-value}
 use Rattle.std.specs.Option.{option_or}
