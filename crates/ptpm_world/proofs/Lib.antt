@@ -15,4 +15,3 @@ pub mod FaultLemmas
 pub mod StartedWorld
 pub mod ScriptLemmas
 pub mod Reading
-pub mod Checking
