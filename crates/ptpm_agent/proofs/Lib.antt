@@ -5,12 +5,9 @@ pub mod Turns
 pub mod MostSent
 pub mod AtMostOnce
 pub mod Deliveries
-pub mod KeptReplies
 pub mod Fitting
-pub mod Refused
 pub mod Lists
 pub mod Alike
-pub mod Ports
 pub mod TurnKeeps
 pub mod SentReplies
 pub mod CarriedOut
