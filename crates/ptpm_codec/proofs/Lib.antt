@@ -3,10 +3,8 @@ pub mod OrderedLaws
 pub mod PtpTextLaws
 pub mod RefusalLaws
 pub mod ReadingLaws
-pub mod ViewLaws
 pub mod CanonicalLaws
 pub mod RewritingLaws
 pub mod BufferLaws
-pub mod WritingLaws
 pub mod IdentityLaws
 pub mod MessageLaws

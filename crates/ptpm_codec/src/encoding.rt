@@ -138,7 +138,7 @@ fn write_management(tlv: &mut [u8], id: u16, octets: &[u8])
 
 /// Writes a MANAGEMENT TLV up to its dataField, of this size.
 #[inline(always)]
-#[tactic(auto, using(crate::proofs::WritingLaws::numbers_written))]
+#[tactic(auto, using(crate::proofs::CanonicalLaws::numbers_written))]
 pub(crate) fn write_management_head(head: &mut [u8], id: u16, size: u16)
     requires small { size ≤ 1418 }
     requires length { length head.old ≡ 6 }
