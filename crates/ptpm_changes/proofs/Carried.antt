@@ -17,7 +17,7 @@ use Rattle.ptpm_restarts.specs.Restarting.{RestartingNetwork, initial_restarting
 use Rattle.ptpm_restarts.proofs.ActRuns.{served-among-acts}
 use Rattle.ptpm_restarts.proofs.DeskMoves.{Tells}
 use Rattle.ptpm_restarts.proofs.Sent.{all_contains}
-use Rattle.ptpm_changes.specs.CarriedOut.{IsCarriedOut}
+use Rattle.ptpm_changes.specs.Change.{IsCarriedOut}
 use Rattle.ptpm_changes.specs.Lane.{AreNotedSo, IsLane, Lane, first_of, messages_of, notes_of}
 use Rattle.ptpm_changes.proofs.Told.{IsNoteOf, Knows, knows-along}
 

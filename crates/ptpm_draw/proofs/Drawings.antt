@@ -3,12 +3,11 @@ use Rattle.ptpm_world.proofs.Common.{◌≡◌, ℕ, ◌+◌, ◌++◌, ◌<◌,
 use Rattle.std.proofs.KnownBytes.{Appends-kept}
 use Rattle.std.specs.Prelude.{codes, cond}
 use Rattle.ptpm_draw.specs.Chosen.{chosen_of, is_chosen}
-use Rattle.ptpm_draw.specs.Parts.{AddsParts, ArePartsOf, ShowsLines, opening}
+use Rattle.ptpm_draw.specs.Drawing.{AddsParts, ArePartsOf, ShowsLines, opening, HasDrawn, IsSelection, IsSelectionOf, whole_picture}
 use Rattle.ptpm_draw.specs.Picture.{Drawn, drawn, picture_of, drawn_in, is_delivered}
 use Rattle.ptpm_draw.specs.declared.chosen.Chosen.{Chosen}
 use Rattle.ptpm_draw.specs.declared.picture.EventRow.{EventRow}
 use Rattle.ptpm_world.specs.declared.whole_script.EventLine.{EventLine}
-use Rattle.ptpm_draw.specs.Drawing.{HasDrawn, IsSelection, IsSelectionOf, whole_picture}
 use Rattle.ptpm_draw.specs.declared.selection.Selection.{Selection}
 use Rattle.ptpm_draw.specs.declared.picture.Picture.{Picture}
 use Rattle.ptpm_world.proofs.FaultLemmas.{outside}

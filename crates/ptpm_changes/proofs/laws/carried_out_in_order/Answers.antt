@@ -11,8 +11,7 @@ use Rattle.ptpm_journal.proofs.InOrder.{begun_in_order}
 use Rattle.ptpm_restarts.specs.ActsAsIfNever.{ActsAsIfNever}
 use Rattle.ptpm_restarts.specs.Incidents.{Incident}
 use Rattle.ptpm_restarts.specs.Restarting.{RestartingNetwork}
-use Rattle.ptpm_changes.specs.CarriedOut.{IsCarriedOut}
-use Rattle.ptpm_changes.specs.Change.{IsChange, IsDone, IsInOrder}
+use Rattle.ptpm_changes.specs.Change.{IsCarriedOut, IsChange, IsDone, IsInOrder}
 use Rattle.ptpm_changes.specs.Lane.{Lane, messages_of, notes_of}
 use Rattle.ptpm_changes.proofs.Carried.{carried-out, messages-noted}
 use Rattle.ptpm_journal.specs.declared.record.Mark.TheVariants as marks

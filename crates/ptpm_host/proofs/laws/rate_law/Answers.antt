@@ -3,8 +3,7 @@ use Rattle.std.proofs.Common.{arith, ◌≡◌, ◌∙◌, ℕ, ◌+◌, ◌-◌
 use Rattle.std.proofs.lemmas.Bool.Decides.{nat_tests}
 use Rattle.std.proofs.Math.Nat.{mul-le-mul_left}
 use Rattle.ptpm_host.specs.declared.rate.Rate.{Rate}
-use Rattle.ptpm_host.specs.Rate.{burst, has_token, rate_of, taken}
-use Rattle.ptpm_host.specs.RateLaw.{WithinRate, after, given}
+use Rattle.ptpm_host.specs.Rate.{burst, has_token, rate_of, taken, WithinRate, after, given}
 use Rattle.ptpm_host.proofs.laws.rate_law.Goals as goal
 
 later : (b : Rate) (times : List ℕ) → b.time ≤ (after b times).time
