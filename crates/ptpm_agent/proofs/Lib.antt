@@ -1,13 +1,9 @@
 pub mod Egress
-pub mod Numbers
+pub mod AtMostOnce
 pub mod Entries
 pub mod Turns
 pub mod MostSent
-pub mod AtMostOnce
 pub mod Deliveries
-pub mod Fitting
+pub mod SentReplies
 pub mod Lists
 pub mod Alike
-pub mod TurnKeeps
-pub mod SentReplies
-pub mod CarriedOut

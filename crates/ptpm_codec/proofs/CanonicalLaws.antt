@@ -10,7 +10,7 @@ use Rattle.ptpm_codec.specs.Message.{action_code, action_of, IsValid, IsValidBod
 use Rattle.ptpm_codec.specs.Spelling.{Spells, SpellsBody, SpellsText}
 use Rattle.ptpm_codec.specs.PtpText.{ptp_text_octets}
 use Rattle.ptpm_codec.specs.Canonical.{canonical, header_octets, port_identity_octets, tlv_octets, text_octets, error_status_octets, management_octets}
-use Rattle.ptpm_codec.proofs.PtpTextLaws.{ptp_text_size}
+use Rattle.ptpm_codec.proofs.OctetLaws.{ptp_text_size}
 use Rattle.byteorder.specs.Endian.{big_bytes}
 use Rattle.ptpm_codec.specs.Envelope.{written, envelope_of, sent_with}
 use Rattle.ptpm_codec.specs.declared.message.Action.{Action}

@@ -1,10 +1,6 @@
-pub mod PlaceLaws
-pub mod OrderedLaws
-pub mod PtpTextLaws
+pub mod OctetLaws
 pub mod RefusalLaws
 pub mod ReadingLaws
 pub mod CanonicalLaws
 pub mod RewritingLaws
-pub mod BufferLaws
-pub mod IdentityLaws
 pub mod MessageLaws

@@ -18,9 +18,8 @@ use Rattle.ptpm_codec.specs.Message.{action_code, is_reply, action_of, IsDataFie
 use Rattle.ptpm_codec.specs.Spelling.{Spells, SpellsBody, SpellsManagement, SpellsText}
 use Rattle.ptpm_codec.specs.Refusal.{is_text, frame_refusal, tlv_refusal, text_refusal, message_refusal, refusal}
 use Rattle.ptpm_codec.specs.Reading.{action_at, tlv_kind_at, body_from, body_at, message_at, reading, message_of, IsWellFormed, IsViewed}
-use Rattle.ptpm_codec.proofs.PlaceLaws.{octet-take, number-take}
-use Rattle.ptpm_codec.proofs.OrderedLaws.{option_or-none}
-use Rattle.ptpm_codec.proofs.RefusalLaws.{IsFramed, framed, not_refused-frame, IsTlv, is_tlv, not_refused-tlv, is_text-status, not_refused-status, not_refused-management}
+use Rattle.ptpm_codec.proofs.OctetLaws.{octet-take, number-take}
+use Rattle.ptpm_codec.proofs.RefusalLaws.{option_or-none, IsFramed, framed, not_refused-frame, IsTlv, is_tlv, not_refused-tlv, is_text-status, not_refused-status, not_refused-management}
 use Rattle.ptpm_codec.specs.declared.message.Action.TheVariants as actions
 use Rattle.ptpm_codec.specs.declared.message.Body.TheVariants as bodies
 use Rattle.ptpm_codec.specs.Layout as layout

@@ -31,8 +31,7 @@ use Rattle.ptpm_data.specs.PrecedenceChange.{is_precedence_in_range, precedence_
 use Rattle.ptpm_data.specs.Changes.{applied, changed_by, commanded, grandmaster_changed, set_members, with_ports, with_precedence}
 use Rattle.ptpm_data.specs.Observation.{observed}
 use Rattle.ptpm_data.specs.SetField.{octet}
-use Rattle.ptpm_data.proofs.Carrying.{Suits, length-named_changed}
-use Rattle.ptpm_data.proofs.Keeping.{changed_by-all}
+use Rattle.ptpm_data.proofs.Keeping.{Suits, length-named_changed, changed_by-all}
 use Rattle.ptpm_data.proofs.Observed.{observed-all, observed-exact, observed-stays, observed-refused, observed-identity, observed-ports, observed-disabled, observed-sized, consistent}
 use Rattle.ptpm_codec.specs.declared.message.Action.TheVariants as actions
 use Rattle.ptpm_data.specs.declared.management_id.Layout.TheVariants as layouts

@@ -1,15 +1,12 @@
 pub mod SettingLemmas
 pub mod DescriptionLaws
 pub mod ReplyLemmas
-pub mod Carrying
+pub mod Keeping
 pub mod Answering
 pub mod NameLemmas
 pub mod StartLemmas
 pub mod FieldSizes
-pub mod Keeping
-pub mod AnswerCounts
 pub mod OwnOctets
-pub mod OwnFields
 pub mod PlainMap
 pub mod Observed
 pub mod Differing

@@ -11,8 +11,8 @@ use Rattle.ptpm_data.specs.Observation.{accepted_observation, default_after, dis
 use Rattle.ptpm_data.specs.Ranges.{is_clock_accuracy}
 use Rattle.ptpm_data.proofs.SettingLemmas.{ports_observed}
 use Rattle.ptpm_data.proofs.StartLemmas.{passes, precedence_sound, unless_ok}
-use Rattle.ptpm_codec.proofs.BufferLaws.{refilled}
-use Rattle.ptpm_data.proofs.Carrying.{length-named_changed}
+use Rattle.ptpm_codec.proofs.OctetLaws.{refilled}
+use Rattle.ptpm_data.proofs.Keeping.{length-named_changed}
 use Rattle.std.specs.Option.{option_or}
 use Rattle.ptpm_data.specs.declared.members.Member.{Member}
 use Rattle.ptpm_data.specs.declared.port_state.PortState.{PortState}

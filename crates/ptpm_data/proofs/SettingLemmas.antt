@@ -17,7 +17,7 @@ use Rattle.ptpm_data.specs.SetForm.{SetField, minus◌to◌}
 use Rattle.ptpm_data.specs.Start.{port_start_with, start_settings, is_in_port_range, judged_of_port, port_data_set, port_fault, ports_fault}
 use Rattle.std.specs.List.{All, enumerate_from}
 use Rattle.std.proofs.lemmas.List.Elements.{All-nil, All-cons, All-head, All-tail}
-use Rattle.ptpm_codec.proofs.OrderedLaws.{option_or-none}
+use Rattle.ptpm_codec.proofs.RefusalLaws.{option_or-none}
 use Rattle.ptpm_data.specs.declared.data_sets.PortDataSet.{PortDataSet}
 use Rattle.ptpm_data.specs.declared.observation.PortObservation.{PortObservation}
 use Rattle.ptpm_data.specs.declared.port_change.PortChange.{PortChange}

@@ -4,7 +4,7 @@ use Rattle.ptpm_agent.specs.declared.verdict.Verdict.{Verdict}
 use Rattle.ptpm_agent.specs.Agent.{IsTurned}
 use Rattle.ptpm_agent.specs.Turn.{State, turn, Clock, Turned, is_repeat, judged, next_by, outbox_of, verdict_at}
 use Rattle.ptpm_saved.specs.SavingClock.{is_new, CanBe, Datagram, clock_process}
-use Rattle.ptpm_saved.proofs.SavingClockLaws.{clock_sound}
+use Rattle.ptpm_saved.proofs.SavingLaws.{clock_sound}
 use Rattle.ptpm_host.specs.declared.clock.HostedClock.{HostedClock}
 use Rattle.ptpm_host.specs.Clock.{clock_in, state_in}
 use Rattle.std.specs.FinMap.{empty, get}
@@ -26,8 +26,7 @@ use Rattle.ptpm_table.specs.declared.reply_table.Look.{Look}
 use Rattle.ptpm_table.specs.Entries.{Entries}
 use Rattle.ptpm_table.specs.Numbering.{look_of}
 use Rattle.ptpm_agent.specs.Addressing.{is_addressed, is_numbered, is_own, is_request, request_of}
-use Rattle.ptpm_agent.proofs.TurnKeeps.{turn-ports}
-use Rattle.ptpm_agent.proofs.Turns.{new_parts, reading-message_of, turn-message}
+use Rattle.ptpm_agent.proofs.Turns.{turn-ports, new_parts, reading-message_of, turn-message}
 use Rattle.ptpm_device.specs.Asking.{is_change}
 use Rattle.ptpm_device.specs.Saying.{Say, new_said, reply_said, reply_told, said_at, turn_said, unnumbered_said}
 use Rattle.ptpm_device.proofs.Judged.{turn_said-verdict}
@@ -40,7 +39,7 @@ use Rattle.ptpm_host.specs.Coming.{Changed, ClockState, Coming, Decides, Heard, 
 use Rattle.ptpm_agent.specs.declared.verdict.Verdict.TheVariants as verdicts
 use Rattle.ptpm_codec.specs.declared.message.Action.TheVariants as actions
 use Rattle.ptpm_table.specs.declared.reply_table.Look.TheVariants as looks
-use Rattle.ptpm_saved.proofs.BatchingClockLaws as clocks
+use Rattle.ptpm_saved.proofs.BatchingLaws as clocks
 
 -- ---- a turn whose verdict is not AnsweredNew leaves the data sets
 

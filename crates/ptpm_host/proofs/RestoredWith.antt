@@ -3,7 +3,7 @@ use Rattle.std.proofs.Common.{arith, ◌≡◌, ◌∙◌, ◌≤◌, ◌<◌, �
 use Rattle.std.proofs.lemmas.List.{length-drop, length-take, take-append-drop}
 use Rattle.std.proofs.Math.Seq.{drop-append_seam, take-append_seam}
 use Rattle.ptpm_codec.specs.Layout.{number_at, octet}
-use Rattle.ptpm_codec.proofs.PlaceLaws.{number_at-octets}
+use Rattle.ptpm_codec.proofs.OctetLaws.{number_at-octets}
 use Rattle.ptpm_manager.specs.Image.{image_head, mark, image_version}
 use Rattle.ptpm_saved.specs.SavingClock.{Datagram}
 use Rattle.ptpm_host.specs.UnderWay.{under_way_front, under_way_image, IsUnderWayImage, has_under_way}
@@ -12,7 +12,7 @@ use Rattle.ptpm_agent.specs.Turn.{State}
 use Rattle.ptpm_table.specs.Entries.{is_known}
 use Rattle.ptpm_table.specs.Managers.{identities}
 use Rattle.ptpm_saved.specs.Image.{saved_of, SavedClock, saved_image}
-use Rattle.ptpm_saved.proofs.KeptAll.{kept_all, none_gone}
+use Rattle.ptpm_saved.proofs.EntryOrder.{kept_all, none_gone}
 use Rattle.ptpm_host.specs.declared.clock.HostedClock.{HostedClock}
 use Rattle.ptpm_host.specs.declared.settings.ManagerSettings.{ManagerSettings}
 use Rattle.ptpm_host.specs.Clock.{state_in}

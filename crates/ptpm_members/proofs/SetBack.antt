@@ -33,7 +33,7 @@ use Rattle.ptpm_members.specs.Tables.{field_size, fields_of}
 use Rattle.ptpm_members.proofs.ParsingLemmas.{own}
 use Rattle.ptpm_members.specs.declared.forms.Form.TheVariants as forms
 use Rattle.ptpm_members.specs.declared.number_names.Enumeration.TheVariants as enumerations
-use Rattle.ptpm_data.proofs.OwnFields.{text_back as field_of_text}
+use Rattle.ptpm_data.proofs.OwnOctets.{text_back as field_of_text}
 use Rattle.ptpm_data.specs.declared.management_id.Layout.TheVariants as layouts
 use Rattle.ptpm_data.specs.declared.port_setting.PortSetting.TheVariants as settings
 

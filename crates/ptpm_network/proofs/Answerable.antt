@@ -3,13 +3,11 @@ use Rattle.ptpm_network.proofs.Common.{SessionState, LastIsForOne, with_place-sa
 use Rattle.ptpm_network.specs.Way.{IsWayIn}
 use Rattle.ptpm_network.specs.Meanwhile.{ComeInMeanwhile, LeavesWay, IsAnswerableMeanwhile}
 use Rattle.ptpm_network.proofs.Carrying.{MakesAtMost, few-made}
-use Rattle.ptpm_network.proofs.Leaving.{way-stays, run-frames}
-use Rattle.ptpm_network.proofs.Reaching.{run-reached}
-use Rattle.ptpm_network.proofs.RoundTrip.{Comes, HandedOn, Hears, Moved, first_end, hears-stays, leads-first, pass_back, pass_there, reply, IsSameSession, Sent, send-step, sent-comes, sent-few, tell, sent-session, send-frames, send-taken}
+use Rattle.ptpm_network.proofs.RoundTrip.{way-stays, run-frames, Comes, HandedOn, Hears, Moved, first_end, hears-stays, leads-first, pass_back, pass_there, reply, IsSameSession, Sent, send-step, sent-comes, sent-few, tell, sent-session, send-frames, send-taken}
+use Rattle.ptpm_network.proofs.Reaching.{run-reached, reached}
 use Rattle.ptpm_network.proofs.Steps.{sends-reached}
 use Rattle.ptpm_network.proofs.Taking.{run-append}
 use Rattle.std.proofs.Math.Nat.{ne_of_gt}
-use Rattle.ptpm_network.proofs.Schedule.{reached}
 use Rattle.ptpm_network.proofs.Worth.{unanswered-some}
 use Rattle.ptpm_network.specs.Machine as machine
 

@@ -2,10 +2,9 @@
 use Rattle.ptpm_network.proofs.Common.{PORTS, by_test, arith, ◌≡◌, ℕ, ◌<◌, ◌≤◌, ◌^◌, List, [], ◌∷◌, Option, Some, None, true, refl, sym, ap, subst, and_from, cond-true, cond-false, eq-eqb, same_Some, map, AllByRecursion, ClockIdentity, Message, canonical, Fits, action_of, is_reply, heard_of, RequestValue, Answers, HasOneAnswer, IsMessage, number_of, all_weaker, Answer, ReplyValue, Heard, hops_passed, rendered, reply_message, due_messages, Accepted, History, RequestCopy, accepted_from, after_copy, copy_of, due_reply, joins, kept_for, kept_reply, Clock, same_identity-refl, IsSendable, IsFrame, IsOfOrigin, IsReached, arrives, delivery, reply_frames, reply_origin, AtPort, HasEnd, IsNetwork, Network, manager, ports, Frame, NetworkState, Origin, ReplyTo, accepted_at_target, history, all_flat, all_made, ◌+◌, is_addressed, AreDataSets, DataSetsValue, false, ◌∙◌, and_parts, not-true, or_cases, true≢false, slice_get, Body, boundary_hops, BodyFits, id_of, message_of, read_reply_to, forwarded, is_numbered, is_request, request_of, same_clock-true, IsForeign, IsForeignFrame, answering_frames, delivered_at_clock, is_read, made_frames, read_messages, RequestOf, Neither, all_append}
 use Rattle.ptpm_network.specs.Invariant.{IsReplyFrame}
 use Rattle.ptpm_network.proofs.Arriving.{IsCopyOf, history-here, arrives-reached, is_copy_of, kept-stays}
-use Rattle.ptpm_network.proofs.Frames.{SaysKept, says_kept, IsHeard, forwarded_frames-are}
+use Rattle.ptpm_network.proofs.Frames.{SaysKept, says_kept, IsHeard, forwarded_frames-are, IsTrue, IsTrueTo, heard-true}
 use Rattle.ptpm_network.proofs.Messages.{answer_body-is_reply, canonical-message, reply_at, reply-fits, reply-valid, passed_on, read_answered}
 use Rattle.ptpm_network.proofs.Steps.{has_peers, new_frames-are, KeptStays, more-frames, origin-stays}
-use Rattle.ptpm_network.proofs.Origins.{IsTrue, IsTrueTo, heard-true}
 use Rattle.ptpm_network.proofs.Lists.{and_first, and_rest}
 use Rattle.ptpm_codec.specs.declared.message.Body.TheVariants as bodies
 

@@ -4,8 +4,7 @@ use Rattle.std.proofs.Math.Nat.{ne_of_gt}
 use Rattle.ptpm_network.specs.Copies.{IsCopyAt}
 use Rattle.ptpm_network.proofs.Arriving.{IsCopyOf, is_copy_of, arrives-reached}
 use Rattle.ptpm_network.proofs.Frames.{heard-frame, SaysRequest, says_reply, says_request, sendable-one}
-use Rattle.ptpm_network.proofs.Reaching.{frame_at-is}
-use Rattle.ptpm_network.proofs.Schedule.{reached}
+use Rattle.ptpm_network.proofs.Reaching.{frame_at-is, reached}
 use Rattle.ptpm_network.proofs.Answering.{keeps_due, rendered-one, small}
 use Rattle.ptpm_network.proofs.Messages.{message-hops, reply-fits, reply-valid, reply_at, request_at}
 

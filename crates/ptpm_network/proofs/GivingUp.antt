@@ -24,7 +24,7 @@ use Rattle.ptpm_network.proofs.Accepting.{greatest-grows, kept-joined}
 use Rattle.ptpm_network.proofs.AtWork.{IsAtWork, reach-waiting, reach-within, work-begun, work-gained, work-given, work-given_up, work-hears, work-set}
 use Rattle.ptpm_network.proofs.Served.{HoldsAfterEach, holds_after, stays-first, timely-for}
 use Rattle.ptpm_network.proofs.Honest.{observed-honest, replayed-honest, IsHonest, IsSentBy, IsTrueFrame, begins-honest, frame-true, moved-honest, reaches-honest, sends-honest, sent-all, sent_by, session-honest, turns-honest}
-use Rattle.ptpm_network.proofs.Origins.{IsTrue}
+use Rattle.ptpm_network.proofs.Frames.{IsTrue}
 use Rattle.ptpm_network.proofs.Owned.{IsLastOf, TurnsOwn, turns_own, IsOwnFrame, IsSaid, own-held, reports_with, sent-says}
 use Rattle.ptpm_network.proofs.Promise.{first_of_sessions, firsts}
 use Rattle.ptpm_network.proofs.Refusals.{begin-not_refused}

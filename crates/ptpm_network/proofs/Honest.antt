@@ -2,7 +2,7 @@
 -- of, and clocks and sessions can send what they keep.
 use Rattle.ptpm_network.proofs.Common.{arith, ◌≡◌, ℕ, ◌+◌, ◌-◌, List, length, map, AllByRecursion, Message, copy_of, State, turn, answer_origin, delivery, AtPort, HasEnd, IsNetwork, Network, peers, Frame, Held, held, turn_frames, forwarded_frames, Origin, RequestOf, all_append, all_flat, all_made, End, expected_ports, ◌++◌, ◌∷◌, [], by_test, reading, Turned, all_weaker, sends_in, sent, IsMessage, IsForeignFrame, ◌<◌, ◌^◌, Option, Some, None, Result, Ok, refl, sym, ◌∙◌, ap, subst, same_Some, option_map, PortIdentity, canonical, same_identity, Fits, message_of, ReplyValue, RequestValue, read_reply_to, reply_to, Entry, reply_messages, RequestCopy, delivers_copy, heard_of, request_of, Clock, judged, reply_by, turn-message, Verdict, Answers, AreDataSets, same_identity-true, reply_origin, AtSession, ports, seen, after_turn, ReplyTo, Neither, Happened, unless_refused, reaches, hears, sent_posted, with_session_value, RunningNetwork, SessionValue, initial_history, DataSetsValue, Stands, initial_state, answered, begun, due_message, received_of, request_message, Ask, ask_refusal, begin_refusal, Refusal, frame_at, IsAsked, frame_at-all, at_place}
 use Rattle.ptpm_network.proofs.Messages.{IsPassedOn, less_hop-message, passed_on, canonical-message, request-fits, request-valid, answered as reply-answers, kept, observed-kept, read_answered}
-use Rattle.ptpm_network.proofs.Origins.{IsTrue, IsTrueTo, IsCopyBy, is_copy_by, message-true}
+use Rattle.ptpm_network.proofs.Frames.{IsTrue, IsTrueTo, IsCopyBy, is_copy_by, message-true}
 use Rattle.ptpm_network.proofs.Steps.{has_peers}
 use Rattle.ptpm_network.proofs.Posting.{turn-forwards, turn-reads}
 use Rattle.std.specs.FinMap.{get, insert}

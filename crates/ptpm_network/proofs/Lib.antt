@@ -6,11 +6,9 @@ pub mod Accepting
 pub mod Refusals
 pub mod Steps
 pub mod Frames
-pub mod Origins
 pub mod Arriving
 pub mod Answering
 pub mod Reaching
-pub mod Schedule
 pub mod Running
 pub mod Receiving
 pub mod Posting
@@ -23,7 +21,6 @@ pub mod Worth
 pub mod Exchanging
 pub mod Carrying
 pub mod RoundTrip
-pub mod Leaving
 pub mod Answerable
 pub mod Reporting
 pub mod Honest

@@ -10,7 +10,7 @@ use Rattle.ptpm_table.proofs.SerialLaws.{order_of-same, order_of-newer, order_of
 use Rattle.ptpm_agent.specs.CarriedOut.{carried_by, carried_in}
 use Rattle.ptpm_agent.specs.Turn.{new_reply, next_by}
 use Rattle.ptpm_agent.proofs.Entries.{accepted_at, accepted_entry, accepted_kept}
-use Rattle.ptpm_agent.proofs.Numbers.{serial_of-number_of}
+use Rattle.ptpm_agent.proofs.AtMostOnce.{serial_of-number_of}
 use Rattle.ptpm_agent.proofs.Turns.{CopyParts, judged-copy}
 use Rattle.ptpm_network.specs.GivingUp.{carried_as}
 use Rattle.ptpm_network.proofs.Accepting.{Keeps, IsToldOf, in_step-begun, in_step-keeps, in_step-reported, in_step-set, keeps-begun}
@@ -20,12 +20,11 @@ use Rattle.ptpm_manager.specs.declared.receiving.Received.{Received}
 use Rattle.ptpm_manager.specs.Receiving.{left_by}
 use Rattle.ptpm_network.specs.ByManager.{Account}
 use Rattle.ptpm_network.specs.Invariant.{IsReplyFrame, IsRequestFrame}
-use Rattle.ptpm_network.proofs.Frames.{reply_passed, reply_says, request_passed, same_read}
+use Rattle.ptpm_network.proofs.Frames.{reply_passed, reply_says, request_passed, same_read, IsTrue, IsTrueTo}
 use Rattle.ptpm_network.proofs.Receiving.{answered-value, begun-value, Takes, not_idle, takes-by, takes-last, takes-own}
 use Rattle.ptpm_network.proofs.Honest.{IsSentBy}
 use Rattle.ptpm_network.proofs.Refusals.{idle-not_waiting}
 use Rattle.ptpm_network.proofs.Steps.{reply-stays, request-sent, request-stays}
-use Rattle.ptpm_network.proofs.Origins.{IsTrue, IsTrueTo}
 use Rattle.ptpm_table.specs.declared.reply_table.Look.TheVariants as looks
 use Rattle.ptpm_agent.specs.declared.verdict.Verdict.TheVariants as verdicts
 use Rattle.ptpm_manager.specs.declared.receiving.Received.TheVariants as received

@@ -3,7 +3,7 @@ use Rattle.ptpm_network.proofs.Common.{expected_ports, ◌==◌, ◌&&◌, and_f
 use Rattle.ptpm_network.proofs.Accepting.{IsInOrder, in_order}
 use Rattle.ptpm_network.proofs.Exchanging.{copy-delivered, latest-kept, older-none}
 use Rattle.ptpm_network.proofs.Running.{follows, network_run-running}
-use Rattle.ptpm_network.proofs.Schedule.{reached}
+use Rattle.ptpm_network.proofs.Reaching.{reached}
 use Rattle.ptpm_network.proofs.Standing.{stands-initial_state, refused-leaves, strangers-leave}
 use Rattle.ptpm_network.proofs.Taking.{in_time-append, run-append, taken-in_range}
 

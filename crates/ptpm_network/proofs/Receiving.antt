@@ -2,11 +2,9 @@
 use Rattle.ptpm_network.proofs.Common.{by_test, arith, ◌≡◌, ℕ, ◌<◌, ◌≤◌, ◌+◌, ◌==◌, List, Option, Some, None, Result, Ok, Err, true, false, refl, sym, ◌∙◌, ap, subst, and_from, and_parts, cond-true, cond-false, eq-eqb, eqb-true, ltb-false, not-true, or_left, or_right, true≢false, false≢true, is_some, DecodeError, Message, action_of, id_of, message_of, reading, same_identity-refl, same_identity-true, same_clock-refl, same_clock-true, message_of-reading, reading-message_of, Report, answer_by, answer_to, is_content, reason_of, received_of, outcome_in, SessionValue, is_waiting, number_of, IsOfOrigin, IsReached, is_answer, report_from, told_by, IsNetwork, Network, SessionStart, manager, Frame, NetworkState, Origin, RequestOf, ReplyTo, Neither, SessionState, accepted_at_target, is_idle, is_late, issued, session_value, ◌-◌, [], ◌∷◌, ◌++◌, length, length-append, ne_eqb, map-append, PortIdentity, RequestValue, answered, begun, RunningNetwork, hears, sends_in, with_session_value, begun_in, reported, sends, with_session, Stands, unanswered, at_place, at_places, get_last, le_trans}
 use Rattle.ptpm_manager.specs.declared.receiving.Reason.{Reason}
 use Rattle.ptpm_manager.proofs.ReplyLaws.{IsAccepted, is_accepted, no_reason}
-use Rattle.ptpm_network.proofs.Frames.{SaysReply, heard-frame, same_read, says_reply}
+use Rattle.ptpm_network.proofs.Frames.{SaysReply, heard-frame, same_read, says_reply, IsTrueTo, heard-true}
 use Rattle.ptpm_network.proofs.Messages.{action_of-answer_body, answer_body-is_reply, reply_at}
-use Rattle.ptpm_network.proofs.Origins.{IsTrueTo, heard-true}
-use Rattle.ptpm_network.proofs.Reaching.{no_report, told-message, reports_of_frame}
-use Rattle.ptpm_network.proofs.Schedule.{reached}
+use Rattle.ptpm_network.proofs.Reaching.{no_report, told-message, reports_of_frame, reached}
 use Rattle.ptpm_network.proofs.Lists.{and_first, and_rest}
 use Rattle.ptpm_manager.specs.declared.receiving.Received.{Received}
 use Rattle.ptpm_network.proofs.Held.{held-sent_frames}

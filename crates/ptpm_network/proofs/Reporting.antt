@@ -4,13 +4,12 @@ use Rattle.ptpm_network.specs.Way.{ReportsAfter, IsWayIn}
 use Rattle.ptpm_network.proofs.Answerable.{answer-runs, answerable, answering, answerable-at}
 use Rattle.ptpm_network.proofs.Promise.{first_of_sessions, firsts, stands-network_run}
 use Rattle.ptpm_network.proofs.Running.{network_run-stands}
-use Rattle.ptpm_network.proofs.Schedule.{reached}
+use Rattle.ptpm_network.proofs.Reaching.{reached}
 use Rattle.ptpm_network.proofs.Taking.{taken-in_time, run-append}
 use Rattle.ptpm_network.proofs.Worth.{report-index, report-worth, session-named}
 use Rattle.ptpm_network.specs.Meanwhile.{IsAnswerableMeanwhile, IsReady}
 use Rattle.ptpm_network.proofs.Exchanging.{step-taken}
-use Rattle.ptpm_network.proofs.RoundTrip.{Hears}
-use Rattle.ptpm_network.proofs.Leaving.{way-stays}
+use Rattle.ptpm_network.proofs.RoundTrip.{Hears, way-stays}
 
 -- ---- what reports of a running network are worth, and that it runs to the report that a way gives
 

@@ -1,14 +1,15 @@
 -- One delivery on the way of a request: a clock passes it on, or the target replies, and the same of the reply.
-use Rattle.ptpm_network.proofs.Common.{LastIsForOne, arith, ◌≡◌, ℕ, ◌<◌, ◌≤◌, ◌+◌, ◌-◌, List, [], ◌∷◌, Some, true, false, refl, sym, ◌∙◌, ap, subst, ⊎_elim, ◌⊎◌, inl, inr, length, length-append, cond-false, le-ltb, ne_eqb, slice_get, list_any, boundary_hops, domain_number, may_forward, History, Deliver, frame_at, HasReplied, HasRoom, IsHeardBy, IsOfOrigin, IsReached, delivered_at_clock, step, AtPort, End, HasEnd, IsNetwork, Network, peers, same_end, Frame, NetworkState, Origin, RequestOf, ReplyTo, greatest_accepted, history, is_late, issued, new_frames, AreLinked, ComesIn, Hop, Leads, PassesOn, IsFrame, same_identity-refl, length-map, expected_ports, ◌++◌, None, eq-eqb, Message, canonical, RequestValue, send_refusal, request_message, Send, refusal, HasReported, happens, AtSession, is_idle, unanswered, with_place-same}
+use Rattle.ptpm_network.proofs.Common.{LastIsForOne, arith, ◌≡◌, ℕ, ◌<◌, ◌≤◌, ◌+◌, ◌-◌, List, [], ◌∷◌, Some, true, false, refl, sym, ◌∙◌, ap, subst, ⊎_elim, ◌⊎◌, inl, inr, length, length-append, cond-false, le-ltb, ne_eqb, slice_get, list_any, boundary_hops, domain_number, may_forward, History, Deliver, frame_at, HasReplied, HasRoom, IsHeardBy, IsOfOrigin, IsReached, delivered_at_clock, step, AtPort, End, HasEnd, IsNetwork, Network, peers, same_end, Frame, NetworkState, Origin, RequestOf, ReplyTo, greatest_accepted, history, is_late, issued, new_frames, AreLinked, ComesIn, Hop, Leads, PassesOn, IsFrame, same_identity-refl, length-map, expected_ports, ◌++◌, None, eq-eqb, Message, canonical, RequestValue, send_refusal, request_message, Send, refusal, HasReported, happens, AtSession, is_idle, unanswered, with_place-same, Replay, Event, Stranger, run, all_weaker}
 use Rattle.ptpm_network.proofs.Accepting.{greatest-same}
 use Rattle.ptpm_network.proofs.Arriving.{JoinsAt, here_after, history-elsewhere}
-use Rattle.ptpm_network.proofs.Carrying.{IsIn, IsPassing, MakesAtMost, MayPass, in_any, in_map, in_right, passed-domain, passed-hops, passed_copy, passing-few, passing-history, passing-made, reply-passing, request-passing}
+use Rattle.ptpm_network.proofs.Carrying.{IsIn, IsPassing, MakesAtMost, MayPass, in_any, in_map, in_right, passed-domain, passed-hops, passed_copy, passing-few, passing-history, passing-made, reply-passing, request-passing, in_left}
 use Rattle.ptpm_network.proofs.Exchanging.{delivery-step, delivery-taken, replied, is_room, reports-answer, said-domain, said-hops, step-taken}
 use Rattle.ptpm_network.proofs.Frames.{heard-frame}
-use Rattle.ptpm_network.proofs.Reaching.{frame_at-is, step-reached}
+use Rattle.ptpm_network.proofs.Reaching.{frame_at-is, step-reached, after-step, after-delivery}
 use Rattle.ptpm_network.proofs.Messages.{request-fits, request-valid}
 use Rattle.ptpm_network.proofs.Steps.{unanswered-last}
 use Rattle.ptpm_network.proofs.Worth.{session-named}
+use Rattle.ptpm_network.specs.Way.{IsWayIn}
 use Rattle.ptpm_network.specs.Machine as machine
 
 -- ---- what stays
@@ -294,3 +295,32 @@ tell N s z k domain hops n place r room is busy here comes =
       reported = subst (λ (x : NetworkState). HasReported z x s) (sym (delivery-step N z number.0 f (AtSession s) number.1 comes.at_end room))
           (reports-answer N z s f n r place i (comes.origin_is ∙ ap (ReplyTo s) (sym is)) busy (comes.domain_is ∙ sym here));
     }
+
+-- ---- what events leave as it was: frames stay, and a way stays one if its clocks and its session do
+
+-- ---- frames stay
+
+module _ (N : Network) (w : NetworkState) (x : Frame) where
+  happens-frames : (e : Event) → IsIn w.frames x → IsIn (happens N w e).frames x
+  unfolding happens
+  happens-frames (Send s) p = in_left w.frames _ x p
+  happens-frames (Deliver n) p =
+      after-delivery (λ (u : NetworkState). IsIn u.frames x) N w n p (λ f at c port end. in_left w.frames _ x p) (λ f at s end. p)
+  happens-frames (Replay n end) p = in_left w.frames _ x p
+  happens-frames (Stranger c port datagram) p = in_left w.frames _ x p
+  happens-frames _ p = p
+
+pub run-frames : (N : Network) (w : NetworkState) (es : List Event) (x : Frame)
+    → IsIn w.frames x
+    → IsIn (run N w es).frames x
+run-frames N w [] x p = p
+run-frames N w (e ∷ es) x p = run-frames N (step N w e) es x (after-step (λ (u : NetworkState). IsIn u.frames x) N w e p (λ none. happens-frames N w x e p))
+
+-- ---- a way stays one
+
+-- if all clocks but the target are as they were, and the target hears the last request, and has the port that it is for
+pub way-stays : (N : Network) (w u : NetworkState) (s domain port : ℕ) (hops : List Hop)
+    → ((d : ℕ) → (d ≡ (N.session s).target → ⊥) → history N u d ≡ history N w d)
+    → LastIsForOne N s (u.session s).begun → Hears N u s (issued u s) domain → IsWayIn N w s domain hops port
+    → IsWayIn N u s domain hops port
+way-stays N w u s domain port hops same for_one hears way = grind (arith, all_weaker)

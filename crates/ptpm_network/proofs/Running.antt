@@ -4,12 +4,11 @@ use Rattle.ptpm_network.proofs.Common.{arith, by_test, ◌≡◌, ℕ, ◌<◌, 
 use Rattle.ptpm_network.proofs.Accepting.{in_step-window}
 use Rattle.ptpm_network.proofs.Arriving.{IsCopyOf, copies-elsewhere, copies-here, is_copy_of}
 use Rattle.ptpm_network.proofs.Frames.{IsHeard, heard-frame}
-use Rattle.ptpm_network.proofs.Reaching.{first-reached, frame_at-is, step-reached, after-step, after-delivery, strange-comes, port-exists, session-exists, strange-says}
+use Rattle.ptpm_network.proofs.Reaching.{first-reached, frame_at-is, step-reached, after-step, after-delivery, strange-comes, port-exists, session-exists, strange-says, reached}
 use Rattle.ptpm_network.proofs.Steps.{InStep}
 use Rattle.ptpm_network.proofs.Receiving.{begun-value, hears-stands, sends-stand, session-stands, not_idle}
 use Rattle.ptpm_network.proofs.Held.{frame_at-map, turned-seen}
 use Rattle.ptpm_network.proofs.Refusals.{idle-not_waiting}
-use Rattle.ptpm_network.proofs.Schedule.{reached}
 use Rattle.ptpm_network.proofs.Standing.{stands-turned}
 use Rattle.ptpm_network.proofs.Taking.{run-append}
 use Rattle.ptpm_manager.specs.Ask as ask

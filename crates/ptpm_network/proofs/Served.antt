@@ -15,7 +15,7 @@ use Rattle.ptpm_network.specs.GivingUp.{carried_as}
 use Rattle.ptpm_network.proofs.Accepting.{in_order, in_step-window}
 use Rattle.ptpm_network.proofs.Arriving.{step-gained}
 use Rattle.ptpm_network.specs.Invariant.{IsRequestFrame}
-use Rattle.ptpm_network.proofs.Origins.{IsTrue}
+use Rattle.ptpm_network.proofs.Frames.{IsTrue}
 use Rattle.ptpm_network.proofs.Owned.{IsLastOf, TurnsOwn, turns_own, IsOwn, IsOwnFrame, IsSaid, own-begun, own-hears, own-held, own-message, own-resumed, own-retuned, own-sent, reports_with, state_of}
 use Rattle.ptpm_network.proofs.Promise.{first_of_sessions, firsts}
 use Rattle.ptpm_network.proofs.Serving.{IsGiven, comes_own, held-turned, with_accepted}

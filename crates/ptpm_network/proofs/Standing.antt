@@ -1,8 +1,7 @@
 -- Where a clock goes at a frame: where the machine goes, and nowhere if the frame is a stranger's or its request is refused.
 use Rattle.ptpm_network.proofs.Common.{arith, by_test, ◌≡◌, ℕ, List, Some, None, sym, ◌∙◌, ap, subst, cond-true, cond-false, eqb-true, same_Some, AllByRecursion, Contains, ErrorId, Answer, Refused, ReplyValue, refused_answer, Delivery, History, RequestCopy, accepted_from, after_arrival, after_copy, copy_of, due_reply, joins, Clock, Event, IsInRange, Stranger, refusal, IsReached, arrives, happens, run, step, IsNetwork, Network, ports, NetworkState, initial_state, history, ◌<◌, ◌==◌, ◌++◌, refl, length, map-append, map, PortIdentity, DataSetsValue, forwarded, StandsAt, State, turn, IsInTime, stands-arrival, stands-initial_history, answer_messages, answer_origin, delivered_at_clock, delivery, forwarded_frames, made_frames, reply_frames, with_place, Stands, RunningNetwork, after_turn, held, initial_network, turn_frames, Frame, eq-eqb}
 use Rattle.ptpm_network.proofs.Arriving.{history-elsewhere, history-here, is_copy_of, history-ports}
-use Rattle.ptpm_network.proofs.Reaching.{after-step, strange-comes}
-use Rattle.ptpm_network.proofs.Schedule.{reached}
+use Rattle.ptpm_network.proofs.Reaching.{after-step, strange-comes, reached}
 use Rattle.ptpm_network.proofs.Posting.{turn-answers, turn-passes_on}
 
 -- ---- what leaves a clock as it was: a stranger's datagram, and a request that is refused

@@ -3,10 +3,8 @@
 use Rattle.ptpm_network.proofs.Common.{by_test, arith, ◌≡◌, ℕ, ◌+◌, ◌<◌, ◌≤◌, ◌&&◌, Bool, true, false, List, Some, refl, sym, ◌∙◌, ap, subst, ltb-true, ltb-false, cond-true, true≢false, SessionValue, Report, received_of, Event, Begin, Send, Resume, Retune, Deliver, Replay, Stranger, frame_at, is_late_delivery, is_late_frame, run, initial_state, HasEnd, Network, Held, RunningNetwork, held, StandsAfter, Stands, Frame, Neither, Origin, ReplyTo, RequestOf, is_late, is_late_at, NetworkState, issued, IsOfOrigin, IsReached, and_parts, reading, number_of, nat_lt, if◌then◌else◌, [], ◌∷◌, ◌++◌, length, Option, None, all_append, AllByRecursion, Contains, Accepted, kept_reply, State, Message, with_place, IsNetwork, manager, Happened, Ok, network_event, with_session_value, frame_at-all, at_place, at_places}
 use Rattle.ptpm_network.proofs.Held.{frame_at-map}
 use Rattle.ptpm_network.proofs.Promise.{first_of_sessions, firsts}
-use Rattle.ptpm_network.proofs.Reaching.{frame_at-is}
-use Rattle.ptpm_network.proofs.Schedule.{reached}
-use Rattle.ptpm_network.proofs.Frames.{heard-frame, same_read, says_reply, reply_says}
-use Rattle.ptpm_network.proofs.Origins.{heard-true}
+use Rattle.ptpm_network.proofs.Reaching.{frame_at-is, reached}
+use Rattle.ptpm_network.proofs.Frames.{heard-frame, same_read, says_reply, reply_says, heard-true}
 use Rattle.ptpm_network.proofs.Receiving.{Takes, takes-by, takes-last, takes-own}
 use Rattle.ptpm_manager.specs.declared.setup.Setup.{Setup}
 use Rattle.ptpm_restarts.specs.AsIfNever.{is_late_in, IsTimely}

@@ -4,7 +4,7 @@ use Rattle.ptpm_network.proofs.Common.{is_late_delivery, State, true≢false, ar
 use Rattle.ptpm_manager.specs.declared.receiving.Received.TheVariants as received
 use Rattle.ptpm_network.specs.Events.{refusal}
 use Rattle.ptpm_network.proofs.Promise.{stands-event, stands-first, stands-judged}
-use Rattle.ptpm_network.proofs.Schedule.{reached}
+use Rattle.ptpm_network.proofs.Reaching.{reached}
 use Rattle.ptpm_network.proofs.Taking.{run-append}
 use Rattle.ptpm_restarts.specs.AsIfNever.{AreSomeOf, AreTimely, Ended, IsAsIfNever, IsPossible, IsPromisedRestarting, IsSame, IsTimely, Skip, Take, is_late_in, never_crashed}
 use Rattle.ptpm_restarts.specs.Incidents.{CrashClock, CrashSession, GivesUp, Happens, Observes, Incident, SaveClock, SaveSession, after_incidents, happens, incident, refused, unless}

@@ -8,5 +8,3 @@ pub mod LimitLemmas
 pub mod NameLemmas
 pub mod StartLemmas
 pub mod NetworkLaw
-pub mod NetworkFacts
-pub mod SizeLaw

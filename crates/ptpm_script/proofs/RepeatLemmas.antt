@@ -8,7 +8,7 @@ use Rattle.std.proofs.lemmas.Slice.Eq.{bytes_eq-Decides}
 use Rattle.toml.specs.Data.{Members, get_member}
 use Rattle.ptpm_codec.specs.Identity.{same_clock, same_identity}
 use Rattle.ptpm_codec.specs.declared.identity.PortIdentity.{PortIdentity}
-use Rattle.ptpm_codec.proofs.IdentityLaws.{same_clock-refl}
+use Rattle.ptpm_codec.proofs.MessageLaws.{same_clock-refl}
 use Rattle.ptpm_script.specs.declared.net_error.NetError.TheVariants.{Twice}
 use Rattle.ptpm_script.specs.Heads.{ClockHeadValue, EndHeadValue, SessionHeadValue, items_at}
 use Rattle.ptpm_script.specs.Marks.{Spot, each_after}

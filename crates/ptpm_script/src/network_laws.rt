@@ -25,7 +25,7 @@ pub fn accepted_networks()
 {}
 
 /// Every `Network` is one that some text is, and keeps those limits.
-#[tactic(auto, using(crate::proofs::NetworkFacts::network_laws))]
+#[tactic(auto, using(crate::proofs::NetworkLaw::network_laws))]
 pub fn network_law(network: &Network)
     ensures of_text { ∥ IsOfText (network_value network.now) ∥₁ }
     ensures accepted { IsAccepted (network_value network.now) }

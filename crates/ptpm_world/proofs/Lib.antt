@@ -9,7 +9,6 @@ pub mod Following
 pub mod Telling
 pub mod StartingLemmas
 pub mod Taking
-pub mod Answering
 pub mod Playing
 pub mod FaultLemmas
 pub mod StartedWorld

@@ -5,7 +5,7 @@ use Rattle.ptpm_agent.specs.Agent.{IsTurned}
 use Rattle.ptpm_agent.specs.declared.verdict.Verdict.{Verdict}
 use Rattle.ptpm_network.proofs.Posting.{held-turn_frames}
 use Rattle.ptpm_agent.proofs.Lists.{state_after}
-use Rattle.ptpm_agent.proofs.TurnKeeps.{turn-ports}
+use Rattle.ptpm_agent.proofs.Turns.{turn-ports}
 use Rattle.ptpm_world.specs.declared.took.Took.TheVariants.{AtClock, Fine}
 use Rattle.ptpm_network.specs.Events.{Event, no_session}
 use Rattle.ptpm_world.proofs.Changing.{ClockChange, clock_change-network, clock_change-running, SessionChange, running_by, session_change-network, session_change-none, session_change-quiet, session_change-running, read-kept}

@@ -4,8 +4,7 @@ use Rattle.ptpm_network.specs.Invariant.{IsOfOrigin, IsReached}
 use Rattle.ptpm_network.specs.Machine.{state_after}
 use Rattle.ptpm_network.proofs.Held.{frame_at-map}
 use Rattle.ptpm_network.proofs.Promise.{first_of_sessions, firsts, stands-headline, stands-event, stands-judged, stands-refused}
-use Rattle.ptpm_network.proofs.Reaching.{frame_at-is}
-use Rattle.ptpm_network.proofs.Schedule.{reached}
+use Rattle.ptpm_network.proofs.Reaching.{frame_at-is, reached}
 use Rattle.std.specs.Prelude.{IfOk, ◌↔◌}
 use Rattle.ptpm_network.specs.Events.{Replay, no_end, no_session}
 use Rattle.ptpm_network.specs.Network.{End}

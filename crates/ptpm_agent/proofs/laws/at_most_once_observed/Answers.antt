@@ -4,7 +4,7 @@ use Rattle.std.proofs.lemmas.Bool.{cases_Bool, cond-true}
 use Rattle.ptpm_codec.specs.declared.identity.PortIdentity.{PortIdentity}
 use Rattle.ptpm_codec.specs.Identity.{same_identity}
 use Rattle.ptpm_data.specs.Replies.{reply_to}
-use Rattle.ptpm_codec.proofs.IdentityLaws.{same_identity-true}
+use Rattle.ptpm_codec.proofs.MessageLaws.{same_identity-true}
 use Rattle.ptpm_table.proofs.Identities.{same_identity-refl}
 use Rattle.ptpm_agent.specs.Turn.{Clock}
 use Rattle.ptpm_agent.specs.Once.{Accepted, History, RequestCopy, accepted_from, after_copy, copy_of, due_reply, greatest, joined, joins, kept_reply}

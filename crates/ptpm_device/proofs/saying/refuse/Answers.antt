@@ -25,12 +25,11 @@ use Rattle.ptpm_table.specs.Sending.{HasSent}
 use Rattle.ptpm_device.specs.Refusing.{TakesAsRefused, refused_answer}
 use Rattle.std.specs.FinMap.{insert}
 use Rattle.ptpm_codec.specs.declared.identity.ClockIdentity.{ClockIdentity}
-use Rattle.ptpm_data.proofs.AnswerCounts.{reply_few}
+use Rattle.ptpm_data.proofs.Answering.{reply_few}
 use Rattle.ptpm_table.specs.Rendering.{rendered}
 use Rattle.ptpm_agent.specs.Addressing.{heard_of, names_port, request_of}
-use Rattle.ptpm_agent.proofs.Fitting.{may_judge_port}
+use Rattle.ptpm_agent.proofs.SentReplies.{may_judge_port, IsSenderOf, sender_as_made, sent_rendered, sent_reply}
 use Rattle.ptpm_agent.proofs.MostSent.{rendered_count}
-use Rattle.ptpm_agent.proofs.SentReplies.{IsSenderOf, sender_as_made, sent_rendered, sent_reply}
 use Rattle.ptpm_agent.proofs.Turns.{new_parts}
 use Rattle.ptpm_codec.specs.declared.message.Action.TheVariants as actions
 use Rattle.ptpm_device.proofs.saying.refuse.Goals as goal

@@ -1,7 +1,7 @@
 -- The data sets of a clock, which its name finds.
 use Rattle.ptpm_world.proofs.Common.{◌≡◌, ℕ, zero, suc, true, false, List, [], ◌∷◌, Some, refl, sym, ap, ◌∙◌, arith, ⊎_elim, find, map, option_map, bytes_eq, cases_Bool, cond-true, cond-false, same_Some, slice_get, slice_get-map, clock_value, network_value, NetworkValue, IsAccepted, ClockValue, running, sets_of, state_of, length, slice_get_read}
 use Rattle.std.proofs.lemmas.Option.{none-some}
-use Rattle.ptpm_script.proofs.NetworkFacts.{of_text-accepted}
+use Rattle.ptpm_script.proofs.NetworkLaw.{of_text-accepted}
 use Rattle.ptpm_script.specs.declared.network.Network.{Network}
 use Rattle.ptpm_script.specs.declared.network.NetworkClock.{NetworkClock}
 use Rattle.std.proofs.lemmas.Slice.Eq.{bytes_eq-Decides}

@@ -4,9 +4,8 @@ use Rattle.ptpm_agent.proofs.Egress.{copies_up_to-all, length-copies_up_to_but_o
 use Rattle.ptpm_network.proofs.Answering.{keeps_due}
 use Rattle.ptpm_network.proofs.Arriving.{IsCopyOf, arrives-reached, is_copy_of}
 use Rattle.ptpm_network.proofs.Frames.{IsHeard, heard-frame}
-use Rattle.ptpm_network.proofs.Reaching.{frame_at-is, step-reached, after-step, after-delivery, strange-comes, first-reached}
+use Rattle.ptpm_network.proofs.Reaching.{frame_at-is, step-reached, after-step, after-delivery, strange-comes, first-reached, reached}
 use Rattle.ptpm_network.proofs.Messages.{read_few}
-use Rattle.ptpm_network.proofs.Schedule.{reached}
 use Rattle.ptpm_network.proofs.laws.few_frames.Goals as goal
 
 -- ---- one message

@@ -14,11 +14,10 @@ use Rattle.ptpm_network.specs.Meanwhile.{StaysOpen, concerns, is_closing, may_cl
 use Rattle.ptpm_network.proofs.Accepting.{greatest-grows}
 use Rattle.ptpm_network.proofs.Arriving.{history-elsewhere, history-here}
 use Rattle.std.proofs.Common.{rules, le_refl}
-use Rattle.ptpm_network.proofs.Reaching.{after-delivery, step-reached, after-step}
+use Rattle.ptpm_network.proofs.Reaching.{after-delivery, step-reached, after-step, reached}
 use Rattle.ptpm_network.proofs.Standing.{strange-happens}
 use Rattle.ptpm_network.proofs.Lists.{flipped}
 use Rattle.ptpm_network.proofs.Answerable.{leaves-nothing}
-use Rattle.ptpm_network.proofs.Schedule.{reached}
 use Rattle.ptpm_data.specs.declared.management_id.Layout.TheVariants as layouts
 use Rattle.ptpm_data.specs.declared.port_state.PortState.TheVariants as states
 use Rattle.ptpm_network.proofs.meanwhile_laws.ways_stay_open.Goals as goal

@@ -12,9 +12,8 @@ use Rattle.ptpm_agent.specs.Observing.{moved_state}
 use Rattle.ptpm_saved.specs.Saving.{Came, Comes, Device, Fails, Happening, IsSound, Noted, Notes, Process, Saves, Sends, after_all, happen_all, noted_each, took}
 use Rattle.ptpm_saved.specs.SavingClock.{CanBe, as_observed, clock_process, is_new}
 use Rattle.ptpm_saved.specs.Batching.{Batch, Call, Confirms, Handles, HoldsChanges, LosesPower, answers, as_device, calls, changes_in, comes_after, events, events_of, goes_on, holds, is_held, notes, observes, restarts_at, shown, shown_from, waits}
-use Rattle.ptpm_saved.proofs.SavingClockLaws.{clock_sound}
-use Rattle.ptpm_saved.proofs.BatchingLaws.{Can, can_call, handled, notes_of, one_call, shown-append, shown_noted, unheld}
-use Rattle.ptpm_saved.proofs.BatchingClockLaws.{holds_changes}
+use Rattle.ptpm_saved.proofs.SavingLaws.{clock_sound}
+use Rattle.ptpm_saved.proofs.BatchingLaws.{Can, can_call, handled, notes_of, one_call, shown-append, shown_noted, unheld, holds_changes}
 use Rattle.ptpm_restarts.specs.ActsAsIfNever.{ActsAsIfNever, IsPossibleAct}
 use Rattle.ptpm_restarts.specs.Batching.{AsEver, BatchIncident, BatchingNetwork, ClockInput, HasRoom, StartConsistent, after_batch_incidents, all_incidents, batch_incident, calls_at, calls_within, clock_input, happens_at, incidents_at, incidents_of, incidents_of_call, incidents_of_event, initial_batching, input_at, input_of, is_held_at, network_clock, sends_ready, shown_network, unless_refused, with_sessions_of, within, IsPossibleBatched, IsPromisedBatching}
 use Rattle.ptpm_restarts.specs.Incidents.{CrashClock, CrashSession, GivesUp, Happens, Incident, Observes, SaveClock, SaveSession, after_incidents, comes_in, crashes_clock, delivered, happens, incident, lets_go, refused, replayed, unless}

@@ -25,7 +25,7 @@ use Rattle.ptpm_agent.specs.Turn.{Clock, State, Turned, carried_out, is_repeat, 
 use Rattle.ptpm_agent.proofs.Turns.{forwarded-copy, reading-message_of, turn-message, turned_new, turned_other, message_of-reading}
 use Rattle.ptpm_host.specs.Changing.{owned_at, owner_by, owner_clock, owner_turn, owner_verdict}
 use Rattle.std.proofs.lemmas.Grind.{common_steps}
-use Rattle.ptpm_data.proofs.AnswerCounts.{new_few}
+use Rattle.ptpm_data.proofs.Answering.{new_few}
 use Rattle.ptpm_data.proofs.Differing.{nothing_changed}
 use Rattle.ptpm_table.specs.Tables.{entries_of_block}
 use Rattle.ptpm_host.specs.Clock.{clock_in, messages_in, state_in}
