@@ -1,9 +1,17 @@
--- Two agents of the same data sets and the same table are the same.
+-- A clock has as many ports after a request and after an observation; two agents of the same data sets and table are the same.
+use Rattle.ptpm_data.proofs.Keeping.{changed_by-ports}
+use Rattle.ptpm_data.proofs.Observed.{observed-ports}
 use Rattle.std.proofs.Common.{◌≡◌, ◌≤◌, Result, Ok, Err, OnErr, length}
 use mathlib.Core.HLevel.{is_prop→PathP}
 use native.Mathlib.Bridge.{le_prop}
 use Rattle.ptpm_table.specs.declared.reply_table.ReplyTable.{Ghosts}
 use Rattle.ptpm_agent.specs.declared.agent.Agent.{Agent}
+
+-- ---- a clock has as many ports after a request and after an observation as before
+
+pub ruleset port_laws = (changed_by-ports, observed-ports)
+
+-- ---- two agents of the same data sets and the same table are the same
 
 pub alike : {T : Type 0} {g : Ghosts T} (a b : Agent T g) → a.sets ≡ b.sets → a.table ≡ b.table → a ≡ b
 alike {g = g} a b sets table = λ i. record {

@@ -1,6 +1,9 @@
 -- At-most-once execution: what a turn does with a copy of a request is what the history says.
-use Rattle.std.proofs.lemmas.Grind.{common_steps}
 use Rattle.std.proofs.Common.{arith, ◌≡◌, ℕ, ◌<◌, ◌≤◌, ◌==◌, List, [], ◌∷◌, Option, Some, None, Ok, Bool, true, false, length, refl, sym, ◌∙◌, ap, subst, ⊎_elim}
+use Rattle.ptpm_table.specs.Serial.{serial_of, order_of, InWindow}
+use Rattle.ptpm_table.proofs.SerialLaws.{serial_in_window, order_of-same, order_of-newer, order_of-older}
+use Rattle.ptpm_codec.specs.SequenceNumber.{number_of}
+use Rattle.std.proofs.lemmas.Grind.{common_steps}
 use Rattle.std.proofs.lemmas.Bool.{cases_eq, cases_order, and_left, and_right, ne_eqb, or_cases, le-ltb, cond-false, true≢false, false≢true}
 use Rattle.std.specs.FinMap.{get, get-empty}
 use Rattle.ptpm_codec.specs.declared.identity.PortIdentity.{PortIdentity}
@@ -13,18 +16,24 @@ use Rattle.ptpm_table.specs.declared.serial.Serial.{Serial}
 use Rattle.ptpm_table.specs.declared.serial.Serial.TheVariants.{Same, Newer, Older}
 use Rattle.ptpm_table.specs.Entries.{Entry}
 use Rattle.ptpm_table.specs.Numbering.{look_at, look_by, same_request}
-use Rattle.ptpm_table.specs.Serial.{order_of, serial_of}
-use Rattle.ptpm_table.proofs.SerialLaws.{order_of-same, order_of-newer, order_of-older}
 use Rattle.ptpm_agent.specs.declared.verdict.Verdict.{Verdict}
-use Rattle.ptpm_agent.specs.declared.verdict.Verdict.TheVariants as verdicts
 use Rattle.ptpm_agent.specs.Addressing.{request_of}
 use Rattle.ptpm_agent.specs.Turn.{Clock, State, Turned, is_repeat, judged, next_by, reply_by, turn, turn_by, verdict_at}
 use Rattle.ptpm_agent.specs.Once.{Delivery, RequestCopy, History, after_copy, applied_once, initial_history, copy_from, copy_of, due_reply, greatest, is_copy, joins, kept_for}
 use Rattle.ptpm_agent.specs.Window.{IsInTime, IsNumbered}
 use Rattle.ptpm_agent.specs.Laws.{IsKept, IsLatest, StandsAt, due_messages, initial_clock_state}
 use Rattle.ptpm_agent.proofs.Entries.{StandsAt-joined, accepted_at}
-use Rattle.ptpm_agent.proofs.Numbers.{serial_of-number_of}
 use Rattle.ptpm_agent.proofs.Turns.{CopyParts, copy_parts, forwarded-copy, judged-copy, next_by-no_copy, turn-message, turn-next}
+use Rattle.ptpm_agent.specs.declared.verdict.Verdict.TheVariants as verdicts
+
+-- ---- in the window, sequenceIds say what the indexes say
+
+pub serial_of-number_of : (first g k : ℕ)
+    → 0 < g
+    → 0 < k
+    → InWindow g k
+    → serial_of (number_of first g) (number_of first k) ≡ order_of g k
+serial_of-number_of first g k a b w = grind (arith, serial_in_window)
 
 -- ---- the copy of a delivery
 

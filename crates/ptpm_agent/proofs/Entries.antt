@@ -1,5 +1,5 @@
 -- Entries and history after a request is carried out.
-use Rattle.std.proofs.Common.{arith, ◌≡◌, ℕ, ◌<◌, List, ◌∷◌, Option, Some, None, true, false, refl, sym, ◌∙◌, ap, subst, ⊎_elim}
+use Rattle.std.proofs.Common.{arith, ◌≡◌, ℕ, ◌<◌, List, ◌∷◌, Option, Some, None, true, false, refl, sym, ◌∙◌, ap, subst, ⊎_elim, [], ◌++◌}
 use Rattle.std.proofs.lemmas.Bool.{cases_Bool, and_from, and_left, eq-eqb, cond-true, cond-false}
 use Rattle.std.specs.FinMap.{get, insert, get-insert}
 use Rattle.ptpm_codec.specs.declared.identity.PortIdentity.{PortIdentity}
@@ -7,13 +7,14 @@ use Rattle.ptpm_codec.specs.declared.message.Message.{Message}
 use Rattle.ptpm_codec.specs.Identity.{same_identity}
 use Rattle.ptpm_table.specs.Entries.{Entries, Entry}
 use Rattle.ptpm_agent.specs.Addressing.{request_of}
-use Rattle.ptpm_agent.specs.Turn.{Clock, State, carried_out, new_reply}
+use Rattle.ptpm_agent.specs.Turn.{Clock, State, carried_out, new_reply, NumberedRequest, after_request, entry_of, turn}
 use Rattle.ptpm_agent.specs.Once.{Accepted, Delivery, History, RequestCopy, accepted_from, copy_from, greatest, joined, kept_reply}
 use Rattle.ptpm_codec.specs.SequenceNumber.{number_of}
 use Rattle.ptpm_agent.specs.Window.{IsNumbered}
-use Rattle.ptpm_agent.specs.Laws.{IsKept, IsLatest, StandsAt}
-use Rattle.ptpm_codec.proofs.IdentityLaws.{same_identity-true}
+use Rattle.ptpm_agent.specs.Laws.{IsKept, IsLatest, StandsAt, after_each}
+use Rattle.ptpm_codec.proofs.MessageLaws.{same_identity-true}
 use Rattle.ptpm_table.proofs.Identities.{identities_total, same_identity-refl, tied_identities}
+use Rattle.ptpm_agent.specs.CarriedOut.{AreOfOthers, after_requests, carried_in, carried_in_turns}
 
 -- ---- entries
 
@@ -109,3 +110,41 @@ StandsAt-joined first c s h x v stands n above = record {
       (λ (other : same_identity m v.source ≡ false). grind (arith, get-insert_other))
       (cases_Bool (same_identity m v.source));
 }
+
+-- ---- what a clock has after its turns is what the requests that it carried out leave
+
+-- one turn
+pub turn-carried : (c : Clock) (s : State) (ingress : ℕ) (datagram : List ℕ)
+    → (turn c s ingress datagram).next ≡ after_requests c s (carried_in c s datagram)
+unfolding turn
+turn-carried c s ingress datagram = grind arith
+
+-- these requests and then those
+pub after_requests-append : (c : Clock) (s : State) (rs qs : List NumberedRequest)
+    → after_requests c s (rs ++ qs) ≡ after_requests c (after_requests c s rs) qs
+after_requests-append c s [] qs = refl
+after_requests-append c s (r ∷ rs) qs = after_requests-append c (after_request c s r) rs qs
+
+-- any number of turns
+pub turns-carried : (c : Clock) (s : State) (xs : List (ℕ × List ℕ))
+    → after_each c s xs ≡ after_requests c s (carried_in_turns c s xs)
+turns-carried c s [] = refl
+turns-carried c s (x ∷ xs) =
+    turns-carried c (turn c s x.0 x.1).next xs
+    ∙ ap (λ (t : State). after_requests c t (carried_in_turns c (turn c s x.0 x.1).next xs)) (turn-carried c s x.0 x.1)
+    ∙ sym (after_requests-append c s (carried_in c s x.1) (carried_in_turns c (turn c s x.0 x.1).next xs))
+
+-- ---- what is kept of a manager
+
+pub kept-others : (c : Clock) (s : State) (m : PortIdentity) (rs : List NumberedRequest)
+    → AreOfOthers m rs
+    → get (after_requests c s rs).entries m ≡ get s.entries m
+kept-others c s m [] others = refl
+kept-others c s m (r ∷ rs) others =
+    kept-others c (after_request c s r) m rs others.1
+    ∙ get-insert_other s.entries r.manager (entry_of c s r) m others.0
+
+pub kept-latest : (c : Clock) (s : State) (front rest : List NumberedRequest) (r : NumberedRequest)
+    → AreOfOthers r.manager rest
+    → get (after_requests c s (front ++ r ∷ rest)).entries r.manager ≡ Some (entry_of c (after_requests c s front) r)
+kept-latest c s front rest r others = grind (arith, after_requests-append, kept-others, get-insert_same)

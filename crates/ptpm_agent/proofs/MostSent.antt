@@ -12,7 +12,7 @@ use Rattle.ptpm_data.specs.Members.{DataSetsValue, HasPort}
 use Rattle.ptpm_data.specs.Replies.{read_reply_to, reply_to}
 use Rattle.ptpm_data.specs.Reply.{ReplyValue}
 use Rattle.ptpm_data.specs.RequestLaws.{IsSized}
-use Rattle.ptpm_data.proofs.AnswerCounts.{new_few, read_few}
+use Rattle.ptpm_data.proofs.Answering.{new_few, read_few}
 use Rattle.ptpm_table.specs.declared.heard.Heard.{Heard}
 use Rattle.ptpm_codec.specs.Identity.{identity_cmp}
 use Rattle.ptpm_table.specs.Entries.{Entry, HaveAnswers}

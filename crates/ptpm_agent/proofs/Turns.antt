@@ -6,7 +6,6 @@ use Rattle.ptpm_codec.specs.declared.error.DecodeError.{DecodeError}
 use Rattle.ptpm_codec.specs.declared.identity.ClockIdentity.{ClockIdentity}
 use Rattle.ptpm_codec.specs.declared.message.Message.{Message}
 use Rattle.ptpm_codec.specs.Identity.{every_clock, same_clock}
-use Rattle.ptpm_codec.specs.declared.message.Action.TheVariants as actions
 use Rattle.ptpm_codec.specs.Message.{action_of}
 use Rattle.ptpm_codec.specs.Reading.{message_of, reading}
 use Rattle.ptpm_data.specs.Changed.{changed, no_members}
@@ -17,16 +16,17 @@ use Rattle.ptpm_table.specs.Numbering.{look_at}
 use Rattle.ptpm_table.specs.Rendering.{rendered}
 use Rattle.ptpm_agent.specs.Agent.{IsTurned}
 use Rattle.ptpm_agent.specs.declared.verdict.Verdict.{Verdict}
-use Rattle.ptpm_agent.specs.declared.verdict.Verdict.TheVariants as verdicts
 use Rattle.ptpm_agent.specs.Forwarding.{egress_ports, forwarded, forwarded_by, is_forwarded, with_less_hop}
 use Rattle.ptpm_agent.specs.Addressing.{heard_of, is_addressed, is_for_this_clock, is_numbered, is_own, is_request, names_port, request_of}
 use Rattle.ptpm_agent.specs.Turn.{Clock, State, carried_out, is_accepted_repeat, is_in_domain, is_repeat, judged, kept_reply_of, look, new_reply, next_by, reply_by, reply_messages, turn, turn_by, verdict_at, verdict_of}
 use Rattle.ptpm_agent.specs.Once.{is_copy}
 use Rattle.ptpm_agent.specs.Laws.{AreOfManagers}
-use Rattle.ptpm_codec.proofs.IdentityLaws.{same_identity-true}
+use Rattle.ptpm_codec.proofs.MessageLaws.{same_identity-true}
 use Rattle.ptpm_data.proofs.Differing.{nothing_changed}
-use Rattle.ptpm_data.proofs.Keeping.{changed_by-get}
+use Rattle.ptpm_data.proofs.Keeping.{changed_by-get, changed_by-ports}
 use Rattle.ptpm_agent.proofs.Entries.{get-insert_other}
+use Rattle.ptpm_codec.specs.declared.message.Action.TheVariants as actions
+use Rattle.ptpm_agent.specs.declared.verdict.Verdict.TheVariants as verdicts
 
 -- ---- the message of a datagram
 
@@ -402,3 +402,15 @@ pub AreOfManagers-judged : (c : Clock) (s : State) (v : Message)
     → AreOfManagers c s.entries
     → AreOfManagers c (next_by (judged c s v) c s v).entries
 AreOfManagers-judged c s v before = grind (arith, next_by-no_copy, get-insert_other, same_identity-true)
+
+-- ---- what a turn keeps of a clock
+
+next_by-ports : (w : Verdict) (c : Clock) (s : State) (v : Message)
+    → length (next_by w c s v).sets.ports ≡ length s.sets.ports
+next_by-ports verdicts.AnsweredNew c s v = changed_by-ports (request_of v) (c.rights v.source) s.sets
+next_by-ports _ c s v = refl
+
+-- it has as many ports as before
+pub turn-ports : (c : Clock) (s : State) (ingress : ℕ) (datagram : List ℕ)
+    → length (turn c s ingress datagram).next.sets.ports ≡ length s.sets.ports
+turn-ports c s ingress datagram = turn-next (λ (t : State). length t.sets.ports ≡ length s.sets.ports) c s ingress datagram refl (λ v e. next_by-ports (judged c s v) c s v)

@@ -121,7 +121,7 @@ impl<T: ReplyTable + Drop> Agent<T> {
     /// reports the ports that are DISABLED and were left so. Takes no memory.
     ///
     /// Refused with the first `ObservationError` that holds, judged on the data sets as they would be; then nothing changes.
-    #[tactic(auto, using(crate::proofs::Ports::port_laws))]
+    #[tactic(auto, using(crate::proofs::Alike::port_laws))]
     pub fn observe(
         &mut self,
         clock: &ClockObservation,
@@ -141,7 +141,7 @@ impl<T: ReplyTable + Drop> Agent<T> {
     /// Carries out a request of the clock's owner, as one of a manager with every right. It may come by a command line, or by
     /// another protocol. The answer is why this manager would be refused. What is kept of each manager stays. So a copy of
     /// its latest request still gets the reply of its time. Takes no memory.
-    #[tactic(auto, using(crate::proofs::Ports::port_laws))]
+    #[tactic(auto, using(crate::proofs::Alike::port_laws))]
     pub fn carry_out_here(&mut self, request: &Request<'_>) -> Option<ErrorId>
         requires { IsTargetPort request.now.port self.old.sets }
         ensures refusal { result ≡ refusal_of request.now all_rights }
@@ -323,7 +323,7 @@ impl<T: ReplyTable + Drop> Agent<T> {
     }
 
     /// Carries out a new request and keeps it with its reply. If memory is refused, nothing changes.
-    #[tactic(auto, using(crate::proofs::Ports::port_laws))]
+    #[tactic(auto, using(crate::proofs::Alike::port_laws))]
     fn try_accept(&mut self, message: &View<'_>, rights: Rights) -> Result<Reply, OutOfMemory>
         requires small { T.most self.old.table ≤ INLINE_PORTS }
         requires new { judged
@@ -690,7 +690,7 @@ impl<T: SureTable + Drop> Agent<T> {
     }
 
     /// Carries out a new request, keeps it with its reply, and sends the messages of the reply.
-    #[tactic(auto, using(crate::proofs::Ports::port_laws))]
+    #[tactic(auto, using(crate::proofs::Alike::port_laws))]
     fn accept<O: Outgoing>(&mut self, ingress: u16, message: &View<'_>, rights: Rights, out: &mut O)
         requires new { judged
             (clock_of T.owner self.old) (state_of T.entries self.old) message.now

@@ -1,4 +1,3 @@
 pub mod KeptWord
 pub mod Numbers
 pub mod HandedOut
-pub mod Placed

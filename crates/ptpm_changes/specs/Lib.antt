@@ -1,4 +1,3 @@
-pub mod CarriedOut
-pub mod Lane
 pub mod Change
+pub mod Lane
 pub mod Resume

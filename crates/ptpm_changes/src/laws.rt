@@ -19,8 +19,7 @@ ghost use Rattle.ptpm_restarts.specs.ActsAsIfNever.{ActsAsIfNever};
 ghost use Rattle.ptpm_restarts.specs.DeskIncidents.{IsSetUpFor};
 ghost use Rattle.ptpm_restarts.specs.Incidents.{Incident};
 ghost use Rattle.ptpm_restarts.specs.Restarting.{RestartingNetwork};
-ghost use Rattle.ptpm_changes.specs.CarriedOut.{IsCarriedOut};
-ghost use Rattle.ptpm_changes.specs.Change.{IsChange, IsInOrder};
+ghost use Rattle.ptpm_changes.specs.Change.{IsCarriedOut, IsChange, IsInOrder};
 ghost use Rattle.ptpm_changes.specs.Lane.{IsLane, Lane, messages_of, notes_of};
 
 /// What is noted as the answer to a step is true, wherever programs, sessions and clocks crash. The clock of the step carried the

@@ -1,13 +1,6 @@
-pub mod PlaceLaws
-pub mod OrderedLaws
-pub mod PtpTextLaws
+pub mod OctetLaws
 pub mod RefusalLaws
 pub mod ReadingLaws
-pub mod ViewLaws
 pub mod CanonicalLaws
 pub mod RewritingLaws
-pub mod BufferLaws
-pub mod HeaderLaws
-pub mod EnvelopeLaws
-pub mod IdentityLaws
 pub mod MessageLaws

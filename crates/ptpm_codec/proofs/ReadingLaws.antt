@@ -1,5 +1,5 @@
 -- A datagram that is not refused spells the message that is read from it, and no other; one that spells any is not refused.
-use Rattle.std.proofs.Common.{◌≡◌, ℕ, ◌+◌, ◌-◌, ◌%◌, ◌≤◌, ◌<◌, Bool, true, cond, List, [], ◌∷◌, length, take, drop, get_or, Option, Some, None, Ok, refl, sym, ap, subst, ◌∙◌, inl, inr, arith}
+use Rattle.std.proofs.Common.{◌≡◌, ℕ, ◌+◌, ◌-◌, ◌%◌, ◌≤◌, ◌<◌, Bool, true, cond, List, [], ◌∷◌, length, take, drop, get_or, Option, Some, None, Ok, refl, sym, ap, subst, ◌∙◌, inl, inr, arith, false}
 use Rattle.std.proofs.Math.Dec.{eqb-suc-zero}
 use Rattle.std.proofs.lemmas.Bool.{cases_lt, eq-eqb, eqb-true}
 use Rattle.std.proofs.lemmas.List.{length-take, length-take-le, length-drop, get_or-take, get_or-drop, get_or_past}
@@ -8,22 +8,21 @@ use Rattle.std.specs.Option.{option_or}
 use Rattle.ptpm_codec.specs.declared.error.DecodeError.{DecodeError}
 use Rattle.ptpm_codec.specs.declared.identity.PortIdentity.{PortIdentity}
 use Rattle.ptpm_codec.specs.declared.message.Action.{Action}
-use Rattle.ptpm_codec.specs.declared.message.Action.TheVariants as actions
 use Rattle.ptpm_codec.specs.declared.message.Body.{Body}
-use Rattle.ptpm_codec.specs.declared.message.Body.TheVariants as bodies
 use Rattle.ptpm_codec.specs.declared.message.Message.{Message}
 use Rattle.ptpm_codec.specs.declared.tlv.TlvKind.{TlvKind}
 use Rattle.ptpm_codec.specs.declared.tlv.TlvKind.TheVariants.{Management, ErrorStatus}
-use Rattle.ptpm_codec.specs.Layout as layout
 use Rattle.ptpm_codec.specs.Layout.{octet, even_up, message_length, message_octets}
 use Rattle.ptpm_codec.specs.PtpText.{is_ptp_text, ptp_text}
-use Rattle.ptpm_codec.specs.Message.{action_code, is_reply, action_of, IsDataField, IsValid, IsValidBody}
+use Rattle.ptpm_codec.specs.Message.{action_code, is_reply, action_of, IsDataField, IsValid, IsValidBody, id_of, octets_of, error_of, text_of}
 use Rattle.ptpm_codec.specs.Spelling.{Spells, SpellsBody, SpellsManagement, SpellsText}
 use Rattle.ptpm_codec.specs.Refusal.{is_text, frame_refusal, tlv_refusal, text_refusal, message_refusal, refusal}
-use Rattle.ptpm_codec.specs.Reading.{action_at, tlv_kind_at, body_from, body_at, message_at, reading, message_of, IsWellFormed}
-use Rattle.ptpm_codec.proofs.PlaceLaws.{octet-take, number-take}
-use Rattle.ptpm_codec.proofs.OrderedLaws.{option_or-none}
-use Rattle.ptpm_codec.proofs.RefusalLaws.{IsFramed, framed, not_refused-frame, IsTlv, is_tlv, not_refused-tlv, is_text-status, not_refused-status, not_refused-management}
+use Rattle.ptpm_codec.specs.Reading.{action_at, tlv_kind_at, body_from, body_at, message_at, reading, message_of, IsWellFormed, IsViewed}
+use Rattle.ptpm_codec.proofs.OctetLaws.{octet-take, number-take}
+use Rattle.ptpm_codec.proofs.RefusalLaws.{option_or-none, IsFramed, framed, not_refused-frame, IsTlv, is_tlv, not_refused-tlv, is_text-status, not_refused-status, not_refused-management}
+use Rattle.ptpm_codec.specs.declared.message.Action.TheVariants as actions
+use Rattle.ptpm_codec.specs.declared.message.Body.TheVariants as bodies
+use Rattle.ptpm_codec.specs.Layout as layout
 
 -- ---- actions and their numbers
 
@@ -249,3 +248,71 @@ body_valid (bodies.Fault a error id text) m h high (reply, s) =
 
 pub valid_of : (v : Message) (m : List ℕ) → IsOctets m → Spells v m → IsValid v
 valid_of v m h s = record { sdo = rw s.sdo (omega (arith, h 0, h 5)); body = body_valid v.body m h s.at_most s.body }
+
+-- ---- the parts of the body that a view sees, by the kind of its TLV
+
+-- the body of a view whose TLV was found to be of this kind
+pub body_seen : (v : Message) (m : List ℕ) (action : Action) (kind found : TlvKind)
+    → message_at m ≡ v → IsViewed m action kind → kind ≡ found → body_from found action m ≡ v.body
+unfolding body_at
+body_seen v m action kind found e i k =
+    let seen : body_from kind action m ≡ body_at m = rw (i.action_is, i.kind_is) refl in grind arith
+
+pub action_seen : (v : Message) (m : List ℕ) (action : Action) (kind : TlvKind)
+    → message_at m ≡ v
+    → IsViewed m action kind
+    → action ≡ action_of v.body
+action_seen v m action kind e i =
+    sym (action_of-body_from kind action m) ∙ ap action_of (body_seen v m action kind kind e i refl)
+
+-- a part of the body that a MANAGEMENT TLV carries, whatever the action
+part : {X : Type 0} (f : Body → X) (x : X) (r : Bool) (y z : Body)
+    → f y ≡ x
+    → f z ≡ x
+    → f (cond r y z) ≡ x
+part f x true y z p q = p
+part f x false y z p q = q
+
+pub id_of-management : (action : Action) (m : List ℕ)
+    → id_of (body_from Management action m) ≡ layout.management_id m
+id_of-management action m = part id_of _ (is_reply action) _ _ refl refl
+
+pub octets_of-management : (action : Action) (m : List ℕ)
+    → octets_of (body_from Management action m) ≡ layout.data_field m
+octets_of-management action m = part octets_of _ (is_reply action) _ _ refl refl
+
+pub error_of-management : (action : Action) (m : List ℕ)
+    → error_of (body_from Management action m) ≡ None
+error_of-management action m = part error_of _ (is_reply action) _ _ refl refl
+
+pub text_of-management : (action : Action) (m : List ℕ)
+    → text_of (body_from Management action m) ≡ []
+text_of-management action m = part text_of _ (is_reply action) _ _ refl refl
+
+-- ---- a body is known by its parts
+
+abbrev some : ℕ → Option ℕ
+some n = Some n
+
+same_some : (n k : ℕ) → some n ≡ some k → n ≡ k
+same_some n k e = cc
+
+pub fault_of-parts : (x : Body) (action : Action) (error id : ℕ) (text : List ℕ)
+    → action ≡ action_of x
+    → Some error ≡ error_of x
+    → id ≡ id_of x
+    → text ≡ text_of x
+    → bodies.Fault action error id text ≡ x
+fault_of-parts (bodies.Request a i octets) action error id text p q r s = absurd cc
+fault_of-parts (bodies.Answer a i octets) action error id text p q r s = absurd cc
+fault_of-parts (bodies.Fault a e i t) action error id text p q r s = rw (p, same_some error e q, r, s) refl
+
+pub management_of-parts : (x : Body) (action : Action) (m : List ℕ) (kind : TlvKind) (r : Bool)
+    (id : ℕ) (octets : List ℕ)
+    → body_from kind action m ≡ x
+    → None ≡ error_of x
+    → id ≡ id_of x
+    → octets ≡ octets_of x
+    → r ≡ is_reply action
+    → cond r (bodies.Answer action id octets) (bodies.Request action id octets) ≡ x
+management_of-parts x action m kind r id octets e none p q h = grind (arith, id_of-management, octets_of-management)

@@ -1,13 +1,29 @@
--- What holds of a datagram if no refusal's test does.
-use Rattle.std.proofs.Common.{arith, ◌≡◌, ℕ, ◌+◌, ◌%◌, ◌≤◌, Bool, true, false, not, cond, List, length, Option, Some, None, refl, ◌⊎◌}
+-- What holds of a datagram if no refusal's test does, and if no test of an order does.
+use Rattle.std.proofs.Common.{◌≡◌, Bool, true, false, List, ◌∷◌, Option, Some, None, refl, arith, ℕ, ◌+◌, ◌%◌, ◌≤◌, not, cond, length, ◌⊎◌}
+use Rattle.std.specs.Option.{option_or}
+use Rattle.ptpm_codec.specs.Ordered.{first_of}
 use Rattle.std.proofs.lemmas.Bool.{ltb-false, le-ltb, eqb-true, eq-eqb, not-false, not_from_true, or_parts, or_from, and_cases, and_parts}
 use Rattle.ptpm_codec.specs.declared.error.DecodeError.{DecodeError}
 use Rattle.ptpm_codec.specs.declared.error.DecodeError.TheVariants.{BadText}
 use Rattle.ptpm_codec.specs.declared.tlv.TlvKind.TheVariants.{Management, ErrorStatus}
-use Rattle.ptpm_codec.specs.Layout as layout
 use Rattle.ptpm_codec.specs.Layout.{message_length}
 use Rattle.ptpm_codec.specs.Message.{is_reply}
 use Rattle.ptpm_codec.specs.Refusal.{action_from, least_length, is_text, frame_refusal, tlv_refusal, text_refusal}
+use Rattle.ptpm_codec.specs.Layout as layout
+
+-- ---- what holds if no test of an order does
+
+pub option_or-none : {A : Type 0} (o p : Option A) → option_or o p ≡ None → (o ≡ None) × (p ≡ None)
+option_or-none None p e = (refl, e)
+option_or-none (Some a) p e = absurd cc
+
+pub first_of-none : {A : Type 0} (test : Bool) (a : A) (rest : List (Bool × A))
+    → first_of ((test, a) ∷ rest) ≡ None
+    → (test ≡ false) × (first_of rest ≡ None)
+first_of-none true a rest e = absurd cc
+first_of-none false a rest e = (refl, e)
+
+-- ---- what holds of a datagram if no refusal's test does
 
 -- one test of the list, and the tests after it
 passes : (test : Bool) (e : DecodeError) (o : Option DecodeError)

@@ -12,7 +12,7 @@ use Rattle.ptpm_codec.specs.Message.{Fits}
 use Rattle.ptpm_codec.specs.Spelling.{Spells, SpellsBody, SpellsManagement}
 use Rattle.ptpm_codec.specs.Canonical.{canonical, port_identity_octets}
 use Rattle.ptpm_codec.specs.Reading.{message_of}
-use Rattle.ptpm_codec.proofs.PlaceLaws.{octet-take, number_at-octets}
+use Rattle.ptpm_codec.proofs.OctetLaws.{octet-take, number_at-octets}
 use Rattle.ptpm_codec.proofs.ReadingLaws.{message_size, message_of-some, message_of-spells, spells-message_of}
 use Rattle.ptpm_codec.proofs.CanonicalLaws.{by_clocks, continues_with}
 

@@ -33,6 +33,7 @@ pub type Buffer = ArrayVec<u8, MESSAGE_OCTETS>;
 /// Leaves the canonical spelling of a valid draft in the buffer, and nothing else: 54 to 1,472 octets. Free octets are sent
 /// as this project's profile has them: minorVersionPTP 1, controlField 0x04, logMessageInterval 0x7F, all others 0; an empty text has no
 /// displayData. Takes no memory.
+#[tactic(auto, using(crate::proofs::OctetLaws::refilled))]
 pub fn encode(draft: &Draft<'_>, buffer: &mut Buffer)
     requires { IsValid draft.now }
     ensures items { buffer.new.items ≡ canonical draft.now }
@@ -137,6 +138,7 @@ fn write_management(tlv: &mut [u8], id: u16, octets: &[u8])
 
 /// Writes a MANAGEMENT TLV up to its dataField, of this size.
 #[inline(always)]
+#[tactic(auto, using(crate::proofs::CanonicalLaws::numbers_written))]
 pub(crate) fn write_management_head(head: &mut [u8], id: u16, size: u16)
     requires small { size ≤ 1418 }
     requires length { length head.old ≡ 6 }
@@ -179,7 +181,7 @@ pub(crate) fn write_error_head(head: &mut [u8], error: u16, id: u16, size: u16)
 }
 
 /// Writes displayData over as many octets as it takes: none for an empty text.
-#[tactic(auto, using(crate::proofs::PtpTextLaws::ptp_text_size), unfolding(crate::specs::Canonical::text_octets))]
+#[tactic(auto, using(crate::proofs::OctetLaws::ptp_text_size), unfolding(crate::specs::Canonical::text_octets))]
 fn write_text(display_data: &mut [u8], text: &[u8])
     requires small { length text.now ≤ 255 }
     requires length { length display_data.old ≡ length (text_octets text.now) }

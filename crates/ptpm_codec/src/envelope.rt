@@ -50,6 +50,7 @@ impl Envelope {
 
     /// Makes of a blank envelope that of the messages like this draft, which is an answer of this id without octets.
     #[inline(always)]
+    #[tactic(auto, using(crate::proofs::CanonicalLaws::envelope_in_two))]
     pub fn address(&mut self, draft: &Draft<'_>, id: u16)
         requires blank { self.old ≡ replicate 54 0 }
         requires valid { IsValid draft.now }

@@ -14,6 +14,7 @@ pub fn one_message()
 {}
 
 /// Each datagram is refused or spells a message, and never both.
+#[tactic(auto, using(crate::proofs::ReadingLaws::spelled, crate::proofs::ReadingLaws::none_refused))]
 pub fn one_or_the_other()
     ensures { (d : List ℕ) → IsWellFormed d ↔ ((v : Message) × Spells v (message_octets d)) }
 {}

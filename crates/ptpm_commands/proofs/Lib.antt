@@ -1,4 +1,3 @@
 pub mod CellLemmas
-pub mod ShownLines
 pub mod TakenLemmas
 pub mod Telling

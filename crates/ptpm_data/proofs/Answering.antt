@@ -1,22 +1,61 @@
 -- The reply and the data sets after a request, for an id of the table and for any other.
-use Rattle.std.proofs.Common.{◌≡◌, true, false, ◌∙◌, refl, sym, ap, ℕ, [], ◌∷◌, Option, Some, None, length, map}
-use Rattle.std.specs.Option.{option_map}
+use Rattle.std.proofs.Common.{◌≤◌, ℕ, Bool, true, false, not, length, arith, refl, subst, Option, ◌≡◌, ◌∙◌, sym, ap, [], ◌∷◌, Some, None, map}
+use Rattle.std.proofs.lemmas.List.{length-map}
+use Rattle.std.proofs.lemmas.List.Filters.{length-filter_both}
+use Rattle.std.proofs.lemmas.List.FromFn.{length-range_with_len}
+use Rattle.std.specs.List.{range_with_len}
 use Rattle.ptpm_codec.specs.declared.error.ErrorId.{ErrorId}
+use Rattle.ptpm_data.specs.declared.rights.Rights.{Rights}
+use Rattle.ptpm_data.specs.Changes.{changed_by, is_named, applied, changed_at, unless_refused}
+use Rattle.ptpm_data.specs.ManagementId.{is_of_port, RowValue, row_value, row_of}
+use Rattle.ptpm_data.specs.Members.{DataSetsValue}
+use Rattle.ptpm_data.specs.Refusals.{refusal_of, row_refusal, refusal_at}
+use Rattle.ptpm_data.specs.Replies.{named_ports, read_refusal, read_reply_to, reply_of, reply_to, answer, outcome, is_get}
+use Rattle.ptpm_data.specs.Request.{RequestValue}
+use Rattle.ptpm_data.specs.RequestLaws.{IsSized}
+use Rattle.ptpm_data.proofs.Keeping.{changed_by-ports, changed_by-sized}
+use Rattle.ptpm_data.proofs.ReplyLemmas.{answers_of}
+use Rattle.std.specs.Option.{option_map}
 use Rattle.ptpm_codec.specs.declared.error.ErrorId.TheVariants.{NoSuchId, NotSupported}
 use Rattle.ptpm_codec.specs.Message.{reply_action}
 use Rattle.ptpm_data.specs.declared.management_id.ManagementIdRow.{ManagementIdRow}
-use Rattle.ptpm_data.specs.declared.management_id.Scope.TheVariants as scopes
-use Rattle.ptpm_data.specs.declared.rights.Rights.{Rights}
-use Rattle.ptpm_data.specs.ManagementId.{RowValue, row_value, row_of}
-use Rattle.ptpm_data.specs.Members.{DataSetsValue}
-use Rattle.ptpm_data.specs.Request.{RequestValue}
 use Rattle.ptpm_data.specs.Reply.{Refused, ReplyValue}
-use Rattle.ptpm_data.specs.Refusals.{row_refusal, refusal_at, refusal_of}
-use Rattle.ptpm_data.specs.Changes.{applied, changed_at, changed_by, unless_refused}
 use Rattle.ptpm_data.specs.Rights.{no_rights}
 use Rattle.ptpm_data.specs.DataField.{data_field_of, field_of_row}
-use Rattle.ptpm_data.specs.Replies.{answer, named_ports, outcome, reply_of, reply_to, is_get, read_reply_to}
-use Rattle.ptpm_data.proofs.AnswerCounts.{new_few, read_few}
+use Rattle.ptpm_data.specs.declared.management_id.Scope.TheVariants as scopes
+
+-- ---- a reply has no more answers than the clock has ports
+
+named_few : (port n : ℕ) → length (named_ports port n) ≤ n
+unfolding named_ports
+named_few port n =
+    omega (arith, length-filter_both (is_named port) (λ k. not (is_named port k)) (λ k. refl) (range_with_len 1 n), length-range_with_len 1 n)
+
+answers_few : (b : Bool) (q : RequestValue) (refusal : Option ErrorId) (d : DataSetsValue)
+    → IsSized d
+    → length (answers_of b q refusal d) ≤ length d.ports
+answers_few true q refusal d s = grind (arith, length-map, named_few)
+answers_few false q refusal d s = omega (arith, s.some_port)
+
+pub reply_few : (q : RequestValue) (refusal : Option ErrorId) (d : DataSetsValue)
+    → IsSized d
+    → length (reply_of q refusal d).answers ≤ length d.ports
+unfolding reply_of
+reply_few q refusal d s = answers_few (is_of_port q.id) q refusal d s
+
+pub new_few : (q : RequestValue) (rights : Rights) (d : DataSetsValue)
+    → IsSized d
+    → length (reply_to q rights d).answers ≤ length d.ports
+unfolding reply_to
+new_few q rights d s =
+    subst (λ n. length (reply_of q (refusal_of q rights) (changed_by q rights d)).answers ≤ n) (changed_by-ports q rights d)
+    (reply_few q (refusal_of q rights) (changed_by q rights d) (changed_by-sized q rights d s))
+
+pub read_few : (q : RequestValue) (d : DataSetsValue)
+    → IsSized d
+    → length (read_reply_to q d).answers ≤ length d.ports
+unfolding read_reply_to
+read_few q d s = reply_few q (read_refusal q) d s
 
 pub no_entry : {r : Option ManagementIdRow} {e : Option RowValue} → option_map row_value r ≡ e → r ≡ None → e ≡ None
 no_entry {r = None} is gone = sym is

@@ -3,7 +3,7 @@ use Rattle.std.proofs.Common.{arith, ◌≡◌, ℕ, ◌≤◌, true, List, leng
 use Rattle.std.proofs.lemmas.Bool.{eq-eqb}
 use Rattle.std.proofs.lemmas.List.{take_at, take_rest}
 use Rattle.ptpm_codec.specs.PtpText.{is_ptp_text, ptp_text_octets}
-use Rattle.ptpm_codec.proofs.PtpTextLaws.{ptp_text_size}
+use Rattle.ptpm_codec.proofs.OctetLaws.{ptp_text_size}
 use Rattle.ptpm_data.specs.declared.description.Description.TheInside.{Inside}
 use Rattle.ptpm_data.specs.Description.{IsSpelled, text_of}
 use Rattle.std.proofs.lemmas.Int.{to_z-of_z}

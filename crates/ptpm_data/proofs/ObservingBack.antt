@@ -13,9 +13,8 @@ use Rattle.ptpm_data.specs.declared.port_state.PortState.TheVariants as states
 use Rattle.ptpm_data.specs.Members.{DataSetsValue, IsConsistent, is_grandmaster, is_same_precedence}
 use Rattle.ptpm_data.specs.Observation.{default_after, disables, disables_one, grandmaster_differs, is_disabled, observation_refusal, observed, port_after, ports_after, state_after}
 use Rattle.ptpm_data.specs.ObservationBack.{Observation, clock_observation, observed_again, observed_each, port_observation}
-use Rattle.ptpm_data.proofs.Observed.{observed-accepted, observed-all, state_stays}
-use Rattle.ptpm_data.proofs.Observing.{enables_none}
-use Rattle.ptpm_data.proofs.RestoringLaws.{precedence_same}
+use Rattle.ptpm_data.proofs.Observed.{observed-accepted, observed-all, state_stays, enables_none}
+use Rattle.ptpm_data.proofs.OneImage.{precedence_same}
 
 -- ---- what no observation moves
 

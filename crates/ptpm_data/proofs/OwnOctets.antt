@@ -1,38 +1,158 @@
 -- An accepted SET is answered by its own octets.
-use Rattle.std.proofs.Common.{◌≡◌, ◌∙◌, arith, refl, ap, subst, ℕ, zero, suc, ◌+◌, ◌-◌, ◌<◌, ◌≤◌, ◌==◌, Bool, true, false, if◌then◌else◌, List, [], ◌∷◌, length, map, slice_get, Option, Some, None}
+use Rattle.std.proofs.Common.{◌≡◌, arith, refl, ℕ, zero, suc, ◌+◌, ◌%◌, ◌<◌, ◌≤◌, ◌==◌, Bool, true, List, [], ◌∷◌, ◌++◌, length, take, replicate, Option, Some, None, inl, inr, subst, false, not, ◌||◌, ◌∙◌, ap, ◌-◌, if◌then◌else◌, map, slice_get}
+use Rattle.std.specs.List.{list_all, range_with_len, All, enumerate_from, filter}
+use Rattle.std.proofs.lemmas.Bool.{and_parts, cases_lt, eqb-true, not-false}
+use Rattle.std.proofs.lemmas.Int.{of_z-to_z}
+use Rattle.std.proofs.lemmas.List.{length-take-le}
+use Rattle.ptpm_codec.specs.declared.identity.ClockIdentity.{ClockIdentity}
+use Rattle.ptpm_codec.specs.PtpText.{is_ptp_text, ptp_text, ptp_text_octets}
+use Rattle.ptpm_data.specs.declared.data_sets.PortDataSet.{PortDataSet}
+use Rattle.ptpm_data.specs.declared.data_sets.TimePropertiesDataSet.{TimePropertiesDataSet}
+use Rattle.ptpm_data.specs.Changes.{with_utc_properties, changed_by, set_members, changed_if, is_named, named_changed, with_ports}
+use Rattle.ptpm_data.specs.DataField.{bit, field_of_port, i16_octets, port_field_of, utc_properties_data_field, clock_field_of, data_field_at, data_field_of, octet_data_field}
+use Rattle.ptpm_data.specs.SetField.{first_i16, has_bit, octet}
+use Rattle.ptpm_data.specs.SetLaws.{AreOctets, IsAcceptedSet, get_of, standard_field, standard_field_at}
+use Rattle.ptpm_codec.proofs.RefusalLaws.{first_of-none}
+use Rattle.ptpm_data.specs.declared.rights.Rights.{Rights}
+use Rattle.ptpm_data.specs.ManagementId.{RowValue, has_action, id_table, row_of, is_of_port, set_of}
+use Rattle.ptpm_data.specs.Members.{DataSetsValue, port_of}
+use Rattle.ptpm_data.specs.Request.{RequestValue}
+use Rattle.ptpm_data.specs.Refusals.{row_refusal, refusal_at, refusal_of, is_length, is_set_length, is_set_value, is_value}
+use Rattle.ptpm_data.specs.Rights.{no_rights}
+use Rattle.ptpm_data.specs.Replies.{answer, read_reply_to, reply_of, reply_to, named_ports, outcome}
+use Rattle.ptpm_data.proofs.FieldSizes.{found, is_port_layout, layout_of}
 use Rattle.std.specs.Prelude.{⊤}
-use Rattle.std.specs.List.{All, enumerate_from, filter, range_with_len}
 use Rattle.std.specs.Option.{option_map}
-use Rattle.std.proofs.lemmas.Bool.{eqb-true}
 use Rattle.std.proofs.lemmas.Bool.Decides.{nat_tests}
 use Rattle.std.proofs.lemmas.List.Elements.{All-cons, All-map}
 use Rattle.ptpm_codec.specs.declared.message.Action.{Action}
-use Rattle.ptpm_codec.specs.declared.message.Action.TheVariants as actions
 use Rattle.ptpm_data.specs.declared.management_id.Layout.{Layout}
-use Rattle.ptpm_data.specs.declared.management_id.Layout.TheVariants as layouts
-use Rattle.ptpm_data.specs.declared.data_sets.PortDataSet.{PortDataSet}
 use Rattle.ptpm_data.specs.declared.port_change.PortChange.{PortChange}
-use Rattle.ptpm_data.specs.declared.port_change.PortChange.TheVariants as changes
-use Rattle.ptpm_data.specs.declared.rights.Rights.{Rights}
-use Rattle.ptpm_data.specs.ManagementId.{RowValue, has_action, is_of_port, row_of, set_of}
-use Rattle.ptpm_data.specs.Members.{DataSetsValue, port_of}
 use Rattle.ptpm_data.specs.PortSettings.{octet_back}
-use Rattle.ptpm_data.specs.Request.{RequestValue}
 use Rattle.ptpm_data.specs.Reply.{Answer, Value}
-use Rattle.ptpm_data.specs.SetField.{octet}
-use Rattle.ptpm_data.specs.DataField.{clock_field_of, data_field_at, data_field_of, octet_data_field, port_field_of}
 use Rattle.ptpm_data.specs.PortChange.{port_after}
-use Rattle.ptpm_data.specs.Refusals.{is_length, is_set_length, is_set_value, is_value, refusal_at}
-use Rattle.ptpm_data.specs.Changes.{changed_by, changed_if, is_named, named_changed, set_members, with_ports}
-use Rattle.ptpm_data.specs.Replies.{answer, named_ports, outcome, reply_of, reply_to}
-use Rattle.ptpm_data.specs.SetLaws.{AreOctets, IsAcceptedSet, standard_field, standard_field_at}
-use Rattle.ptpm_data.proofs.Carrying.{suits_from}
-use Rattle.ptpm_data.proofs.FieldSizes.{found, is_port_layout, layout_of}
-use Rattle.ptpm_data.proofs.Keeping.{changed_by-ports}
+use Rattle.ptpm_data.proofs.Keeping.{suits_from, changed_by-ports}
 use Rattle.ptpm_data.proofs.ReplyLemmas.{answers_of}
-use Rattle.ptpm_data.proofs.OwnFields.{nothing_held, text_back, utc_back}
 use Rattle.ptpm_data.proofs.SettingLemmas.{itself}
-use Rattle.ptpm_data.proofs.Setting.{accepted_by, permitted, set_changes, then_get}
+use Rattle.ptpm_data.specs.declared.management_id.Layout.TheVariants as layouts
+use Rattle.ptpm_codec.specs.declared.message.Action.TheVariants as actions
+use Rattle.ptpm_data.specs.declared.port_change.PortChange.TheVariants as changes
+
+-- ---- the dataField of a text and of UTC_PROPERTIES, read back of the octets that set it
+
+-- ---- a text
+
+pub text_back : (octets : List ℕ) → is_ptp_text octets ≡ true
+    → ptp_text_octets (ptp_text octets)
+    ≡ take (1 + octet 0 octets) octets ++ replicate ((1 + octet 0 octets) % 2) 0
+unfolding ptp_text_octets
+text_back [] h = cc
+text_back (t ∷ xs) h = grind (arith, eqb-true, length-take-le)
+
+-- ---- UTC_PROPERTIES
+
+-- the flags that it has are the lowest three bits
+abbrev are_three_bits : ℕ → Bool
+are_three_bits c = (bit 0 (has_bit 0 c) + bit 1 (has_bit 1 c) + bit 2 (has_bit 2 c)) == c % 8
+
+all_octets : list_all are_three_bits (range_with_len 0 256) ≡ true
+all_octets = refl
+
+in_range : (test : ℕ → Bool) (a n c : ℕ)
+    → list_all test (range_with_len a n) ≡ true
+    → a ≤ c
+    → c < a + n
+    → test c ≡ true
+in_range test a zero c all low high = absurd (omega arith)
+in_range test a (suc n) c all low high =
+    let parts = and_parts (test a) (list_all test (range_with_len (a + 1) n)) all in
+    elim (cases_lt a c) [
+      | inl above ↦ in_range test (a + 1) n c parts.1 (omega arith) (omega arith)
+      | inr here ↦
+          let e : c ≡ a = omega arith in
+          rw e parts.0
+    ]
+
+flags_back : (c : ℕ)
+    → c < 256
+    → bit 0 (has_bit 0 c) + bit 1 (has_bit 1 c) + bit 2 (has_bit 2 c) ≡ c % 8
+flags_back c small = eqb-true _ _ (in_range are_three_bits 0 256 c all_octets (omega arith) (omega arith))
+
+offset_back : (a b : ℕ) (xs : List ℕ)
+    → a < 256
+    → b < 256
+    → i16_octets (first_i16 (a ∷ b ∷ xs)) ≡ a ∷ b ∷ []
+unfolding i16_octets first_i16
+offset_back a b xs small_a small_b = grind (arith, of_z-to_z)
+
+pub utc_back : (octets : List ℕ) (t : TimePropertiesDataSet) → length octets ≡ 4 → AreOctets octets
+    → utc_properties_data_field (with_utc_properties t octets)
+    ≡ take 2 octets ++ octet 2 octets % 8 ∷ 0 ∷ []
+unfolding utc_properties_data_field
+utc_back (a ∷ b ∷ c ∷ xs) t size range = rw (offset_back a b (c ∷ xs) (range 0) (range 1), flags_back c (range 2)) refl
+utc_back [] t size range = absurd (omega arith)
+utc_back (a ∷ []) t size range = absurd (omega arith)
+utc_back (a ∷ b ∷ []) t size range = absurd (omega arith)
+
+-- ---- NULL_PTP_MANAGEMENT
+
+pub nothing_held : (identity : ClockIdentity) (n : ℕ) (o : Option PortDataSet)
+    → field_of_port (port_field_of layouts.NullPtpManagement identity n) o ≡ []
+unfolding port_field_of
+nothing_held identity n None = refl
+nothing_held identity n (Some p) = refl
+
+-- ---- what an accepted SET changes and is answered, and what a GET after it is answered
+
+-- ---- an id that permits SET permits GET
+
+abbrev gets_what_it_sets : RowValue → Bool
+gets_what_it_sets e = not (has_action actions.Set e.actions) || has_action actions.Get e.actions
+
+table_gets : list_all gets_what_it_sets id_table ≡ true
+table_gets = refl
+
+pub then_get : (s g : Bool) → (not s || g) ≡ true → s ≡ true → g ≡ true
+then_get true g e h = e
+then_get false g e h = cc
+
+pub permitted : (e : RowValue) (q : RequestValue) (rights : Rights)
+    → q.action ≡ actions.Set
+    → row_refusal e q rights ≡ None
+    → has_action actions.Set e.actions ≡ true
+unfolding row_refusal
+permitted e q rights set none = grind (arith, first_of-none, not-false)
+
+get_accepted : (q : RequestValue) (rights : Rights)
+    → IsAcceptedSet q rights
+    → refusal_of (get_of q) no_rights ≡ None
+unfolding row_of row_refusal
+get_accepted q rights a = grind (arith, found, table_gets, then_get, permitted)
+
+-- ---- the same answers as a GET's
+
+pub set_read_back : (q : RequestValue) (rights : Rights) (d : DataSetsValue)
+    → IsAcceptedSet q rights
+    → reply_to q rights d ≡ read_reply_to (get_of q) (changed_by q rights d)
+unfolding answer read_reply_to reply_of reply_to
+set_read_back q rights d a = grind (arith, get_accepted)
+
+-- ---- the data sets after it
+
+pub accepted_by : (q : RequestValue) (rights : Rights) (e : RowValue)
+    → IsAcceptedSet q rights
+    → row_of q.id ≡ Some e
+    → row_refusal e q rights ≡ None
+accepted_by q rights e a is =
+    let P : Option RowValue → Type 0 = λ o. refusal_at o q rights ≡ None in
+    subst P is a.accepted
+
+pub set_changes : (q : RequestValue) (rights : Rights) (d : DataSetsValue) (e : RowValue)
+    → IsAcceptedSet q rights
+    → row_of q.id ≡ Some e
+    → changed_by q rights d ≡ set_members e.layout q.port q.octets d
+unfolding changed_by
+set_changes q rights d e a is = rw (is, accepted_by q rights e a is, a.set) refl
 
 -- ---- the port that is shown
 

@@ -24,7 +24,7 @@ impl DataSets {
     /// Carries out a request for an id of the table, unless it is refused; a refused one changes no member. The answer is why
     /// it is refused.
     #[inline(always)]
-    #[tactic(auto, using(crate::proofs::Carrying::carry_out_laws))]
+    #[tactic(auto, using(crate::proofs::Keeping::carry_out_laws))]
     pub(crate) fn carry_out(
         &mut self,
         row: &ManagementIdRow,

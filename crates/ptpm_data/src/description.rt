@@ -27,7 +27,7 @@ impl Model for Description {
 
 impl Description {
     /// The description that is this text.
-    #[tactic(auto, using(ptpm_codec::proofs::PtpTextLaws::ptp_text_size))]
+    #[tactic(auto, using(ptpm_codec::proofs::OctetLaws::ptp_text_size))]
     pub(crate) fn of(text: &[u8]) -> Description
         requires { length text.now ≤ 128 }
         ensures { result ≡ text.now }
@@ -38,7 +38,7 @@ impl Description {
     }
 
     /// Becomes this text.
-    #[tactic(auto, using(ptpm_codec::proofs::PtpTextLaws::ptp_text_size))]
+    #[tactic(auto, using(ptpm_codec::proofs::OctetLaws::ptp_text_size))]
     pub(crate) fn set(&mut self, text: &[u8])
         requires { length text.now ≤ 128 }
         ensures { self.new ≡ text.now }
@@ -56,7 +56,7 @@ impl Description {
     }
 
     /// Its PTPText.
-    #[tactic(auto, using(ptpm_codec::proofs::PtpTextLaws::ptp_text_size))]
+    #[tactic(auto, using(ptpm_codec::proofs::OctetLaws::ptp_text_size))]
     pub(crate) fn octets(&self) -> &[u8]
         ensures value { result.now ≡ ptp_text_octets self.now }
         ensures small { length result.now ≤ 130 }

@@ -56,7 +56,7 @@ pub fn data_sets_law(sets: &DataSets)
 }
 
 /// Data sets are no more than their map of members: two that have the same value at every place are equal.
-#[tactic(auto, using(crate::proofs::MapLemmas::map_decides))]
+#[tactic(auto, using(crate::proofs::PlainMap::map_decides))]
 pub fn member_map_law()
     ensures { (a : DataSetsValue)
         → (b : DataSetsValue)
@@ -160,7 +160,7 @@ pub fn change_law()
 /// An accepted SET is answered by the dataFields as they are after it. The reply has what a GET of the same id and target port
 /// would be answered right after it. Each answer is the SET's own octets, with reserved octets, unused flags and a text's pad
 /// as the standard has them.
-#[tactic(auto, using(crate::proofs::Setting::set_read_back, crate::proofs::OwnOctets::own_octets))]
+#[tactic(auto, using(crate::proofs::OwnOctets::set_read_back, crate::proofs::OwnOctets::own_octets))]
 pub fn set_law()
     ensures read_back { (q : RequestValue) (rights : Rights) (d : DataSetsValue)
         → IsAcceptedSet q rights

@@ -281,7 +281,7 @@ impl PortObservation {
 }
 
 /// Whether the state DISABLED is observed at an enabled port.
-#[tactic(auto, using(crate::proofs::Observing::disables_found, crate::proofs::Observing::disables_on), unfolding(crate::specs::Observation::disables_one))]
+#[tactic(auto, using(crate::proofs::Observed::disables_found, crate::proofs::Observed::disables_on), unfolding(crate::specs::Observation::disables_one))]
 fn disables_one(observed: &[PortObservation], ports: &[PortDataSet]) -> bool
     requires { length observed.now ≤ length ports.now }
     ensures { result ≡ disables_one observed.now ports.now }
@@ -293,7 +293,7 @@ fn disables_one(observed: &[PortObservation], ports: &[PortDataSet]) -> bool
     disables
 }
 
-#[tactic(auto, using(crate::proofs::Observing::left_more), unfolding(crate::specs::Observation::left_disabled))]
+#[tactic(auto, using(crate::proofs::Observed::left_more), unfolding(crate::specs::Observation::left_disabled))]
 fn left_disabled(observed: &[PortObservation], ports: &[PortDataSet]) -> PortsLeftDisabled
     requires fit { length observed.now ≤ length ports.now }
     requires few { length ports.now ≤ PORTS }
@@ -357,7 +357,7 @@ impl DataSets {
     /// and is reported; a clock that is its own grandmaster shows its own quality as the grandmaster's. Takes no memory.
     ///
     /// Refused with the first `ObservationError` that holds, judged on the data sets as they would be; then nothing changes.
-    #[tactic(auto, using(crate::proofs::Observing::observe_laws), unfolding(crate::specs::Observation::observed))]
+    #[tactic(auto, using(crate::proofs::Observed::observe_laws), unfolding(crate::specs::Observation::observed))]
     pub fn observe(
         &mut self,
         clock: &ClockObservation,

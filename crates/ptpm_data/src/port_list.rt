@@ -43,7 +43,7 @@ impl PortList {
     }
 
     /// Changes one port, or for 0xFFFF every port.
-    #[tactic(auto, using(crate::proofs::PortLists::list_laws))]
+    #[tactic(auto, using(crate::proofs::Observed::list_laws))]
     pub(crate) fn change(&mut self, port: u16, change: PortChange)
         requires { IsTargetOf port (length (ports_in self.old)) }
         ensures { ports_in self.new ≡ named_changed port (port_after change) (ports_in self.old) }
@@ -55,7 +55,7 @@ impl PortList {
     }
 
     /// Gives the first ports what was observed of them.
-    #[tactic(auto, using(crate::proofs::PortLists::list_laws))]
+    #[tactic(auto, using(crate::proofs::Observed::list_laws))]
     pub(crate) fn observe(&mut self, observed: &[PortObservation])
         requires { length observed.now ≤ length (ports_in self.old) }
         ensures { ports_in self.new ≡ ports_after observed.now (ports_in self.old) }

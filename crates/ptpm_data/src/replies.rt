@@ -166,7 +166,7 @@ impl DataSets {
     }
 
     /// The ports that a target port means: from the first number on, up to the second, which is not one of them.
-    #[tactic(auto, using(crate::proofs::NamedPorts::named_ports_laws), unfolding(crate::specs::Replies::named_ports))]
+    #[tactic(auto, using(crate::proofs::ReplyLemmas::named_ports_laws), unfolding(crate::specs::Replies::named_ports))]
     fn named_ports(&self, port: u16) -> (u16, u16)
         requires { IsTargetPort port self.now }
         ensures numbers { named_ports port (length self.now.ports)

@@ -516,7 +516,7 @@ impl DataSets {
     /// The data sets of a clock that starts with these values, its ports numbered from 1.
     ///
     /// Refused with the first `StartError` that holds. TooManyPorts above `INLINE_PORTS`: `new_in` takes more.
-    #[tactic(auto, using(crate::proofs::Starting::text_fits, crate::proofs::Starting::few_consistent), unfolding(crate::specs::Start::start_within))]
+    #[tactic(auto, using(crate::proofs::Consistency::text_fits, crate::proofs::Consistency::few_consistent), unfolding(crate::specs::Start::start_within))]
     pub fn new(clock: &ClockStart, ports: &[PortStart]) -> Result<DataSets, StartError>
         ensures { result ≡ start_of clock.now ports.now }
     {
@@ -535,7 +535,7 @@ impl DataSets {
     /// and never again.
     ///
     /// Refused with the first `StartError` that holds, or if memory is.
-    #[tactic(auto, using(crate::proofs::Starting::same_start))]
+    #[tactic(auto, using(crate::proofs::Consistency::same_start))]
     pub fn new_in(
         alloc: Global,
         clock: &ClockStart,
@@ -557,7 +557,7 @@ impl DataSets {
 
     /// Does what `new_in` does, with the ports in a block of memory.
     #[inline(never)]
-    #[tactic(auto, using(crate::proofs::Starting::text_fits, crate::proofs::Starting::many_consistent, crate::proofs::StartLemmas::unless_ok, crate::proofs::StartLemmas::unless_err), unfolding(crate::specs::Start::start_within))]
+    #[tactic(auto, using(crate::proofs::Consistency::text_fits, crate::proofs::Consistency::many_consistent, crate::proofs::StartLemmas::unless_ok, crate::proofs::StartLemmas::unless_err), unfolding(crate::specs::Start::start_within))]
     pub(crate) fn new_many(
         alloc: Global,
         clock: &ClockStart,
@@ -584,7 +584,7 @@ impl DataSets {
     }
 
     /// Does what `new` does, in place. If it is refused, nothing changes.
-    #[tactic(auto, using(crate::proofs::Starting::text_fits, crate::proofs::Starting::few_consistent), unfolding(crate::specs::Start::start_within))]
+    #[tactic(auto, using(crate::proofs::Consistency::text_fits, crate::proofs::Consistency::few_consistent), unfolding(crate::specs::Start::start_within))]
     pub(crate) fn start(
         &mut self,
         clock: &ClockStart,
@@ -607,7 +607,7 @@ impl DataSets {
     /// The data sets of a clock of one port whose identity is all zeros, with this profile's defaults. They are room for others,
     /// which `restore` puts in their place.
     #[inline(never)]
-    #[tactic(auto, using(crate::proofs::Starting::blank_starts))]
+    #[tactic(auto, using(crate::proofs::Consistency::blank_starts))]
     pub fn blank() -> DataSets
         ensures { result ≡ started (default_clock no_identity 0) (default_port ∷ []) }
     {

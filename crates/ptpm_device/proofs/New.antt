@@ -21,7 +21,7 @@ use Rattle.ptpm_agent.specs.Once.{Delivery, History, RequestCopy, after_copy, co
 use Rattle.ptpm_agent.specs.Turn.{Clock, State, carried_out, judged, next_by}
 use Rattle.ptpm_agent.specs.Window.{IsInTime}
 use Rattle.ptpm_agent.proofs.Entries.{accepted_kept}
-use Rattle.ptpm_agent.proofs.Numbers.{serial_of-number_of}
+use Rattle.ptpm_agent.proofs.AtMostOnce.{serial_of-number_of}
 use Rattle.ptpm_codec.specs.SequenceNumber.{number_of}
 use Rattle.ptpm_table.proofs.Identities.{same_identity-refl}
 use Rattle.ptpm_agent.proofs.Turns.{judged-copy, new_parts}

@@ -33,7 +33,7 @@ use Rattle.ptpm_agent.specs.Agent.{IsTurned}
 use Rattle.ptpm_agent.specs.Forwarding.{forwarded}
 use Rattle.ptpm_agent.specs.Turn.{Clock, NumberedRequest, State, Turned, judged, kept_reply_of, next_by, numbered_from, reply_by, reply_messages, turn, turn_by}
 use Rattle.ptpm_agent.proofs.Entries.{get-insert_same}
-use Rattle.ptpm_agent.proofs.Fitting.{may_judge_action, may_judge_port}
+use Rattle.ptpm_agent.proofs.SentReplies.{may_judge_action, may_judge_port}
 use Rattle.ptpm_agent.proofs.Turns.{CopyParts, forwarded-copy, judged-copy, new_parts, turn-message}
 use Rattle.ptpm_device.specs.Asking.{is_asked, is_lacked, is_new, is_permitted, is_unnumbered, is_wanted_once, wanted_new, wanted_once}
 use Rattle.ptpm_device.specs.Saying.{Gives, Objects, Say, after_reply, given, given_by, reply_given, reply_said, turn_said}

@@ -7,7 +7,7 @@ use Rattle.ptpm_codec.specs.declared.identity.PortIdentity.{PortIdentity}
 use Rattle.ptpm_codec.specs.declared.message.Message.{Message}
 use Rattle.ptpm_codec.specs.Identity.{same_identity}
 use Rattle.ptpm_codec.specs.Reading.{message_of}
-use Rattle.ptpm_codec.proofs.IdentityLaws.{same_identity-true}
+use Rattle.ptpm_codec.proofs.MessageLaws.{same_identity-true}
 use Rattle.ptpm_data.specs.Members.{DataSetsValue}
 use Rattle.ptpm_data.specs.Reply.{ReplyValue}
 use Rattle.ptpm_table.specs.declared.serial.Serial.{Serial}

@@ -1,12 +1,11 @@
 -- What it comes to that a script is drawn (this project's profile).
-use Rattle.std.specs.Prelude.{◌≡◌, ℕ, false, List, None, Option, Result, Ok, Err, filter, length, map}
-use Rattle.std.specs.Io.KnownBytes.{Keeps}
+use Rattle.std.specs.Prelude.{◌≡◌, ℕ, List, [], ◌∷◌, ◌++◌, Option, codes, decimal, false, None, Result, Ok, Err, filter, length, map}
+use Rattle.std.specs.Io.KnownBytes.{Appends, Keeps}
 use Rattle.std.specs.List.{range_with_len}
 use Rattle.std.specs.Result.{result_err}
 use Rattle.ptpm_draw.specs.Chosen.{chosen_of, is_chosen}
 use Rattle.ptpm_draw.specs.declared.chosen.Chosen.{Chosen}
 use Rattle.ptpm_draw.specs.declared.selection.Selection.{Selection}
-use Rattle.ptpm_draw.specs.Parts.{ShowsLines}
 use Rattle.ptpm_draw.specs.Picture.{Drawn, drawn_in, is_delivered, picture_of}
 use Rattle.ptpm_script.specs.declared.network.Network.{Network}
 use Rattle.ptpm_script.specs.NetworkText.{network_of}
@@ -17,6 +16,27 @@ use Rattle.ptpm_world.specs.declared.script_error.ScriptError.{ScriptError}
 use Rattle.ptpm_world.specs.declared.script_error.ScriptError.TheVariants.{ReadFault}
 use Rattle.ptpm_world.specs.Script.{network_text, scripted}
 use Rattle.ptpm_world.specs.ScriptError.{is_outside}
+
+-- ---- the parts of a picture, one for each line that is drawn (this project's profile)
+
+-- what the part of a line begins with: its title, and in that the line's number
+abbrev pub opening : ℕ → List ℕ
+opening line = codes "<g><title>" ++ decimal line ++ codes " "
+
+-- a part for each of these lines, in their order, and nothing between
+abbrev pub ArePartsOf : List ℕ → List ℕ → Type 0
+ArePartsOf [] text = text ≡ []
+ArePartsOf (line ∷ lines) text =
+    (rest : List ℕ) × ((others : List ℕ) × ((text ≡ (opening line ++ rest) ++ others) × ArePartsOf lines others))
+
+-- these parts were written
+abbrev pub AddsParts : List ℕ → Option (List ℕ) → Option (List ℕ) → Type 0
+AddsParts lines before after = (text : List ℕ) × (ArePartsOf lines text × Appends before after text)
+
+-- a picture was written that has a part for each of these lines, between what it begins with and its end
+abbrev pub ShowsLines : List ℕ → Option (List ℕ) → Option (List ℕ) → Type 0
+ShowsLines lines before after =
+    (head : List ℕ) × ((parts : List ℕ) × (ArePartsOf lines parts × Appends before after ((head ++ parts) ++ codes "</svg>\n")))
 
 -- everything that is drawn of the events of a script in this network
 abbrev pub whole_picture : Network → List ℕ → Drawn

@@ -2,6 +2,5 @@ pub mod Party
 pub mod Changes
 pub mod Picture
 pub mod Chosen
-pub mod Parts
 pub mod Drawing
 pub mod MemberText

@@ -2,7 +2,7 @@
 
 ghost use Rattle.std.specs.Prelude.{◌≡◌, ◌++◌, IfErr, IfOk, OnOk, map, true};
 ghost use Rattle.std.specs.Io.KnownBytes.{Appends};
-ghost use Rattle.ptpm_draw.specs.Parts.{AddsParts, ShowsLines, opening};
+ghost use Rattle.ptpm_draw.specs.Drawing.{AddsParts, ShowsLines, opening};
 ghost use Rattle.ptpm_world.specs.ScriptError.{is_of_writing};
 
 use crate::changes::{Change, Changes};

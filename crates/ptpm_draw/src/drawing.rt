@@ -1,8 +1,7 @@
 //! A script, drawn.
 
 ghost use Rattle.std.specs.Prelude.{◌≡◌, IfErr, IfSome, OnOk, map, true};
-ghost use Rattle.ptpm_draw.specs.Drawing.{HasDrawn, IsSelection};
-ghost use Rattle.ptpm_draw.specs.Parts.{ShowsLines};
+ghost use Rattle.ptpm_draw.specs.Drawing.{HasDrawn, IsSelection, ShowsLines};
 ghost use Rattle.ptpm_world.specs.ScriptError.{is_of_writing};
 
 use crate::chart::Chart;

@@ -1,12 +1,18 @@
 -- The clock that takes what comes in, and what its owner asks, is a sound process; what it holds may change it, and nothing else may.
-use Rattle.std.proofs.Common.{◌≡◌, ◌∙◌, ◌&&◌, ◌||◌, ◌==◌, Bool, true, false, not, ap, refl, sym, subst, List, [], ◌∷◌, ℕ, length, Option, Some, None, Result, Ok, Err, if◌then◌else◌}
+use Rattle.std.proofs.Common.{◌≡◌, ◌≢◌, ◌∙◌, ap, refl, false, ℕ, List, ◌&&◌, ◌||◌, ◌==◌, Bool, true, not, sym, subst, [], ◌∷◌, length, Option, Some, None, Result, Ok, Err, if◌then◌else◌}
+use Rattle.ptpm_agent.specs.declared.verdict.Verdict.{Verdict}
+use Rattle.ptpm_agent.specs.Agent.{IsTurned}
+use Rattle.ptpm_agent.specs.Turn.{State, turn, Clock, Turned, is_repeat, judged, next_by, outbox_of, verdict_at}
+use Rattle.ptpm_saved.specs.SavingClock.{is_new, CanBe, Datagram, clock_process}
+use Rattle.ptpm_saved.proofs.SavingLaws.{clock_sound}
+use Rattle.ptpm_host.specs.declared.clock.HostedClock.{HostedClock}
+use Rattle.ptpm_host.specs.Clock.{clock_in, state_in}
 use Rattle.std.specs.FinMap.{empty, get}
 use Rattle.std.specs.Prelude.{is_some}
 use Rattle.ptpm_codec.specs.Layout.{message_octets}
 use Rattle.std.proofs.lemmas.Bool.{false≢true}
 use Rattle.ptpm_codec.specs.declared.error.DecodeError.{DecodeError}
 use Rattle.ptpm_codec.specs.declared.message.Action.{Action}
-use Rattle.ptpm_codec.specs.declared.message.Action.TheVariants as actions
 use Rattle.ptpm_codec.specs.declared.message.Message.{Message}
 use Rattle.ptpm_codec.specs.Message.{action_of, is_reply}
 use Rattle.ptpm_codec.specs.Reading.{message_of, reading}
@@ -17,15 +23,10 @@ use Rattle.ptpm_data.specs.Rights.{all_rights}
 use Rattle.ptpm_data.proofs.Consistency.{changed_by-consistent}
 use Rattle.ptpm_data.proofs.Keeping.{changed_by-get}
 use Rattle.ptpm_table.specs.declared.reply_table.Look.{Look}
-use Rattle.ptpm_table.specs.declared.reply_table.Look.TheVariants as looks
 use Rattle.ptpm_table.specs.Entries.{Entries}
 use Rattle.ptpm_table.specs.Numbering.{look_of}
-use Rattle.ptpm_agent.specs.declared.verdict.Verdict.{Verdict}
-use Rattle.ptpm_agent.specs.declared.verdict.Verdict.TheVariants as verdicts
 use Rattle.ptpm_agent.specs.Addressing.{is_addressed, is_numbered, is_own, is_request, request_of}
-use Rattle.ptpm_agent.specs.Turn.{Clock, State, Turned, is_repeat, judged, next_by, outbox_of, turn, verdict_at}
-use Rattle.ptpm_agent.proofs.TurnKeeps.{turn-ports}
-use Rattle.ptpm_agent.proofs.Turns.{new_parts, reading-message_of, turn-message}
+use Rattle.ptpm_agent.proofs.Turns.{turn-ports, new_parts, reading-message_of, turn-message}
 use Rattle.ptpm_device.specs.Asking.{is_change}
 use Rattle.ptpm_device.specs.Saying.{Say, new_said, reply_said, reply_told, said_at, turn_said, unnumbered_said}
 use Rattle.ptpm_device.proofs.Judged.{turn_said-verdict}
@@ -33,11 +34,27 @@ use Rattle.ptpm_device.proofs.Steps.{turn_said-at, turn_said-each, turn_said-unr
 use Rattle.ptpm_saved.specs.Batching.{HoldsChanges}
 use Rattle.ptpm_saved.specs.BatchingClock.{is_numbered_in, is_of_manager}
 use Rattle.ptpm_saved.specs.Saving.{IsSound, noted_each}
-use Rattle.ptpm_saved.specs.SavingClock.{CanBe, Datagram, clock_process, is_new}
-use Rattle.ptpm_saved.proofs.BatchingClockLaws as clocks
-use Rattle.ptpm_saved.proofs.SavingClockLaws.{clock_sound}
 use Rattle.ptpm_host.specs.Changing.{owner_by, owner_clock, owner_turn, owner_turned, owner_verdict}
 use Rattle.ptpm_host.specs.Coming.{Changed, ClockState, Coming, Decides, Heard, OfOwner, Undertakes, after_coming, coming_process, datagram_in, decided, is_change_of, is_held_by, messages_for, turn_of, undertakes}
+use Rattle.ptpm_agent.specs.declared.verdict.Verdict.TheVariants as verdicts
+use Rattle.ptpm_codec.specs.declared.message.Action.TheVariants as actions
+use Rattle.ptpm_table.specs.declared.reply_table.Look.TheVariants as looks
+use Rattle.ptpm_saved.proofs.BatchingLaws as clocks
+
+-- ---- a turn whose verdict is not AnsweredNew leaves the data sets
+
+pub not_new : (verdict : Verdict) → verdict ≢ verdicts.AnsweredNew → is_new verdict ≡ false
+not_new verdicts.AnsweredNew other = absurd (other refl)
+not_new _ other = refl
+
+pub sets_stay : (before after : HostedClock) (port : ℕ) (datagram : List ℕ) (verdict : Verdict) (outbox : List (ℕ × List ℕ))
+    → IsTurned (turn (clock_in before) (state_in before) port datagram) verdict outbox (state_in after)
+    → verdict ≢ verdicts.AnsweredNew
+    → after.agent.sets ≡ before.agent.sets
+sets_stay before after port datagram verdict outbox turned other =
+    let same = not_new _ (λ new. other (turned.verdict_is ∙ new)) in
+    let next = (clock_sound (clock_in before)).unchanged (state_in before) (port, datagram) same in
+    turned.sets_are ∙ ap (λ (s : State). s.sets) next
 
 -- ---- what the owner asks
 

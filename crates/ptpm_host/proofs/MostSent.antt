@@ -13,7 +13,7 @@ use Rattle.ptpm_data.specs.Replies.{reply_of}
 use Rattle.ptpm_data.specs.Reply.{ReplyValue}
 use Rattle.ptpm_data.specs.Request.{RequestValue}
 use Rattle.ptpm_data.specs.RequestLaws.{IsSized}
-use Rattle.ptpm_data.proofs.AnswerCounts.{reply_few}
+use Rattle.ptpm_data.proofs.Answering.{reply_few}
 use Rattle.ptpm_table.specs.Entries.{Entry, HaveAnswers}
 use Rattle.ptpm_table.specs.Rendering.{rendered}
 use Rattle.ptpm_agent.specs.declared.verdict.Verdict.{Verdict}

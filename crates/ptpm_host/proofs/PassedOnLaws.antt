@@ -7,8 +7,7 @@ use Rattle.std.specs.Prelude.{All, replicate}
 use Rattle.ptpm_host.specs.declared.passed_on.MessageKey.{MessageKey}
 use Rattle.ptpm_host.specs.declared.passed_on.PassedOn.{PassedOn}
 use Rattle.ptpm_host.specs.declared.passed_on.PassedOnPlace.{PassedOnPlace}
-use Rattle.ptpm_host.specs.PassedOn.{IsAsked, IsLetThrough, first_of, first_place, free, is_live, is_noted, nth_from, place_from, same_key}
-use Rattle.ptpm_host.specs.PassedOnLaw.{Ask, Asked, NotTwice}
+use Rattle.ptpm_host.specs.PassedOn.{IsAsked, IsLetThrough, first_of, first_place, free, is_live, is_noted, nth_from, place_from, same_key, Ask, Asked, NotTwice}
 
 abbrev entry : MessageKey → ℕ → ℕ → PassedOnPlace
 entry key since long = record { since = since; time = long; key = key }

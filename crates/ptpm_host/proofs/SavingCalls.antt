@@ -19,8 +19,7 @@ use Rattle.ptpm_host.specs.KeptBatch.{IsKept, KeptBatch, LeadsTo, kept_confirmed
 use Rattle.ptpm_host.specs.Queue.{queued}
 use Rattle.ptpm_host.specs.SavingClock.{called_at, clock_state_in, kept_of, request_under_way, shown_sets, shown_state}
 use Rattle.ptpm_host.proofs.Batches.{answered, confirmed, quiet_shown, waiting}
-use Rattle.ptpm_host.proofs.ComingLaws.{after_datagram, change_of_datagram, coming_alone, coming_holds, coming_sound, held_datagram, messages_of_datagram, said_old, turn_of-unchanged}
-use Rattle.ptpm_host.proofs.Changing.{not_new}
+use Rattle.ptpm_host.proofs.ComingLaws.{after_datagram, change_of_datagram, coming_alone, coming_holds, coming_sound, held_datagram, messages_of_datagram, said_old, turn_of-unchanged, not_new}
 
 -- what is kept of a clock, and that it is of a batch
 abbrev pub Kept : Type 0

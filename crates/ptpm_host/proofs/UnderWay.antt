@@ -18,7 +18,7 @@ use Rattle.ptpm_data.specs.Ranges.{allows_text}
 use Rattle.ptpm_data.specs.Refusals.{is_length, is_set_length, is_set_value, is_value, refusal_at, refusal_of, row_refusal}
 use Rattle.ptpm_data.specs.Request.{RequestValue}
 use Rattle.ptpm_data.specs.SetForm.{SetField, NoSet, Empty, TextUpTo, AnyOctet, from◌to◌, either◌to◌or◌, MechanismNumber, minus◌to◌, NotBothLeaps}
-use Rattle.ptpm_data.proofs.Carrying.{suits_from}
+use Rattle.ptpm_data.proofs.Keeping.{suits_from}
 use Rattle.ptpm_codec.specs.declared.message.Body.{Body}
 use Rattle.ptpm_codec.specs.declared.message.Body.TheVariants as bodies
 use Rattle.ptpm_codec.specs.declared.message.Message.{Message}
@@ -28,7 +28,7 @@ use Rattle.ptpm_codec.specs.Reading.{IsWellFormed, message_at, message_of, ok_un
 use Rattle.ptpm_codec.specs.Refusal.{refusal}
 use Rattle.ptpm_agent.proofs.Turns.{message_of-reading, reading-message_of}
 use Rattle.ptpm_codec.specs.Spelling.{Spells, SpellsBody}
-use Rattle.ptpm_codec.proofs.PlaceLaws.{number-take}
+use Rattle.ptpm_codec.proofs.OctetLaws.{number-take}
 use Rattle.ptpm_codec.proofs.ReadingLaws.{message_of-spells, message_size, spells-message_of}
 use Rattle.ptpm_agent.specs.Addressing.{request_of}
 use Rattle.ptpm_agent.specs.Turn.{Clock, NumberedRequest, State, judged, numbered_from}

@@ -20,7 +20,7 @@ use Rattle.ptpm_saved.specs.Batching.{Handles, answers, calls, holds, is_held, l
 use Rattle.ptpm_saved.specs.BatchingClock.{is_of_manager}
 use Rattle.ptpm_saved.specs.Saving.{Came}
 use Rattle.ptpm_saved.specs.SavingClock.{Datagram, is_new}
-use Rattle.ptpm_saved.proofs.BatchingClockLaws.{holds_changes}
+use Rattle.ptpm_saved.proofs.BatchingLaws.{holds_changes}
 use Rattle.ptpm_host.specs.declared.clock.HostedClock.{HostedClock}
 use Rattle.ptpm_host.specs.declared.saving_clock.Acting.TheVariants as actings
 use Rattle.ptpm_host.specs.declared.saving_clock.SavingClock.{SavingClock}

@@ -13,15 +13,12 @@ pub mod Asker
 pub mod Names
 pub mod MemberKinds
 pub mod Texts
-pub mod TextsLaws
 pub mod AnswerNames
 pub mod ErrorNames
 pub mod Observing
 pub mod PassedOn
 pub mod Transit
-pub mod PassedOnLaw
 pub mod Rate
-pub mod RateLaw
 pub mod Restoring
 pub mod Words
 pub mod Parsing

@@ -1,5 +1,5 @@
 -- Which messages were passed on last (this project's profile): a table of places. A message may be noted in sixteen of them.
-use Rattle.std.specs.Prelude.{◌≡◌, ◌<◌, ◌≤◌, ◌⊎◌, ℕ, ◌+◌, ◌-◌, ◌*◌, ◌/◌, ◌%◌, ◌^◌, ◌&&◌, ◌==◌, Bool, true, false, List, MatchBool, length, nat_lt, slice_set, bit_or, bit_xor}
+use Rattle.std.specs.Prelude.{◌≡◌, ◌<◌, ◌≤◌, ◌⊎◌, ℕ, ◌+◌, ◌-◌, ◌*◌, ◌/◌, ◌%◌, ◌^◌, ◌&&◌, ◌==◌, Bool, true, false, List, MatchBool, length, nat_lt, slice_set, bit_or, bit_xor, All, [], ◌∷◌}
 use Rattle.std.specs.List.{slice_index_or}
 use Rattle.std.specs.Int.{from_be_bytes, w64}
 use Rattle.ptpm_codec.specs.declared.identity.ClockIdentity.{ClockIdentity}
@@ -112,3 +112,32 @@ IsKeptBack t key now u =
 
 abbrev pub IsAsked : PassedOn → MessageKey → ℕ → ℕ → Bool → PassedOn → Type 0
 IsAsked t key now time answer u = MatchBool answer (IsLetThrough t key now time u) (IsKeptBack t key now u)
+
+-- ---- what holds for questions that are asked one after another: a message that was let through is not let through again within its
+-- time.
+
+-- a message of this key that comes at a time; if it is passed on, it is noted for a time
+pub record Ask : Type 0 where
+  pub key : MessageKey
+  pub now : ℕ
+  pub time : ℕ
+
+-- messages that come one after another, what is answered to each, and the table after them
+abbrev pub Asked : PassedOn → List Ask → List Bool → PassedOn → Type 0
+Asked t [] [] u = u ≡ t
+Asked t [] (answer ∷ answers) u = ⊥
+Asked t (a ∷ asks) [] u = ⊥
+Asked t (a ∷ asks) (answer ∷ answers) u =
+    (s : PassedOn) × (IsAsked t a.key a.now a.time answer s × Asked s asks answers u)
+
+-- in a table of any size, whatever came between, if it came no later than the second message
+abbrev pub NotTwice : Type 0
+NotTwice = (t u v w : PassedOn) (a b : Ask) (between : List Ask) (answers : List Bool) (answer : Bool)
+    → 16 ≤ length t.places
+    → IsAsked t a.key a.now a.time true u
+    → Asked u between answers v
+    → All (λ x. x.now ≤ b.now) between
+    → b.key ≡ a.key
+    → b.now - a.now < a.time
+    → IsAsked v b.key b.now b.time answer w
+    → answer ≡ false

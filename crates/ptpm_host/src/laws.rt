@@ -38,8 +38,8 @@ ghost use Rattle.ptpm_saved.specs.Saving.{IsAsIfPowered};
 ghost use Rattle.ptpm_saved.specs.SavingClock.{Datagram};
 ghost use Rattle.ptpm_host.specs.Coming.{ClockBatch, ClockState, Coming, Decides, Undertakes, after_coming, coming_process, is_held_by, messages_for, undertakes};
 ghost use Rattle.ptpm_host.specs.KeptBatch.{IsGivenOut};
-ghost use Rattle.ptpm_host.specs.PassedOnLaw.{NotTwice};
-ghost use Rattle.ptpm_host.specs.RateLaw.{WithinRate};
+ghost use Rattle.ptpm_host.specs.PassedOn.{NotTwice};
+ghost use Rattle.ptpm_host.specs.Rate.{WithinRate};
 ghost use Rattle.ptpm_host.specs.Undertaking.{AsksAtMostOnce, IsInItsDomain, is_taken_meanwhile};
 
 /// The number of a verdict, of a reason and of a refusal has its name, in words of capitals: `ANSWERED_NEW` for `AnsweredNew`.

@@ -184,7 +184,7 @@ pub fn left_number(left: &PortsLeftDisabled) -> u64
 }
 
 /// This number of ports from one on, with 1 for the first.
-#[tactic(auto, using(crate::proofs::LeftNumbers::left_step, crate::proofs::LeftNumbers::twice_fits, crate::proofs::LeftNumbers::in_word))]
+#[tactic(auto, using(crate::proofs::ObservedPlaces::left_step, crate::proofs::ObservedPlaces::twice_fits, crate::proofs::ObservedPlaces::in_word))]
 fn left_from(left: &PortsLeftDisabled, port: u16, count: usize) -> u64
     requires first { 1 ≤ port }
     requires ports { port + count ≤ PORTS + 1 }

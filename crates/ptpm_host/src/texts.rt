@@ -17,7 +17,7 @@ struct Room<'a> {
 
 impl TextSink for Room<'_> {
     ghost use Rattle.std.proofs.Common.{◌∙◌, refl};
-    ghost use Rattle.ptpm_host.specs.TextsLaws.{keeps_none, keeps_twice};
+    ghost use Rattle.ptpm_host.specs.Texts.{keeps_none, keeps_twice};
 
     ghost pushed = { λ s text t. KeepsText (s.octets.now, s.size) text (t.octets.now, t.size) × (t.octets.ghost_name ≡ s.octets.ghost_name) };
 

@@ -10,8 +10,8 @@ use Rattle.ptpm_codec.specs.Message.{action_of, id_of, is_reply}
 use Rattle.ptpm_codec.specs.Ordered.{first_of}
 use Rattle.ptpm_codec.specs.Reading.{reading}
 use Rattle.ptpm_codec.specs.SequenceNumber.{number_of}
-use Rattle.ptpm_codec.proofs.IdentityLaws.{same_clock-refl, same_clock-true, same_identity-true}
-use Rattle.ptpm_codec.proofs.OrderedLaws.{first_of-none}
+use Rattle.ptpm_codec.proofs.MessageLaws.{same_clock-refl, same_clock-true, same_identity-true}
+use Rattle.ptpm_codec.proofs.RefusalLaws.{first_of-none}
 use Rattle.ptpm_data.specs.ManagementId.{is_of_port}
 use Rattle.ptpm_data.specs.Request.{RequestValue}
 use Rattle.ptpm_manager.specs.declared.receiving.Reason.{Reason}

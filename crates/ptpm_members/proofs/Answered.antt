@@ -6,7 +6,7 @@ use Rattle.std.proofs.lemmas.Bool.Decides.{nat_tests}
 use Rattle.std.proofs.lemmas.List.Elements.{All-from_recursion, All-nil, All-tail}
 use Rattle.ptpm_codec.specs.declared.identity.ClockIdentity.{ClockIdentity}
 use Rattle.ptpm_codec.specs.PtpText.{is_ptp_text, ptp_text_octets}
-use Rattle.ptpm_codec.proofs.PtpTextLaws.{ptp_text_size}
+use Rattle.ptpm_codec.proofs.OctetLaws.{ptp_text_size}
 use Rattle.ptpm_data.specs.declared.data_sets.CurrentDataSet.{CurrentDataSet}
 use Rattle.ptpm_data.specs.declared.data_sets.DefaultDataSet.{DefaultDataSet}
 use Rattle.ptpm_data.specs.declared.data_sets.ParentDataSet.{ParentDataSet}

@@ -1,5 +1,11 @@
--- A name in either case is that of a row of the table if it is the row's name in capitals.
-use Rattle.std.proofs.Common.{◌≡◌, ◌==◌, ℕ, Bool, true, false, List, [], ◌∷◌, Option, Some, None, IsTrue, ◌↔◌, if◌then◌else◌, bytes_eq, map, option_map, find, refl, ap, sym, ◌∙◌, arith}
+-- Names: looked up by way of numbers, and in either case.
+use Rattle.std.proofs.Common.{◌≡◌, ap, ℕ, ◌+◌, ◌<◌, ◌≤◌, true, false, List, drop, length, get_or, drop-cons, add-one, Some, None, refl, ◌==◌, Bool, [], ◌∷◌, Option, IsTrue, ◌↔◌, if◌then◌else◌, bytes_eq, map, option_map, find, sym, ◌∙◌, arith}
+use Rattle.std.proofs.Math.ListN.{drop_of_length-le}
+use Rattle.std.specs.Str.{str_eq_ignore_ascii_case}
+use Rattle.ptpm_members.specs.declared.other_ids.OtherId.{OtherId}
+use Rattle.ptpm_members.specs.declared.number_names.Enumeration.{Enumeration}
+use Rattle.ptpm_members.specs.NumberNames.{is_name, name_of, named_in}
+use Rattle.ptpm_members.specs.OtherIds.{other_name, other_named_in}
 use Rattle.std.proofs.lemmas.Bool.{false_from_ne_true}
 use Rattle.std.proofs.lemmas.Bool.Decides.{nat_tests}
 use Rattle.std.proofs.lemmas.Slice.Eq.{bytes_eq-Decides}
@@ -8,6 +14,38 @@ use Rattle.std.specs.Char.{to_ascii_uppercase, to_ascii_lowercase}
 use Rattle.ptpm_data.specs.declared.management_id.ManagementIdRow.{ManagementIdRow}
 use Rattle.ptpm_data.specs.ManagementId.{RowValue, id_table, row_of, row_named, row_value, if_named}
 use Rattle.ptpm_members.specs.IdNames.{capitals, id_name}
+
+-- ---- looking a name up by way of the numbers
+
+pub goes_on : (e : Enumeration) (text numbers : List ℕ) (i : ℕ) → i < length numbers
+    → is_name text (name_of e (get_or numbers i 0)) ≡ false
+    → named_in e text (drop (i + 1) numbers) ≡ named_in e text (drop i numbers)
+goes_on e text numbers i inside other = rw (drop-cons numbers i 0 inside, add-one i, other) refl
+
+pub is_found : (e : Enumeration) (text numbers : List ℕ) (i : ℕ) → i < length numbers
+    → is_name text (name_of e (get_or numbers i 0)) ≡ true
+    → named_in e text (drop i numbers) ≡ Some (get_or numbers i 0)
+is_found e text numbers i inside this = rw (drop-cons numbers i 0 inside, this) refl
+
+pub is_nowhere : (e : Enumeration) (text numbers : List ℕ) (i : ℕ) → length numbers ≤ i → named_in e text (drop i numbers) ≡ None
+is_nowhere e text numbers i past = ap (named_in e text) (drop_of_length-le numbers past)
+
+-- ---- an id that is only read
+
+pub goes_on_others : (name : List ℕ) (ids : List OtherId) (i : ℕ) (d : OtherId) → i < length ids
+    → str_eq_ignore_ascii_case name (other_name (get_or ids i d)) ≡ false
+    → other_named_in name (drop (i + 1) ids) ≡ other_named_in name (drop i ids)
+goes_on_others name ids i d inside other = rw (drop-cons ids i d inside, add-one i, other) refl
+
+pub is_found_among : (name : List ℕ) (ids : List OtherId) (i : ℕ) (d : OtherId) → i < length ids
+    → str_eq_ignore_ascii_case name (other_name (get_or ids i d)) ≡ true
+    → other_named_in name (drop i ids) ≡ Some (get_or ids i d)
+is_found_among name ids i d inside this = rw (drop-cons ids i d inside, this) refl
+
+pub is_none_of : (name : List ℕ) (ids : List OtherId) (i : ℕ) → length ids ≤ i → other_named_in name (drop i ids) ≡ None
+is_none_of name ids i past = ap (other_named_in name) (drop_of_length-le ids past)
+
+-- ---- a name in either case is that of a row of the table if it is the row's name in capitals
 
 -- ---- what holds of every row holds of a row that is found
 

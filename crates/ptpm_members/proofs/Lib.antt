@@ -1,12 +1,7 @@
-pub mod Reading
 pub mod Placing
 pub mod Answered
 pub mod Placed
 pub mod LineLemmas
-pub mod Numerals
 pub mod ParsingLemmas
-pub mod Meant
-pub mod Naming
-pub mod OneOctet
-pub mod SetBack
 pub mod IdNames
+pub mod SetBack

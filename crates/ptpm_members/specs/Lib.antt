@@ -14,4 +14,3 @@ pub mod RoundTrip
 pub mod ParseFaultText
 pub mod Takes
 pub mod Formatted
-pub mod FormattedLaws

@@ -30,7 +30,7 @@ pub(crate) fn described(typed: &str) -> Option<ArrayVec<u8, 128>>
 }
 
 /// The octet that is meant first, and what is typed after it.
-#[tactic(auto, using(crate::proofs::Meant::meant_escape, crate::proofs::Meant::meant_plain))]
+#[tactic(auto, using(crate::proofs::ParsingLemmas::meant_escape, crate::proofs::ParsingLemmas::meant_plain))]
 fn next_octet(typed: &[u8]) -> Option<(u8, &[u8])>
     ensures none { IfNone result (typed.now ≡ []) }
     ensures next { IfSome result (λ r. meant typed.now ≡ r.0 ∷ meant r.1.now) }
@@ -68,7 +68,7 @@ fn is_description(text: &[u8]) -> bool
     text.len() <= MOST_OCTETS && is_utf8(text)
 }
 
-#[tactic(auto, using(crate::proofs::Meant::is_utf8_laws))]
+#[tactic(auto, using(crate::proofs::ParsingLemmas::is_utf8_laws))]
 fn is_utf8(text: &[u8]) -> bool
     ensures { result ≡ is_utf8 text.now }
 {

@@ -14,7 +14,7 @@ pub(crate) struct Formatted<'a, W> {
 }
 
 impl<W: fmt::Write> TextSink for Formatted<'_, W> {
-    ghost use Rattle.ptpm_members.specs.FormattedLaws.{has_pushed_none, has_pushed_twice};
+    ghost use Rattle.ptpm_members.specs.Formatted.{has_pushed_none, has_pushed_twice};
 
     ghost pushed = { HasPushed W.write_str_gives };
 

@@ -67,7 +67,7 @@ pub fn other_id_name(id: u16) -> Option<&'static str>
 }
 
 /// The one of a name, in either case.
-#[tactic(auto, using(crate::proofs::Meant::other_id_named_laws))]
+#[tactic(auto, using(crate::proofs::ParsingLemmas::other_id_named_laws))]
 pub fn other_id_named(name: &[u8]) -> Option<u16>
     ensures named { IfSome result (λ id. other_id_named name.now ≡ Some id) }
     ensures found { is_utf8 name.now ≡ true → result ≡ other_id_named name.now }

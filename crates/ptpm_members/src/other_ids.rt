@@ -77,7 +77,7 @@ impl OtherId {
     }
 
     /// The one of a name, in either case.
-    #[tactic(auto, using(crate::proofs::Naming::goes_on_others, crate::proofs::Naming::is_found_among, crate::proofs::Naming::is_none_of), unfolding(crate::specs::OtherIds::other_named))]
+    #[tactic(auto, using(crate::proofs::IdNames::goes_on_others, crate::proofs::IdNames::is_found_among, crate::proofs::IdNames::is_none_of), unfolding(crate::specs::OtherIds::other_named))]
     pub fn named(name: &str) -> Option<OtherId>
         ensures { result ≡ other_named name.now }
     {

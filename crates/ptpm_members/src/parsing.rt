@@ -105,7 +105,7 @@ fn put_value(member: Field, text: &str, field: &mut Value) -> Result<(), ParseFa
 }
 
 /// Lays the octets of a value over those from a place on; a text is all of its dataField.
-#[tactic(auto, unfolding(crate::specs::Parsed::laid), using(ptpm_codec::proofs::PtpTextLaws::ptp_text_size))]
+#[tactic(auto, unfolding(crate::specs::Parsed::laid), using(ptpm_codec::proofs::OctetLaws::ptp_text_size))]
 fn lay(form: Form, at: u8, text: &str, field: &mut Value) -> Option<()>
     ensures { said_or result field.new.items ≡ laid form at text.now field.old.items }
 {

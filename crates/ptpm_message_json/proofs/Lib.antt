@@ -1,3 +1,2 @@
 pub mod Tellable
 pub mod Naming
-pub mod NoFloat

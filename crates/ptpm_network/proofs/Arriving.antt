@@ -2,10 +2,8 @@
 use Rattle.ptpm_network.proofs.Common.{expected_ports, copy_parts, names_port, IsForOne, arith, by_test, ◌≡◌, ℕ, ◌-◌, ◌<◌, ◌≤◌, ◌==◌, List, [], ◌∷◌, ◌++◌, Option, Some, None, true, false, refl, sym, ◌∙◌, ap, subst, ⊎_elim, ◌⊎◌, inl, inr, length, and_parts, cond-true, cond-false, eq-eqb, eqb-true, ltb-true, cons_option, slice_get, PortIdentity, Message, same_identity, message_of, RequestValue, Accepted, Delivery, History, RequestCopy, accepted_from, after_arrival, after_copy, applied_once, copies, initial_history, copy_from, copy_of, greatest, is_copy, joined, joins, kept_reply, Clock, applied_once-ports, delivers_copy, same_identity-true, number_of, AreDataSets, IsInStep, IsReached, arrives, delivery, IsNetwork, Network, manager, ports, Frame, NetworkState, SessionState, RequestOf, accepted_at_target, copies_at, history, with_place-other, with_place-same}
 use Rattle.std.proofs.lemmas.List.Elements.{filter_map-append}
 use Rattle.ptpm_network.proofs.Accepting.{IsAbove, JoinsOwn, Keeps, in_step-joined, keeps-joined, kept-joined, kept-le}
-use Rattle.ptpm_network.proofs.Frames.{IsHeard, SaysRequest, same_read, says_request}
-use Rattle.ptpm_network.proofs.Messages.{request_at}
-use Rattle.ptpm_network.proofs.Origins.{heard-true, is_copy_by}
-use Rattle.ptpm_network.proofs.Requests.{answered, for_one-there, kept, once}
+use Rattle.ptpm_network.proofs.Frames.{IsHeard, SaysRequest, same_read, says_request, heard-true, is_copy_by}
+use Rattle.ptpm_network.proofs.Messages.{request_at, answered, for_one-there, kept, once}
 use Rattle.ptpm_network.proofs.Steps.{KeptStays, frames-stay}
 
 -- ---- the session that a numbered copy is of

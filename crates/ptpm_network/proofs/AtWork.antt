@@ -12,7 +12,7 @@ use Rattle.ptpm_network.specs.ByManager.{Account}
 use Rattle.ptpm_network.specs.GivingUp.{AreRising, IsKeptReport, RiseFrom}
 use Rattle.ptpm_network.proofs.Accepting.{IsToldOf, greatest-grows, kept-le}
 use Rattle.ptpm_network.proofs.Arriving.{Gains, kept-gained}
-use Rattle.ptpm_network.proofs.Origins.{IsTrue}
+use Rattle.ptpm_network.proofs.Frames.{IsTrue}
 use Rattle.ptpm_network.proofs.Owned.{IsHeld, IsSaid, held-begun, reports_with, told_of}
 use Rattle.ptpm_network.proofs.Receiving.{takes-by}
 use Rattle.ptpm_network.proofs.Serving.{HeldAfter, IsGiven, with_accepted}

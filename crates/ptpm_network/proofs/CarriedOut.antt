@@ -3,7 +3,7 @@ use Rattle.ptpm_network.proofs.Common.{frame_at, Replay, replays, no_end, no_roo
 use Rattle.std.specs.Prelude.{IfOk}
 use Rattle.ptpm_agent.specs.CarriedOut.{after_requests}
 use Rattle.ptpm_agent.specs.Turn.{NumberedRequest}
-use Rattle.ptpm_agent.proofs.CarriedOut.{after_requests-append, turn-carried}
+use Rattle.ptpm_agent.proofs.Entries.{after_requests-append, turn-carried}
 use Rattle.ptpm_network.specs.CarriedOut.{carried_at, carried_by_event, carried_by_events, carried_while}
 use Rattle.ptpm_network.specs.RunningNetwork.{Happened, goes_on, unless_refused}
 unfoldable use Rattle.ptpm_network.specs.RunningNetwork.{network_event}

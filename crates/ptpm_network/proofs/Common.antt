@@ -29,10 +29,9 @@ unfoldable pub use Rattle.ptpm_codec.specs.Refusal.{frame_refusal, text_refusal,
 pub use Rattle.ptpm_codec.specs.SequenceNumber.{number_of}
 pub use Rattle.ptpm_codec.specs.Spelling.{Spells, SpellsBody}
 pub use Rattle.ptpm_codec.proofs.CanonicalLaws.{canonical_octets, canonical_spells}
-pub use Rattle.ptpm_codec.proofs.IdentityLaws.{same_clock-refl, same_clock-true}
-pub use Rattle.ptpm_codec.proofs.MessageLaws.{reply_action-is_reply}
-pub use Rattle.ptpm_codec.proofs.OrderedLaws.{first_of-none, option_or-none}
-pub use Rattle.ptpm_codec.proofs.PlaceLaws.{number-take, number_at-octets, octet-take}
+pub use Rattle.ptpm_codec.proofs.MessageLaws.{same_clock-refl, same_clock-true, reply_action-is_reply, same_identity-true}
+pub use Rattle.ptpm_codec.proofs.RefusalLaws.{first_of-none, option_or-none}
+pub use Rattle.ptpm_codec.proofs.OctetLaws.{number-take, number_at-octets, octet-take}
 pub use Rattle.ptpm_codec.proofs.ReadingLaws.{IsOctets, message_of-some, message_of-spells, message_size, octets-take, spells-message_of}
 pub use Rattle.ptpm_data.specs.declared.ports.TheConstants.{INLINE_PORTS, PORTS}
 pub use Rattle.ptpm_data.specs.Changes.{is_named}
@@ -55,7 +54,6 @@ pub use Rattle.ptpm_table.specs.Numbering.{look_at, look_by, same_request}
 pub use Rattle.ptpm_table.specs.Rendering.{answer_body, hops_passed, reply_message}
 unfoldable pub use Rattle.ptpm_table.specs.Rendering.{rendered}
 pub use Rattle.ptpm_table.specs.Serial.{InWindow, serial_of}
-pub use Rattle.ptpm_codec.proofs.IdentityLaws.{same_identity-true}
 pub use Rattle.ptpm_table.proofs.Identities.{same_identity-refl}
 pub use Rattle.ptpm_agent.specs.declared.verdict.Verdict.{Verdict}
 pub use Rattle.ptpm_agent.specs.Addressing.{heard_of, is_addressed, is_for_this_clock, is_numbered, is_own, is_request, names_port, request_of}
@@ -95,5 +93,4 @@ pub use Rattle.ptpm_network.specs.Stands.{AreFirsts, Stands, StandsAfter}
 pub use Rattle.ptpm_network.specs.State.{accepted_at_target, copies_at, Frame, frames_to, greatest_accepted, history, initial_state, is_idle, is_late, is_late_at, issued, Neither, NetworkState, new_frames, Origin, outcomes_kept, ReplyTo, reports_by, reports_of, RequestOf, session_value, SessionState, unanswered}
 pub use Rattle.ptpm_network.specs.Way.{AreLinked, ComeIn, ComesIn, ends_of, handed_in, Hop, IsAnswerable, IsWay, Leads, LinksHaveAtMost, made_along, made_each_way, passed_at_most, PassesOn, RunsToReport, visited}
 pub use Rattle.ptpm_network.specs.Worth.{entries_of, IsWorth, WasCarriedOut}
-pub use Rattle.ptpm_network.proofs.Lists.{all_append, all_flat, all_get, all_made, all_weaker, at_place, at_places, filter-few, filter-fewer, flat-few, frame_at-all, get_append, get_appended, get_last, with_place-other, with_place-same}
-pub use Rattle.ptpm_network.proofs.Tests.{by_test}
+pub use Rattle.ptpm_network.proofs.Lists.{all_append, all_flat, all_get, all_made, all_weaker, at_place, at_places, filter-few, filter-fewer, flat-few, frame_at-all, get_append, get_appended, get_last, with_place-other, with_place-same, by_test}

@@ -22,14 +22,12 @@ use Rattle.ptpm_network.specs.Invariant.{IsRequestFrame}
 use Rattle.ptpm_network.specs.State.{initial_session_state}
 use Rattle.ptpm_network.proofs.Accepting.{greatest-grows, kept-joined}
 use Rattle.ptpm_network.proofs.AtWork.{IsAtWork, reach-waiting, reach-within, work-begun, work-gained, work-given, work-given_up, work-hears, work-set}
-use Rattle.ptpm_network.proofs.EachEvent.{HoldsAfterEach, holds_after}
+use Rattle.ptpm_network.proofs.Served.{HoldsAfterEach, holds_after, stays-first, timely-for}
 use Rattle.ptpm_network.proofs.Honest.{observed-honest, replayed-honest, IsHonest, IsSentBy, IsTrueFrame, begins-honest, frame-true, moved-honest, reaches-honest, sends-honest, sent-all, sent_by, session-honest, turns-honest}
-use Rattle.ptpm_network.proofs.Origins.{IsTrue}
-use Rattle.ptpm_network.proofs.Own.{IsLastOf, TurnsOwn, turns_own}
-use Rattle.ptpm_network.proofs.Owned.{IsOwnFrame, IsSaid, own-held, reports_with, sent-says}
+use Rattle.ptpm_network.proofs.Frames.{IsTrue}
+use Rattle.ptpm_network.proofs.Owned.{IsLastOf, TurnsOwn, turns_own, IsOwnFrame, IsSaid, own-held, reports_with, sent-says}
 use Rattle.ptpm_network.proofs.Promise.{first_of_sessions, firsts}
 use Rattle.ptpm_network.proofs.Refusals.{begin-not_refused}
-use Rattle.ptpm_network.proofs.Served.{stays-first, timely-for}
 use Rattle.ptpm_network.proofs.Serving.{IsGiven, comes_own, held-turned, with_accepted}
 use Rattle.ptpm_network.proofs.Lists.{flipped}
 

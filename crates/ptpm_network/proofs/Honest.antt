@@ -1,12 +1,13 @@
 -- What holds of a running network after every list of events, however late others come. Each frame is true to whom it is
 -- of, and clocks and sessions can send what they keep.
-use Rattle.ptpm_network.proofs.Common.{expected_ports, ◌++◌, ◌∷◌, [], by_test, arith, map, reading, Turned, all_weaker, sends_in, sent, IsMessage, IsForeignFrame, ◌≡◌, ℕ, ◌<◌, ◌^◌, List, Option, Some, None, Result, Ok, refl, sym, ◌∙◌, ap, subst, length, same_Some, option_map, AllByRecursion, PortIdentity, Message, canonical, same_identity, Fits, message_of, ReplyValue, RequestValue, read_reply_to, reply_to, Entry, reply_messages, RequestCopy, copy_of, delivers_copy, heard_of, request_of, Clock, State, turn, judged, reply_by, turn-message, Verdict, Answers, AreDataSets, same_identity-true, answer_origin, delivery, reply_origin, AtPort, AtSession, End, HasEnd, IsNetwork, Network, peers, ports, Frame, Held, held, seen, turn_frames, after_turn, Origin, RequestOf, ReplyTo, Neither, Happened, unless_refused, reaches, hears, sent_posted, with_session_value, RunningNetwork, SessionValue, initial_history, DataSetsValue, Stands, initial_state, answered, begun, due_message, received_of, request_message, Ask, ask_refusal, begin_refusal, Refusal, frame_at, IsAsked, all_append, frame_at-all, all_made, at_place}
+use Rattle.ptpm_network.proofs.Common.{arith, ◌≡◌, ℕ, ◌+◌, ◌-◌, List, length, map, AllByRecursion, Message, copy_of, State, turn, answer_origin, delivery, AtPort, HasEnd, IsNetwork, Network, peers, Frame, Held, held, turn_frames, forwarded_frames, Origin, RequestOf, all_append, all_flat, all_made, End, expected_ports, ◌++◌, ◌∷◌, [], by_test, reading, Turned, all_weaker, sends_in, sent, IsMessage, IsForeignFrame, ◌<◌, ◌^◌, Option, Some, None, Result, Ok, refl, sym, ◌∙◌, ap, subst, same_Some, option_map, PortIdentity, canonical, same_identity, Fits, message_of, ReplyValue, RequestValue, read_reply_to, reply_to, Entry, reply_messages, RequestCopy, delivers_copy, heard_of, request_of, Clock, judged, reply_by, turn-message, Verdict, Answers, AreDataSets, same_identity-true, reply_origin, AtSession, ports, seen, after_turn, ReplyTo, Neither, Happened, unless_refused, reaches, hears, sent_posted, with_session_value, RunningNetwork, SessionValue, initial_history, DataSetsValue, Stands, initial_state, answered, begun, due_message, received_of, request_message, Ask, ask_refusal, begin_refusal, Refusal, frame_at, IsAsked, frame_at-all, at_place}
+use Rattle.ptpm_network.proofs.Messages.{IsPassedOn, less_hop-message, passed_on, canonical-message, request-fits, request-valid, answered as reply-answers, kept, observed-kept, read_answered}
+use Rattle.ptpm_network.proofs.Frames.{IsTrue, IsTrueTo, IsCopyBy, is_copy_by, message-true}
+use Rattle.ptpm_network.proofs.Steps.{has_peers}
+use Rattle.ptpm_network.proofs.Posting.{turn-forwards, turn-reads}
 use Rattle.std.specs.FinMap.{get, insert}
 use Rattle.ptpm_manager.specs.declared.receiving.Received.{Received}
-use Rattle.ptpm_manager.specs.declared.receiving.Received.TheVariants as received
 use Rattle.ptpm_manager.specs.declared.setup.Setup.{Setup}
-use Rattle.ptpm_manager.specs.Ask as ask
-use Rattle.ptpm_agent.specs.declared.verdict.Verdict.TheVariants as verdicts
 use Rattle.ptpm_data.specs.ObservationBack.{Observation}
 use Rattle.ptpm_data.specs.ObservationLaws.{IsSizedObservation}
 use Rattle.ptpm_agent.specs.Laws.{IsKept}
@@ -15,15 +16,50 @@ use Rattle.ptpm_agent.specs.Turn.{kept_reply_of, next_by}
 use Rattle.ptpm_agent.proofs.Entries.{accepted_entry, get-insert_other, get-insert_same}
 use Rattle.ptpm_agent.proofs.Turns.{turn-next}
 use Rattle.ptpm_network.specs.GivingUp.{after_observation}
-use Rattle.ptpm_network.proofs.Answering.{rendered-says}
-use Rattle.ptpm_network.proofs.Messages.{canonical-message, request-fits, request-valid}
-use Rattle.ptpm_network.proofs.Origins.{IsCopyBy, IsTrue, is_copy_by, message-true}
+use Rattle.ptpm_network.proofs.Answering.{rendered-says, id-fits, read-foreign}
 use Rattle.ptpm_network.proofs.Refusals.{asked-not_refused, begin-not_refused}
-use Rattle.ptpm_network.proofs.Requests.{answered as reply-answers, kept, observed-kept, read_answered}
-use Rattle.ptpm_network.proofs.Steps.{has_peers}
-use Rattle.ptpm_network.proofs.Truth.{passed_on-true, turn_frames-all}
-use Rattle.ptpm_network.proofs.Turning.{turn-reads}
-use Rattle.ptpm_network.proofs.Unnumbered.{id-fits, read-foreign}
+use Rattle.ptpm_manager.specs.declared.receiving.Received.TheVariants as received
+use Rattle.ptpm_manager.specs.Ask as ask
+use Rattle.ptpm_agent.specs.declared.verdict.Verdict.TheVariants as verdicts
+
+-- ---- what the frames that a clock makes in a running network say of whom they are of, in time or late
+
+-- ---- what is passed on
+
+true-hop : (N : Network) (v : Message) (n : ℕ) (o : Origin) → IsTrueTo N v o → IsTrueTo N (record v { hops = n }) o
+true-hop N v n (RequestOf t k) i = assumption
+true-hop N v n _ i = assumption
+
+pub passed_on-true : (N : Network) (d : List ℕ) (m : ℕ × List ℕ) (o : Origin)
+    → IsPassedOn d m → IsTrue N d o
+    → IsTrue N m.1 o
+passed_on-true N d m o p i u e =
+    let v : Message = p.message in
+    let says = i v p.read in
+    let less = less_hop-message v d p.read says.0 in
+    let same : record v { hops = v.hops - 1 } ≡ u = grind arith in grind (arith, IsTrueTo, true-hop)
+
+-- ---- a turn
+
+-- the frames that a clock makes of one that comes in, by those that it passes on and by its replies
+module _ (Q : Held → Type 0) (N : Network) (s : State) (c port : ℕ) (f : Frame) (n : IsNetwork N) where
+  frames-to : (m : ℕ × List ℕ) (o : Origin) (first forwardings : ℕ)
+      → ((e : End) → HasEnd N e → Q (record { end = e; octets = m.1; origin = o }))
+      → AllByRecursion (λ (g : Frame). Q (held g)) (map (λ e. record { end = e; octets = m.1; origin = o; first_hops = first; forwardings = forwardings }) (peers N.links (AtPort c m.0)))
+  frames-to m o first forwardings each =
+      all_made (HasEnd N) (λ (g : Frame). Q (held g)) _ each (peers N.links (AtPort c m.0)) (has_peers N (AtPort c m.0) n)
+
+  pub turn_frames-all : ((m : ℕ × List ℕ) → IsPassedOn f.octets m → (e : End) → HasEnd N e → Q (record { end = e; octets = m.1; origin = f.origin }))
+      → AllByRecursion
+      (λ (m : ℕ × List ℕ). (e : End) → HasEnd N e → Q (record { end = e; octets = m.1; origin = answer_origin f.origin (copy_of (N.clock c) (length s.sets.ports) (delivery port f)) }))
+      (turn (N.clock c) s port f.octets).replies
+      → AllByRecursion Q (map held (turn_frames N s c port f))
+  turn_frames-all passed replied =
+      let on : AllByRecursion (IsPassedOn f.octets) (turn (N.clock c) s port f.octets).forwards = grind (arith, IsPassedOn, turn-forwards, passed_on) in
+      all_made (λ (g : Frame). Q (held g)) Q held (λ g q. q) (turn_frames N s c port f)
+      (all_append (λ (g : Frame). Q (held g)) (forwarded_frames N c f (turn (N.clock c) s port f.octets).forwards) _
+      (all_flat (IsPassedOn f.octets) (λ (g : Frame). Q (held g)) _ (λ m p. frames-to m f.origin f.first_hops (f.forwardings + 1) (passed m p)) (turn (N.clock c) s port f.octets).forwards on)
+      (all_flat _ (λ (g : Frame). Q (held g)) _ (λ m each. frames-to m _ _ 0 each) (turn (N.clock c) s port f.octets).replies replied))
 
 -- ---- what clocks and sessions keep
 

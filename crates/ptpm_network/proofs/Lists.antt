@@ -1,12 +1,23 @@
 -- What holds of each element of a list, and functions of places that change at one.
-use Rattle.std.proofs.Common.{suc, zero, ◌≡◌, ℕ, ◌*◌, ◌<◌, ◌≤◌, ◌==◌, not, List, [], ◌∷◌, ◌++◌, Some, Bool, true, false, refl, sym, subst, length, length-append, arith, slice_get, map, filter}
+use Rattle.std.proofs.Common.{◌≡◌, Bool, true, false, ⊎_elim, suc, zero, ℕ, ◌*◌, ◌<◌, ◌≤◌, ◌==◌, not, List, [], ◌∷◌, ◌++◌, Some, refl, sym, subst, length, length-append, arith, slice_get, map, filter}
+use Rattle.std.specs.Prelude.{◌&&◌, flat_map}
+use Rattle.std.proofs.lemmas.Bool.{and_parts, cases_Bool, cond-true, cond-false, eqb-false, eqb-true, true≢false, ne_eqb}
 use Rattle.std.proofs.lemmas.List.Filters.{length-filter_both}
-use Rattle.std.proofs.lemmas.Bool.{cond-true, cond-false, eqb-false, eqb-true, true≢false, ne_eqb}
-use Rattle.std.specs.Prelude.{flat_map}
 use Rattle.std.specs.List.{AllByRecursion, list_any}
 use Rattle.ptpm_network.specs.Events.{frame_at}
 use Rattle.ptpm_network.specs.Machine.{with_place}
-use Rattle.ptpm_network.proofs.Tests.{by_test}
+
+-- ---- the two cases of a test, and what a chain of tests says
+
+pub by_test : {A : Type 0} (test : Bool) → (test ≡ true → A) → (test ≡ false → A) → A
+by_test test holds fails = ⊎_elim holds fails (cases_Bool test)
+
+-- what a chain of tests says of each, for a search
+pub and_first : (a b : Bool) → (a && b) ≡ true → a ≡ true
+and_first a b y = (and_parts a b y).0
+
+pub and_rest : (a b : Bool) → (a && b) ≡ true → b ≡ true
+and_rest a b y = (and_parts a b y).1
 
 pub all_weaker : {X : Type 0} (P Q : X → Type 0)
     → ((x : X) → P x → Q x) → (xs : List X) → AllByRecursion P xs

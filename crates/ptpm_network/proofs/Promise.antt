@@ -1,12 +1,11 @@
 -- The promise of a network, and the states of a running network in which it holds.
 use Rattle.ptpm_network.proofs.Common.{expected_ports, ◌==◌, ◌&&◌, and_from, and_parts, eq-eqb, eqb-true, refl, by_test, suc, zero, arith, ◌≡◌, ℕ, ◌<◌, ◌≤◌, List, [], ◌∷◌, ◌++◌, Some, None, true, false, sym, ◌∙◌, ap, subst, ⊎_elim, cases_eq, cond-true, cond-false, true≢false, if◌then◌else◌, AllByRecursion, PortIdentity, same_identity, same_identity-refl, same_identity-true, Event, IsInRange, Refusal, refusal, RunningNetwork, initial_network, Happened, Ok, Result, network_event, network_run, result_err, Headline, IsPromised, StandsAfter, AreInTime, happens, is_late_delivery, run, taken, IsNetwork, Network, manager, AreFirsts, Stands, NetworkState, accepted_at_target, initial_state, all_append}
 use Rattle.ptpm_network.proofs.Accepting.{IsInOrder, in_order}
-use Rattle.ptpm_network.proofs.DueReplies.{copy-delivered, latest-kept, older-none}
+use Rattle.ptpm_network.proofs.Exchanging.{copy-delivered, latest-kept, older-none}
 use Rattle.ptpm_network.proofs.Running.{follows, network_run-running}
-use Rattle.ptpm_network.proofs.Schedule.{reached}
-use Rattle.ptpm_network.proofs.Standing.{stands-initial_state}
+use Rattle.ptpm_network.proofs.Reaching.{reached}
+use Rattle.ptpm_network.proofs.Standing.{stands-initial_state, refused-leaves, strangers-leave}
 use Rattle.ptpm_network.proofs.Taking.{in_time-append, run-append, taken-in_range}
-use Rattle.ptpm_network.proofs.Unchanged.{refused-leaves, strangers-leave}
 
 -- ---- first sequenceIds
 

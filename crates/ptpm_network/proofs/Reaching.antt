@@ -1,15 +1,14 @@
 -- Every event keeps the invariant, and so it holds after every schedule.
 use Rattle.ptpm_network.proofs.Common.{expected_ports, arith, ◌≡◌, ℕ, ◌<◌, ◌^◌, nat_lt, not, List, [], ◌∷◌, Option, Some, None, true, refl, subst, length, and_parts, cond-true, cond-false, eqb-true, eqb-false, leb-true, ltb-true, not-false, not-true, same_Some, nat_le, AllByRecursion, first_of-none, option_or-none, Message, message_of, kept_reply, Ask, Report, ask_refusal, outcome_in, begin_refusal, BeginRefused, Begin, Replay, no_end, no_frame, to_end, End, Deliver, Event, Forged, IsInRange, NoSuchName, Resume, Retune, Send, Stranger, begin_refused, forged, frame_at, is_forged, no_port, no_room, no_session, refusal, IsAsked, IsFrame, IsOfOrigin, IsReached, delivered, happens, is_answer, report_from, reported, run, step, strange_frame, told_by, with_session, AtPort, AtSession, HasEnd, IsNetwork, Network, manager, Frame, NetworkState, Origin, RequestOf, ReplyTo, Neither, SessionState, accepted_at_target, initial_state, issued, session_value, frame_at-all, get_append, le_trans, octet, delivered_at_clock}
-use Rattle.ptpm_manager.specs.Ask as ask
 use Rattle.ptpm_network.proofs.Accepting.{IsToldOf, in_step-begun, in_step-reported}
 use Rattle.ptpm_network.proofs.Frames.{heard-frame, says_reply, IsHeard}
 use Rattle.ptpm_network.proofs.Messages.{reply_at}
-use Rattle.ptpm_network.proofs.Refusals.{asked-not_refused, begin-not_refused, idle-not_waiting, option_map-none}
+use Rattle.ptpm_network.proofs.Refusals.{asked-not_refused, begin-not_refused, idle-not_waiting, option_map-none, strange-message}
 use Rattle.ptpm_network.proofs.Steps.{more-frames, sends-reached, session-changes, session-set}
-use Rattle.ptpm_network.proofs.Strangers.{strange-message}
-use Rattle.ptpm_network.proofs.Unnumbered.{delivered_at_clock-reached}
+use Rattle.ptpm_network.proofs.Answering.{delivered_at_clock-reached}
 use Rattle.ptpm_network.specs.Machine.{delivered_at_session}
-use Rattle.ptpm_network.proofs.Tests.{and_first, and_rest}
+use Rattle.ptpm_network.proofs.Lists.{and_first, and_rest}
+use Rattle.ptpm_manager.specs.Ask as ask
 
 -- ---- a frame comes in at a session
 
@@ -160,3 +159,10 @@ first-reached N n = record {
   clocks = λ c place. (n.are_clocks c place).start;
   frames = tt;
 }
+
+-- ---- what the invariant says of a schedule
+
+pub reached : (N : Network) (es : List Event)
+    → IsNetwork N → AllByRecursion IsInRange es
+    → IsReached N (run N (initial_state N) es)
+reached N es n i = run-reached N (initial_state N) es n i (first-reached N n)

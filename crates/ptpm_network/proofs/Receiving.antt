@@ -1,14 +1,15 @@
 -- A session knows the answer to its request by octets as the machine knows it by origins.
-use Rattle.ptpm_network.proofs.Common.{by_test, arith, ◌≡◌, ℕ, ◌<◌, ◌≤◌, ◌+◌, ◌==◌, List, Option, Some, None, Result, Ok, Err, true, false, refl, sym, ◌∙◌, ap, subst, and_from, and_parts, cond-true, cond-false, eq-eqb, eqb-true, ltb-false, not-true, or_left, or_right, true≢false, false≢true, is_some, DecodeError, Message, action_of, id_of, message_of, reading, same_identity-refl, same_identity-true, same_clock-refl, same_clock-true, message_of-reading, reading-message_of, Report, answer_by, answer_to, is_content, reason_of, received_of, outcome_in, SessionValue, is_waiting, number_of, IsOfOrigin, IsReached, is_answer, report_from, told_by, IsNetwork, Network, SessionStart, manager, Frame, NetworkState, Origin, RequestOf, ReplyTo, Neither, SessionState, accepted_at_target, is_idle, is_late, issued, session_value}
+use Rattle.ptpm_network.proofs.Common.{by_test, arith, ◌≡◌, ℕ, ◌<◌, ◌≤◌, ◌+◌, ◌==◌, List, Option, Some, None, Result, Ok, Err, true, false, refl, sym, ◌∙◌, ap, subst, and_from, and_parts, cond-true, cond-false, eq-eqb, eqb-true, ltb-false, not-true, or_left, or_right, true≢false, false≢true, is_some, DecodeError, Message, action_of, id_of, message_of, reading, same_identity-refl, same_identity-true, same_clock-refl, same_clock-true, message_of-reading, reading-message_of, Report, answer_by, answer_to, is_content, reason_of, received_of, outcome_in, SessionValue, is_waiting, number_of, IsOfOrigin, IsReached, is_answer, report_from, told_by, IsNetwork, Network, SessionStart, manager, Frame, NetworkState, Origin, RequestOf, ReplyTo, Neither, SessionState, accepted_at_target, is_idle, is_late, issued, session_value, ◌-◌, [], ◌∷◌, ◌++◌, length, length-append, ne_eqb, map-append, PortIdentity, RequestValue, answered, begun, RunningNetwork, hears, sends_in, with_session_value, begun_in, reported, sends, with_session, Stands, unanswered, at_place, at_places, get_last, le_trans}
 use Rattle.ptpm_manager.specs.declared.receiving.Reason.{Reason}
-use Rattle.ptpm_manager.specs.declared.receiving.Received.TheVariants as received
 use Rattle.ptpm_manager.proofs.ReplyLaws.{IsAccepted, is_accepted, no_reason}
-use Rattle.ptpm_network.proofs.Frames.{SaysReply, heard-frame, same_read, says_reply}
+use Rattle.ptpm_network.proofs.Frames.{SaysReply, heard-frame, same_read, says_reply, IsTrueTo, heard-true}
 use Rattle.ptpm_network.proofs.Messages.{action_of-answer_body, answer_body-is_reply, reply_at}
-use Rattle.ptpm_network.proofs.Origins.{IsTrueTo, heard-true}
-use Rattle.ptpm_network.proofs.Reaching.{no_report, told-message}
-use Rattle.ptpm_network.proofs.Schedule.{reached}
-use Rattle.ptpm_network.proofs.Tests.{and_first, and_rest}
+use Rattle.ptpm_network.proofs.Reaching.{no_report, told-message, reports_of_frame, reached}
+use Rattle.ptpm_network.proofs.Lists.{and_first, and_rest}
+use Rattle.ptpm_manager.specs.declared.receiving.Received.{Received}
+use Rattle.ptpm_network.proofs.Held.{held-sent_frames}
+use Rattle.ptpm_network.proofs.Steps.{InStep}
+use Rattle.ptpm_manager.specs.declared.receiving.Received.TheVariants as received
 
 -- ---- the reply to the unanswered request passes them
 
@@ -131,3 +132,63 @@ received-as_reported N w s f r n reached place i late = (
       let takes = takes-by (session_value (N.session s) (w.session s)) f.octets r (reading f.octets) refl e in
       cond-true _ _ _ (takes-answer N w s f.octets f.origin r n reached place i late takes) ∙ takes-told (N.session s) (w.session s) f.octets r takes,
 )
+
+-- ---- a running network after what a session did, or what was reported to it
+
+-- ---- the value of a session
+
+-- one that reported each request begins its next
+pub begun-value : (start : SessionStart) (s : SessionState) (q : RequestValue)
+    → length s.reports ≤ length s.begun
+    → begun (session_value start s) q ≡ session_value start (begun_in start s q)
+begun-value start s q le =
+    let more : length (s.begun ++ q ∷ []) ≡ length s.begun + 1 = length-append s.begun (q ∷ []) in
+    let index : length (s.begun ++ q ∷ []) - 1 ≡ length s.begun = omega (arith, more) in
+    let waits : unanswered (begun_in start s q) ≡ Some q = grind (arith, cond-false, ne_eqb, get_last) in grind arith
+
+-- one that heard the answer to its last request waits for none
+pub answered-value : (start : SessionStart) (s : SessionState) (report : Report)
+    → (length s.reports ≡ length s.begun → ⊥) → length s.begun ≤ length s.reports + 1
+    → length s.reports ≤ length s.begun
+    → answered (session_value start s) ≡ session_value start (reported s (Some report))
+answered-value start s report busy one le = grind (arith, length-append, cond-true, eq-eqb)
+
+-- ---- the network
+
+-- a session that reports nothing has another value
+pub session-stands : (N : Network) (first : ℕ → PortIdentity → ℕ) (r : RunningNetwork)
+    (w : NetworkState) (s : ℕ) (v : SessionValue) (state : SessionState)
+    → Stands N first r w → s < N.sessions → v ≡ session_value (N.session s) state
+    → state.reports ≡ (w.session s).reports
+    → Stands N first (with_session_value r s v) (with_session w s state)
+session-stands N first r w s v state at place value reports = grind (arith, at_places, at_place)
+
+module _ (N : Network) (first : ℕ → PortIdentity → ℕ) (r : RunningNetwork) (w : NetworkState) (s : ℕ) (at : Stands N first r w) where
+  pub sends-stand : s < N.sessions → Stands N first (sends_in N r s) (sends N w s)
+  sends-stand place = grind (arith, session-stands, held-sent_frames, map-append)
+  -- ---- a frame comes in at a session
+
+answered-stands : (N : Network) (first : ℕ → PortIdentity → ℕ) (r : RunningNetwork) (w : NetworkState)
+    (s : ℕ) (report : Report)
+    → Stands N first r w → s < N.sessions → InStep N w s (w.session s)
+    → (length (w.session s).reports ≡ length (w.session s).begun → ⊥)
+    → Stands N first (hears r s (received.Answered report))
+    (with_session w s (reported (w.session s) (Some report)))
+answered-stands N first r w s report at place step busy =
+    let le = le_trans step.accepted_before step.begun_before in
+    let value = ap answered (at.sessions s place) ∙ answered-value (N.session s) (w.session s) report busy step.one_at_a_time le in grind (arith, at_places)
+
+-- what the session hears of the frame is what the machine reports of it
+pub hears-stands : (N : Network) (first : ℕ → PortIdentity → ℕ) (r : RunningNetwork) (w : NetworkState)
+    (s : ℕ) (f : Frame) (x : Received) (o : Option Report)
+    → IsNetwork N → IsReached N w → Stands N first r w → s < N.sessions
+    → IsOfOrigin N w f.octets f.origin → is_late w f.origin ≡ false
+    → received_of (session_value (N.session s) (w.session s)) f.octets ≡ x
+    → report_from s (w.session s) f ≡ o
+    → Stands N first (hears r s x) (with_session w s (reported (w.session s) o))
+hears-stands N first r w s f x (Some report) n reached at place i late h e =
+    subst (λ (y : Received). Stands N first (hears r s y) (with_session w s (reported (w.session s) (Some report))))
+    (sym ((received-as_reported N w s f report n reached place i late).0 e) ∙ h)
+    (answered-stands N first r w s report at place (reached.sessions s place) (reports_of_frame N w s f report n reached i e).busy)
+hears-stands N first r w s f (received.Answered report) None n reached at place i late h e = no_report report (sym e ∙ (received-as_reported N w s f report n reached place i late).1 h)
+hears-stands N first r w s f (received.Ignored reason) None n reached at place i late h e = grind (arith, at_place)

@@ -1,11 +1,16 @@
 -- One delivery on the way of a request: a clock passes it on, or the target replies, and the same of the reply.
-use Rattle.ptpm_network.proofs.Common.{LastIsForOne, arith, ◌≡◌, ℕ, ◌<◌, ◌≤◌, ◌+◌, ◌-◌, List, [], ◌∷◌, Some, true, false, refl, sym, ◌∙◌, ap, subst, ⊎_elim, ◌⊎◌, inl, inr, length, length-append, cond-false, le-ltb, ne_eqb, slice_get, list_any, boundary_hops, domain_number, may_forward, History, Deliver, frame_at, HasReplied, HasRoom, IsHeardBy, IsOfOrigin, IsReached, delivered_at_clock, step, AtPort, End, HasEnd, IsNetwork, Network, peers, same_end, Frame, NetworkState, Origin, RequestOf, ReplyTo, greatest_accepted, history, is_late, issued, new_frames, AreLinked, ComesIn, Hop, Leads, PassesOn, IsFrame, same_identity-refl, length-map}
+use Rattle.ptpm_network.proofs.Common.{LastIsForOne, arith, ◌≡◌, ℕ, ◌<◌, ◌≤◌, ◌+◌, ◌-◌, List, [], ◌∷◌, Some, true, false, refl, sym, ◌∙◌, ap, subst, ⊎_elim, ◌⊎◌, inl, inr, length, length-append, cond-false, le-ltb, ne_eqb, slice_get, list_any, boundary_hops, domain_number, may_forward, History, Deliver, frame_at, HasReplied, HasRoom, IsHeardBy, IsOfOrigin, IsReached, delivered_at_clock, step, AtPort, End, HasEnd, IsNetwork, Network, peers, same_end, Frame, NetworkState, Origin, RequestOf, ReplyTo, greatest_accepted, history, is_late, issued, new_frames, AreLinked, ComesIn, Hop, Leads, PassesOn, IsFrame, same_identity-refl, length-map, expected_ports, ◌++◌, None, eq-eqb, Message, canonical, RequestValue, send_refusal, request_message, Send, refusal, HasReported, happens, AtSession, is_idle, unanswered, with_place-same, Replay, Event, Stranger, run, all_weaker}
 use Rattle.ptpm_network.proofs.Accepting.{greatest-same}
 use Rattle.ptpm_network.proofs.Arriving.{JoinsAt, here_after, history-elsewhere}
-use Rattle.ptpm_network.proofs.Carrying.{IsIn, IsPassing, MakesAtMost, MayPass, in_any, in_map, in_right, passed-domain, passed-hops, passed_copy, passing-few, passing-history, passing-made, reply-passing, request-passing}
-use Rattle.ptpm_network.proofs.Exchanging.{delivery-step, delivery-taken, replied}
+use Rattle.ptpm_network.proofs.Carrying.{IsIn, IsPassing, MakesAtMost, MayPass, in_any, in_map, in_right, passed-domain, passed-hops, passed_copy, passing-few, passing-history, passing-made, reply-passing, request-passing, in_left}
+use Rattle.ptpm_network.proofs.Exchanging.{delivery-step, delivery-taken, replied, is_room, reports-answer, said-domain, said-hops, step-taken}
 use Rattle.ptpm_network.proofs.Frames.{heard-frame}
-use Rattle.ptpm_network.proofs.Reaching.{frame_at-is, step-reached}
+use Rattle.ptpm_network.proofs.Reaching.{frame_at-is, step-reached, after-step, after-delivery}
+use Rattle.ptpm_network.proofs.Messages.{request-fits, request-valid}
+use Rattle.ptpm_network.proofs.Steps.{unanswered-last}
+use Rattle.ptpm_network.proofs.Worth.{session-named}
+use Rattle.ptpm_network.specs.Way.{IsWayIn}
+use Rattle.ptpm_network.specs.Machine as machine
 
 -- ---- what stays
 
@@ -193,3 +198,129 @@ module _ (N : Network) (s : ℕ) (w : NetworkState) (most k domain hops : ℕ) (
       pass N s w most k h.clock h.far h.near e (ReplyTo s k) domain hops n few r room (in_time w s k is) hears
       (λ octets exists i. reply-passing N w s k h.clock octets n r exists p.other i)
       (record { two_ports = p.two_ports; domain_is = p.in_domain; ingress = p.far; egress = p.near; link = link }) hop comes
+
+-- ---- a session sends its unanswered request, and hears the answer
+
+-- ---- it sends
+
+-- the unanswered request, as it is sent
+pub record Sent (N : Network) (w : NetworkState) (s : ℕ) : Type 0 where
+  pub octets : List ℕ
+  pub frames : (machine.sends N w s).frames
+      ≡ w.frames ++ new_frames (peers N.links (AtSession s)) octets (RequestOf s (issued w s))
+  pub domain : domain_number octets ≡ (w.session s).domain
+  pub hops : boundary_hops octets ≡ (N.session s).setup.hops
+
+pub send-frames : (N : Network) (w : NetworkState) (s : ℕ) (q : RequestValue)
+    → IsNetwork N → IsReached N w → s < N.sessions → unanswered (w.session s) ≡ Some q
+    → Sent N w s
+send-frames N w s q n r place e =
+    let k = issued w s in
+    let asked = (r.sessions s place).asked (length (w.session s).begun - 1) q (unanswered-last (w.session s) q e) in
+    let v : Message = request_message (N.session s).setup (w.session s).domain k q in
+    let p = expected_ports N s in
+    let valid = request-valid N s k (w.session s).domain (N.session s).setup.hops p q asked in
+    let fits = request-fits N s k (w.session s).domain (N.session s).setup.hops p q n place asked in
+    record {
+      octets = canonical v;
+      frames = grind arith;
+      domain = said-domain v (w.session s).domain valid fits refl;
+      hops = said-hops v (N.session s).setup.hops valid fits refl;
+    }
+
+pub send-taken : (N : Network) (w : NetworkState) (s : ℕ) (q : RequestValue)
+    → s < N.sessions → HasRoom w → unanswered (w.session s) ≡ Some q
+    → ((w.session s).attempts_left ≡ 0 → ⊥)
+    → refusal N w (Send s) ≡ None
+unfolding refusal send_refusal
+send-taken N w s q place room e ne = grind (arith, session-named, is_room, ne_eqb)
+
+module _ (N : Network) (w : NetworkState) (s : ℕ) where
+  pub send-step : refusal N w (Send s) ≡ None → step N w (Send s) ≡ machine.sends N w s
+  unfolding happens
+  send-step none = step-taken N w (Send s) none
+
+  -- its session is as it was, except the attempts
+  pub sent-session : (machine.sends N w s).session s
+      ≡ record (w.session s) { attempts_left = (w.session s).attempts_left - 1 }
+  sent-session = with_place-same w.session s (record (w.session s) { attempts_left = (w.session s).attempts_left - 1 }) s (eq-eqb s s refl)
+
+-- its requests, reports and domain are as they were
+pub record IsSameSession (w u : NetworkState) (s : ℕ) : Type 0 where
+  pub counted : issued u s ≡ issued w s
+  pub reports : (u.session s).reports ≡ (w.session s).reports
+  pub domain : (u.session s).domain ≡ (w.session s).domain
+  pub idle : is_idle (u.session s) ≡ is_idle (w.session s)
+
+-- copies of it are on their way, and no more than this
+pub sent-comes : (N : Network) (w : NetworkState) (s : ℕ) (end : End)
+    → Sent N w s → list_any (same_end end) (peers N.links (AtSession s)) ≡ true
+    → Comes (machine.sends N w s) end (RequestOf s (issued w s)) (w.session s).domain
+    (N.session s).setup.hops
+sent-comes N w s end sent link =
+    let ends = peers N.links (AtSession s) in
+    let make : End → Frame = λ e. record { end = e; octets = sent.octets; origin = RequestOf s (issued w s); first_hops = boundary_hops sent.octets; forwardings = 0 } in
+    record {
+      frame = make end;
+      held = subst (λ fs. IsIn fs (make end)) (sym sent.frames) (in_right w.frames (new_frames ends sent.octets (RequestOf s (issued w s))) (make end) (in_map make ends end (in_any end ends link)));
+      at_end = refl;
+      origin_is = refl;
+      domain_is = sent.domain;
+      hops_are = sent.hops;
+    }
+
+pub sent-few : (N : Network) (w : NetworkState) (s most : ℕ)
+    → Sent N w s → MakesAtMost N most
+    → length (machine.sends N w s).frames ≤ length w.frames + most
+sent-few N w s most sent few = grind (arith, length-map, length-append)
+
+-- the last delivery, at the session
+pub record Told (N : Network) (s : ℕ) (z : NetworkState) : Type 0 where
+  pub number : ℕ
+  pub comes_in : ComesIn N z number (AtSession s)
+  pub reported : HasReported z (step N z (Deliver number)) s
+
+pub tell : (N : Network) (s : ℕ) (z : NetworkState) (k domain hops : ℕ)
+    → IsNetwork N → s < N.sessions → IsReached N z → HasRoom z → issued z s ≡ k
+    → is_idle (z.session s) ≡ false → (z.session s).domain ≡ domain
+    → Comes z (AtSession s) (ReplyTo s k) domain hops
+    → Told N s z
+tell N s z k domain hops n place r room is busy here comes =
+    let f = comes.frame in
+    let number = numbered z.frames f comes.held in
+    let i = frame_at-is N z number.0 f r number.1 in
+    record {
+      number = number.0;
+      comes_in = one-delivery N z number.0 f (AtSession s) number.1 comes.at_end room (ap (is_late z) comes.origin_is ∙ in_time z s k is);
+      reported = subst (λ (x : NetworkState). HasReported z x s) (sym (delivery-step N z number.0 f (AtSession s) number.1 comes.at_end room))
+          (reports-answer N z s f n r place i (comes.origin_is ∙ ap (ReplyTo s) (sym is)) busy (comes.domain_is ∙ sym here));
+    }
+
+-- ---- what events leave as it was: frames stay, and a way stays one if its clocks and its session do
+
+-- ---- frames stay
+
+module _ (N : Network) (w : NetworkState) (x : Frame) where
+  happens-frames : (e : Event) → IsIn w.frames x → IsIn (happens N w e).frames x
+  unfolding happens
+  happens-frames (Send s) p = in_left w.frames _ x p
+  happens-frames (Deliver n) p =
+      after-delivery (λ (u : NetworkState). IsIn u.frames x) N w n p (λ f at c port end. in_left w.frames _ x p) (λ f at s end. p)
+  happens-frames (Replay n end) p = in_left w.frames _ x p
+  happens-frames (Stranger c port datagram) p = in_left w.frames _ x p
+  happens-frames _ p = p
+
+pub run-frames : (N : Network) (w : NetworkState) (es : List Event) (x : Frame)
+    → IsIn w.frames x
+    → IsIn (run N w es).frames x
+run-frames N w [] x p = p
+run-frames N w (e ∷ es) x p = run-frames N (step N w e) es x (after-step (λ (u : NetworkState). IsIn u.frames x) N w e p (λ none. happens-frames N w x e p))
+
+-- ---- a way stays one
+
+-- if all clocks but the target are as they were, and the target hears the last request, and has the port that it is for
+pub way-stays : (N : Network) (w u : NetworkState) (s domain port : ℕ) (hops : List Hop)
+    → ((d : ℕ) → (d ≡ (N.session s).target → ⊥) → history N u d ≡ history N w d)
+    → LastIsForOne N s (u.session s).begun → Hears N u s (issued u s) domain → IsWayIn N w s domain hops port
+    → IsWayIn N u s domain hops port
+way-stays N w u s domain port hops same for_one hears way = grind (arith, all_weaker)

@@ -1,12 +1,12 @@
 -- A session whose own messages come in time is served, after every list of events, whatever comes late of others.
-use Rattle.ptpm_network.proofs.Common.{expected_ports, ◌++◌, arith, by_test, ◌≡◌, ℕ, ◌+◌, ◌<◌, ◌≤◌, ◌==◌, ◌^◌, ◌&&◌, Bool, List, [], ◌∷◌, reading, length, Option, Some, None, Result, Ok, Err, true, false, refl, sym, ap, subst, and_cases, and_from, eq-eqb, eqb-true, ltb-false, true≢false, all_append, frame_at-all, AllByRecursion, Message, canonical, is_copy, received_of, IsAsked, strange_frame, with_place, AtPort, AtSession, End, HasEnd, IsNetwork, Network, manager, ports, Held, seen, Origin, SessionValue, Happened, network_event, network_run, goes_on, reaches, hears, RunningNetwork, begun, resumed, retuned, sent, due_message, Ask, begin_refusal, Refusal, Event, Begin, IsInRange, frame_at, is_late_at, sends_in, PortIdentity, DataSetsValue, Entry, initial_history, StandsAfter, session_value, Clock, greatest, Frame, State, RequestOf, Verdict, DecodeError, Accepted, after_turn, judged, if◌then◌else◌}
+use Rattle.ptpm_network.proofs.Common.{◌≡◌, ℕ, ◌<◌, ◌^◌, refl, List, [], Option, Some, None, option_map, Message, Fits, IsForeign, message_of, Ask, begin_refusal, begun, resumed, retuned, send_refusal, with_session_value, sends_in, reaches, delivers, after_turn, strange_frame, network_event, nothing_to_resume, AtPort, HasEnd, Network, Held, RunningNetwork, Event, Begin, Replay, replays, no_end, End, ◌++◌, ◌∷◌, Send, Resume, Retune, Deliver, Stranger, BeginRefused, SendRefused, Forged, IsInRange, is_forged, forged, frame_at, first_of-none, no_port, no_room, no_session, expected_ports, arith, by_test, ◌+◌, ◌≤◌, ◌==◌, ◌&&◌, Bool, reading, length, Result, Ok, Err, true, false, sym, ap, subst, and_cases, and_from, eq-eqb, eqb-true, ltb-false, true≢false, all_append, frame_at-all, AllByRecursion, canonical, is_copy, received_of, IsAsked, with_place, AtSession, IsNetwork, manager, ports, seen, Origin, SessionValue, Happened, network_run, goes_on, hears, sent, due_message, Refusal, is_late_at, PortIdentity, DataSetsValue, Entry, initial_history, StandsAfter, session_value, Clock, greatest, Frame, State, RequestOf, Verdict, DecodeError, Accepted, judged, if◌then◌else◌}
+use Rattle.ptpm_network.proofs.Honest.{Then, then_ok, then_unless, replayed-honest, IsHonest, IsSentBy, IsTrueFrame, begins-honest, first-honest, frame-true, moved-honest, nothing_kept, reaches-honest, sends-honest, sent-all, sent_by, session-honest, turns-honest}
+use Rattle.ptpm_network.proofs.Reaching.{end-exists, port-exists, session-exists, first-reached}
+use Rattle.ptpm_network.proofs.Refusals.{option_map-none, strange-message, begin-not_refused}
 use Rattle.ptpm_agent.specs.CarriedOut.{carried_by, carried_in, carried_of}
-use Rattle.ptpm_agent.specs.declared.verdict.Verdict.TheVariants as verdicts
 use Rattle.ptpm_agent.specs.Laws.{IsKept}
-use Rattle.ptpm_manager.specs.Ask as ask
 use Rattle.ptpm_manager.specs.Receiving.{left_by}
 use Rattle.ptpm_manager.specs.declared.receiving.Received.{Received}
-use Rattle.ptpm_manager.specs.declared.receiving.Received.TheVariants as received
 use Rattle.ptpm_network.specs.ByManager.{Account, StaysInTime, account_from, account_of, account_while, account_with, in_time_while, is_behind, is_for, is_late_for, is_late_frame_for, with_begun, with_carried}
 use Rattle.ptpm_network.specs.CarriedOut.{carried_at, carried_by_event, carried_of_frame}
 use Rattle.ptpm_network.specs.Served.{After, AtStart, HasAccount, IsServed, IsServedSoFar, IsTimelyCopy}
@@ -14,17 +14,68 @@ use Rattle.ptpm_network.specs.State.{initial_session_state}
 use Rattle.ptpm_network.specs.GivingUp.{carried_as}
 use Rattle.ptpm_network.proofs.Accepting.{in_order, in_step-window}
 use Rattle.ptpm_network.proofs.Arriving.{step-gained}
-use Rattle.ptpm_network.proofs.EachEvent.{HoldsAfterEach, holds_after}
-use Rattle.ptpm_network.proofs.Honest.{replayed-honest, IsHonest, IsSentBy, IsTrueFrame, Then, begins-honest, first-honest, frame-true, moved-honest, nothing_kept, reaches-honest, sends-honest, sent-all, sent_by, session-honest, turns-honest}
 use Rattle.ptpm_network.specs.Invariant.{IsRequestFrame}
-use Rattle.ptpm_network.proofs.Origins.{IsTrue}
-use Rattle.ptpm_network.proofs.Own.{IsLastOf, TurnsOwn, turns_own}
-use Rattle.ptpm_network.proofs.Owned.{IsOwn, IsOwnFrame, IsSaid, own-begun, own-hears, own-held, own-message, own-resumed, own-retuned, own-sent, reports_with, state_of}
+use Rattle.ptpm_network.proofs.Frames.{IsTrue}
+use Rattle.ptpm_network.proofs.Owned.{IsLastOf, TurnsOwn, turns_own, IsOwn, IsOwnFrame, IsSaid, own-begun, own-hears, own-held, own-message, own-resumed, own-retuned, own-sent, reports_with, state_of}
 use Rattle.ptpm_network.proofs.Promise.{first_of_sessions, firsts}
-use Rattle.ptpm_network.proofs.Reaching.{first-reached}
-use Rattle.ptpm_network.proofs.Refusals.{begin-not_refused}
 use Rattle.ptpm_network.proofs.Serving.{IsGiven, comes_own, held-turned, with_accepted}
 use Rattle.ptpm_network.proofs.Lists.{flipped}
+use Rattle.ptpm_manager.specs.Ask as ask
+use Rattle.ptpm_agent.specs.declared.verdict.Verdict.TheVariants as verdicts
+use Rattle.ptpm_manager.specs.declared.receiving.Received.TheVariants as received
+
+-- ---- what holds after any event that is not refused, if it holds after each that may happen
+
+-- what it takes: Q of each event and the network to which it leads
+pub record HoldsAfterEach (N : Network) (r : RunningNetwork) (Q : Event → RunningNetwork → Type 0) : Type 0 where
+  pub begins : (t : ℕ) (a : Ask) → t < N.sessions → a.id < 2 ^ 16 → begin_refusal (r.session t) a ≡ None
+      → Q (Begin t a) (with_session_value r t (begun (r.session t) (ask.request_of a)))
+  pub sends : (t : ℕ) → t < N.sessions → Q (Send t) (sends_in N r t)
+  pub resumes : (t attempts : ℕ) → t < N.sessions
+      → Q (Resume t attempts) (with_session_value r t (resumed (r.session t) attempts))
+  pub retunes : (t domain : ℕ) → t < N.sessions
+      → Q (Retune t domain) (with_session_value r t (retuned (r.session t) domain))
+  pub delivers : (k : ℕ) (x : Held) → frame_at r.frames k ≡ Some x → Q (Deliver k) (reaches N r x x.end).network
+  pub replays : (k : ℕ) (end : End) (x : Held) → frame_at r.frames k ≡ Some x → HasEnd N end
+      → Q (Replay k end) (record r { frames = r.frames ++ record x { end = end } ∷ [] })
+  pub intrudes : (c port : ℕ) (datagram : List ℕ) → HasEnd N (AtPort c port)
+      → ((v : Message) → message_of datagram ≡ Some v → Fits v × IsForeign N v)
+      → Q (Stranger c port datagram) (after_turn N r c port (strange_frame c port datagram))
+
+module _ (N : Network) (r : RunningNetwork) (Q : Event → RunningNetwork → Type 0) (each : HoldsAfterEach N r Q) where
+  after-delivery : (k : ℕ) (o : Option Held) → frame_at r.frames k ≡ o → Then (delivers N r o) (λ g. Q (Deliver k) g.network)
+  after-delivery k None e = λ g is. absurd (cc)
+  after-delivery k (Some x) e =
+      then_unless (λ g. Q (Deliver k) g.network) (no_room r.frames) _
+      (λ room. then_ok (λ g. Q (Deliver k) g.network) (reaches N r x x.end) (each.delivers k x e))
+
+  after-replay : (k : ℕ) (end : End) (o : Option Held) → frame_at r.frames k ≡ o
+      → Then (replays N r o end) (λ g. Q (Replay k end) g.network)
+  after-replay k end None e = λ g is. absurd (cc)
+  after-replay k end (Some x) e =
+      then_unless (λ g. Q (Replay k end) g.network) (no_end N end) _
+      (λ there. then_unless (λ g. Q (Replay k end) g.network) (no_room r.frames) _
+      (λ room. then_ok (λ g. Q (Replay k end) g.network) _ (each.replays k end x e (end-exists N end there))))
+
+  pub holds_after : (e : Event) → IsInRange e → Then (network_event N r e) (λ g. Q e g.network)
+  unfolding network_event
+  holds_after (Begin t a) id =
+      then_unless _ (no_session N t) _ (λ there. then_unless _ (option_map BeginRefused (begin_refusal (r.session t) a)) _
+      (λ fine. then_ok _ _ (each.begins t a (session-exists N t there) id (option_map-none BeginRefused (begin_refusal (r.session t) a) fine))))
+  holds_after (Send t) i =
+      then_unless _ (no_session N t) _ (λ there. then_unless _ (no_room r.frames) _ (λ room. then_unless _ (option_map SendRefused (send_refusal (r.session t))) _
+      (λ fine. then_ok _ _ (each.sends t (session-exists N t there)))))
+  holds_after (Resume t attempts) i =
+      then_unless _ (no_session N t) _ (λ there. then_unless _ (nothing_to_resume (r.session t)) _
+      (λ fine. then_ok _ _ (each.resumes t attempts (session-exists N t there))))
+  holds_after (Retune t domain) i =
+      then_unless _ (no_session N t) _ (λ there. then_ok _ _ (each.retunes t domain (session-exists N t there)))
+  holds_after (Deliver k) i = after-delivery k (frame_at r.frames k) refl
+  holds_after (Replay k end) i = after-replay k end (frame_at r.frames k) refl
+  holds_after (Stranger c port datagram) octets =
+      then_unless _ (no_port N c port) _ (λ there. then_unless _ (forged N datagram) _ (λ fine. then_unless _ (no_room r.frames) _
+      (λ room. then_ok _ _ (each.intrudes c port datagram (port-exists N c port there)
+      (λ v e. strange-message N datagram v octets (first_of-none (is_forged N datagram) Forged [] fine).0 e)))))
 
 -- ---- what is in time
 

@@ -14,13 +14,10 @@ use Rattle.ptpm_network.specs.GivingUp.{carried_as}
 use Rattle.ptpm_network.proofs.Accepting.{Keeps}
 use Rattle.ptpm_network.proofs.Answering.{kept-frame, small}
 use Rattle.ptpm_network.proofs.Arriving.{StaysOrGains, keeps-gained, kept-gained}
-use Rattle.ptpm_network.proofs.Frames.{kept_says, request_says, same_read}
-use Rattle.ptpm_network.proofs.Honest.{IsHonest}
-use Rattle.ptpm_network.proofs.Own.{ComesOwn, IsLastOf, Replied, accepted_after, does, turns_own}
-use Rattle.ptpm_network.proofs.Owned.{IsHeld, IsOwnFrame, IsSaid, said-passed, said-stays}
-use Rattle.ptpm_network.proofs.Requests.{answered as reply-answers, for_one-there, once}
-use Rattle.ptpm_network.proofs.Origins.{IsTrue, is_copy_by}
-use Rattle.ptpm_network.proofs.Truth.{turn_frames-all}
+use Rattle.ptpm_network.proofs.Frames.{kept_says, request_says, same_read, IsTrue, is_copy_by}
+use Rattle.ptpm_network.proofs.Honest.{IsHonest, turn_frames-all}
+use Rattle.ptpm_network.proofs.Owned.{ComesOwn, IsLastOf, Replied, accepted_after, does, turns_own, IsHeld, IsOwnFrame, IsSaid, said-passed, said-stays}
+use Rattle.ptpm_network.proofs.Messages.{answered as reply-answers, for_one-there, once}
 use Rattle.ptpm_network.proofs.Lists.{all_of}
 
 -- ---- a turn that is no turn on the session's own copy

@@ -4,7 +4,7 @@ use Rattle.std.proofs.Math.Nat.{ne_of_lt}
 use Rattle.ptpm_data.proofs.OwnOctets.{some_at}
 use Rattle.ptpm_manager.specs.declared.error.BeginError.TheVariants as begins
 use Rattle.ptpm_network.proofs.Accepting.{report_of}
-use Rattle.ptpm_network.proofs.Schedule.{reached}
+use Rattle.ptpm_network.proofs.Reaching.{reached}
 
 -- ---- no request is carried out twice
 

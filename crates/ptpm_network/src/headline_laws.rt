@@ -59,7 +59,7 @@ pub fn stands_after()
 /// - that is the latest which its clock accepted of the manager, the reply is due that is kept for this request;
 /// - that is older, none is;
 /// - its delivery makes frames of what is due, and of nothing else.
-#[tactic(auto, using(crate::proofs::DueReplies::one_reply_kept_laws))]
+#[tactic(auto, using(crate::proofs::Exchanging::one_reply_kept_laws))]
 pub fn one_reply_kept()
     ensures latest { (N : Network) (es : List Event) (n c port : ℕ) (f : Frame)
         (copy : RequestCopy) →
@@ -79,7 +79,7 @@ pub fn one_reply_kept()
 {}
 
 /// Strangers change no data set: a stranger's event leaves the history of every clock, its data sets and what it accepted.
-#[tactic(auto, using(crate::proofs::Unchanged::strangers_change_nothing_laws))]
+#[tactic(auto, using(crate::proofs::Standing::strangers_change_nothing_laws))]
 pub fn strangers_change_nothing()
     ensures { (N : Network) (es : List Event) (c port : ℕ) (datagram : List ℕ) (clock : ℕ) →
         IsNetwork N → AllByRecursion IsInRange es → IsInRange (Stranger c port datagram) →

@@ -24,7 +24,7 @@ ghost use Rattle.ptpm_network.specs.Stands.{AreFirsts, Stands};
 ghost use Rattle.ptpm_network.specs.State.{Frame, NetworkState, accepted_at_target, copies_at, greatest_accepted, history, initial_state, is_late, issued, outcomes_kept, session_value};
 
 /// The invariant holds after every list of events, late deliveries among them.
-#[tactic(auto, using(crate::proofs::Schedule::reached))]
+#[tactic(auto, using(crate::proofs::Reaching::reached))]
 pub fn every_schedule()
     ensures { (N : Network) (es : List Event) →
         IsNetwork N → AllByRecursion IsInRange es →

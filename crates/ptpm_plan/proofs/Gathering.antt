@@ -1,12 +1,21 @@
--- One value more of those that are gathered from the tables of a file.
-use Rattle.std.proofs.Common.{◌≡◌, ℕ, ◌+◌, ◌<◌, ◌≤◌, Bool, true, false, cond, List, [], ◌∷◌, ◌++◌, length, get_or, drop, map, Option, Some, None, option_map, refl, sym, ap, ◌∙◌, append_assoc, append-nil}
+-- One more of those that are gathered from the tables of a file, and the rows of one wish, of one table and of one port more.
+use Rattle.std.proofs.Common.{◌≡◌, ℕ, zero, suc, arith, ◌+◌, ◌<◌, ◌≤◌, Bool, true, false, cond, List, [], ◌∷◌, ◌++◌, length, get_or, drop, map, Option, Some, None, option_map, refl, sym, ap, ◌∙◌, append_assoc, append-nil, take, flat_map, fold}
 use Rattle.std.specs.Prelude.{option_and_then}
-use Rattle.std.specs.List.{filter_map, find}
-use Rattle.std.proofs.lemmas.List.{drop_more, drop_all}
+use Rattle.std.specs.List.{filter_map, find, range_with_len}
+use Rattle.std.proofs.lemmas.List.{drop_more, drop_all, take_more}
 use Rattle.toml.specs.Data.{Data}
 use Rattle.toml.specs.View.{items_of}
 use Rattle.ptpm_plan.specs.FileText.{ClockValue, Gathers, all_of, clock_value, first_of, has_alias, list_of}
 use Rattle.ptpm_plan.specs.declared.wish.ClockWishes.{ClockWishes}
+use Rattle.std.proofs.lemmas.List.Sums.{fold_push, fold-append}
+use Rattle.ptpm_plan.specs.Asking.{row_for, rows_of_wishes}
+use Rattle.ptpm_plan.specs.Rows.{with_row}
+use Rattle.ptpm_plan.specs.declared.answer.Answer.{Answer}
+use Rattle.ptpm_plan.specs.declared.asking.Of.{Of}
+use Rattle.ptpm_plan.specs.declared.rows.Row.{Row}
+use Rattle.ptpm_plan.specs.declared.wish.Wish.{Wish}
+
+-- ---- one value more of those that are gathered from the tables of a file
 
 pub list_items : (ds : List Data) → list_of (items_of ds) ≡ ds
 list_items [] = refl
@@ -74,3 +83,47 @@ gather_found g made more xs i d below step =
 pub all_found : {A B : Type 0} (g : A → Option (Option B)) (made : List B) (xs : List A) (i : ℕ) → length xs ≤ i
     → before_all made (filter_map g (drop i xs)) ≡ Some made
 all_found g made xs i past = ap (λ ys. before_all made (filter_map g ys)) (drop_all i xs past) ∙ ap Some (append-nil made)
+
+-- ---- the rows of one wish more, of one table more, and of one port more
+
+pub wishes_more : (answers : List Answer) (of : Of) (port : ℕ) (rows : List Row) (ws : List Wish) (i : ℕ) (w : Wish)
+    → i < length ws → w ≡ get_or ws i w
+    → fold with_row rows (rows_of_wishes answers of port (take (i + 1) ws))
+    ≡ with_row (fold with_row rows (rows_of_wishes answers of port (take i ws))) (row_for answers of port w)
+wishes_more answers of port rows ws i w below is =
+    let more : take (i + 1) ws ≡ take i ws ++ w ∷ [] = take_more ws i w below ∙ ap (λ x. take i ws ++ x ∷ []) (sym is) in
+    ap (λ xs. fold with_row rows (map (row_for answers of port) xs)) more
+    ∙ ap (fold with_row rows) (map_push (row_for answers of port) (take i ws) w)
+    ∙ fold_push with_row rows (map (row_for answers of port) (take i ws)) (row_for answers of port w)
+
+flat_map_push : {A B : Type 0} (f : A → List B) (xs : List A) (x : A) → flat_map f (xs ++ x ∷ []) ≡ flat_map f xs ++ f x
+flat_map_push f [] x = append-nil (f x)
+flat_map_push f (y ∷ ys) x = ap (λ zs. f y ++ zs) (flat_map_push f ys x) ∙ sym (append_assoc (f y) (flat_map f ys) (f x))
+
+pub flat_more : {A : Type 0} (f : A → List Row) (rows : List Row) (xs : List A) (i : ℕ) (x : A)
+    → i < length xs → x ≡ get_or xs i x
+    → fold with_row rows (flat_map f (take (i + 1) xs)) ≡ fold with_row (fold with_row rows (flat_map f (take i xs))) (f x)
+flat_more f rows xs i x below is =
+    let more : take (i + 1) xs ≡ take i xs ++ x ∷ [] = take_more xs i x below ∙ ap (λ y. take i xs ++ y ∷ []) (sym is) in
+    ap (λ ys. fold with_row rows (flat_map f ys)) more
+    ∙ ap (fold with_row rows) (flat_map_push f (take i xs) x)
+    ∙ fold-append with_row rows (flat_map f (take i xs)) (f x)
+
+range_more : (a n : ℕ) → range_with_len a (suc n) ≡ range_with_len a n ++ (a + n) ∷ []
+range_more a zero = let here : a ≡ a + 0 = omega arith in ap (λ k. k ∷ []) here
+range_more a (suc n) =
+    let there : (a + 1) + n ≡ a + suc n = omega arith in
+    ap (λ (xs : List ℕ). a ∷ xs) (range_more (a + 1) n ∙ ap (λ k. range_with_len (a + 1) n ++ k ∷ []) there)
+
+-- the rows of one port more
+pub ports_more : (f : ℕ → List Row) (rows : List Row) (place : ℕ)
+    → fold with_row rows (flat_map f (range_with_len 1 (place + 1)))
+    ≡ fold with_row (fold with_row rows (flat_map f (range_with_len 1 place))) (f (place + 1))
+ports_more f rows place =
+    let on : place + 1 ≡ suc place = omega arith in
+    let next : 1 + place ≡ place + 1 = omega arith in
+    let more : range_with_len 1 (place + 1) ≡ range_with_len 1 place ++ (place + 1) ∷ []
+    = ap (range_with_len 1) on ∙ (range_more 1 place ∙ ap (λ k. range_with_len 1 place ++ k ∷ []) next) in
+    ap (λ ys. fold with_row rows (flat_map f ys)) more
+    ∙ ap (fold with_row rows) (flat_map_push f (range_with_len 1 place) (place + 1))
+    ∙ fold-append with_row rows (flat_map f (range_with_len 1 place)) (f (place + 1))

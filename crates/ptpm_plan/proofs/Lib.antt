@@ -1,14 +1,7 @@
-pub mod AskingLemmas
-pub mod Courses
-pub mod Doublings
 pub mod Gathering
-pub mod Groups
-pub mod Least
+pub mod Ranks
 pub mod Once
-pub mod OneBest
 pub mod PlannedIds
 pub mod Printing
-pub mod Ranks
 pub mod Reading
-pub mod Steps
 pub mod Surveys

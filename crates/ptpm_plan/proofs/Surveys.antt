@@ -10,7 +10,7 @@ use Rattle.std.proofs.lemmas.List.Sums.{sum_by-append}
 use Rattle.std.specs.List.Sorted.{IsPermutation}
 use Rattle.ptpm_codec.specs.Identity.{same_clock}
 use Rattle.ptpm_codec.specs.declared.identity.ClockIdentity.{ClockIdentity}
-use Rattle.ptpm_codec.proofs.IdentityLaws.{same_clock-true}
+use Rattle.ptpm_codec.proofs.MessageLaws.{same_clock-true}
 use Rattle.ptpm_plan.specs.Answers.{is_answer_of}
 use Rattle.ptpm_plan.specs.Surveyed.{clock_in, is_clock, is_port, port_in}
 use Rattle.ptpm_plan.specs.Surveying.{IsClockOf, IsPortOf, IsSurvey, clock_from, is_port_answer, once_if, port_from, port_of, port_with, with_clock, field_by}

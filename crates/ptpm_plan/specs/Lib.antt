@@ -12,9 +12,8 @@ pub mod Rows
 pub mod Naming
 pub mod FileText
 pub mod Asking
-pub mod Plans
+pub mod Planned
 pub mod Digest
 pub mod Outcome
-pub mod Planned
 pub mod Printed
 pub mod Warnings

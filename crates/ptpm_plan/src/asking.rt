@@ -41,7 +41,7 @@ pub(crate) struct Known<'a> {
 
 impl Known<'_> {
     /// Adds the rows of what is wished of a clock, or of one of its ports.
-    #[tactic(auto, using(crate::proofs::AskingLemmas::wishes_more))]
+    #[tactic(auto, using(crate::proofs::Gathering::wishes_more))]
     pub fn ask_wishes(&self, of: Of, port: u16, wishes: &[Wish], rows: &mut Vec<Row>) -> Added
         ensures { Adds result rows.old.items rows.new.items (rows_of_wishes self.now.answers.now.list.items of port wishes.now) }
     {
@@ -67,7 +67,7 @@ impl Known<'_> {
     }
 
     /// Adds the rows of what is wished of a clock.
-    #[tactic(auto, using(crate::proofs::AskingLemmas::flat_more))]
+    #[tactic(auto, using(crate::proofs::Gathering::flat_more))]
     fn ask_clock(&self, of: Of, clock: &ClockWishes, rows: &mut Vec<Row>) -> Added
         ensures { Adds result rows.old.items rows.new.items (rows_of_clock self.now.answers.now.list.items of clock.now) }
     {
@@ -80,7 +80,7 @@ impl Known<'_> {
     }
 
     /// Adds the rows of those tables of a file that name a clock.
-    #[tactic(auto, using(crate::proofs::AskingLemmas::flat_more))]
+    #[tactic(auto, using(crate::proofs::Gathering::flat_more))]
     pub fn ask_clocks(&self, tables: &[ClockWishes], rows: &mut Vec<Row>) -> Added
         ensures { Adds result rows.old.items rows.new.items
             (rows_of_clocks self.now.answers.now.list.items self.now.surveyed.now.clocks.items tables.now) }

@@ -51,7 +51,7 @@ impl FoundClocks {
 
 impl Known<'_> {
     /// Adds the rows of what is asked of every clock, table by table.
-    #[tactic(auto, using(crate::proofs::AskingLemmas::flat_more))]
+    #[tactic(auto, using(crate::proofs::Gathering::flat_more))]
     pub fn ask_all(&self, tables: &[EveryWishes], rows: &mut Vec<Row>) -> Added
         ensures { Adds result rows.old.items rows.new.items
             (rows_of_all self.now.answers.now.list.items self.now.surveyed.now.clocks.items tables.now) }
@@ -63,7 +63,7 @@ impl Known<'_> {
     }
 
     /// Adds the rows of what a table asks of every clock of the domain that it does not leave out.
-    #[tactic(auto, using(crate::proofs::AskingLemmas::flat_more))]
+    #[tactic(auto, using(crate::proofs::Gathering::flat_more))]
     fn ask_every(&self, table: &EveryWishes, rows: &mut Vec<Row>) -> Added
         ensures { Adds result rows.old.items rows.new.items
             (rows_of_every self.now.answers.now.list.items self.now.surveyed.now.clocks.items table.now) }
@@ -78,7 +78,7 @@ impl Known<'_> {
     }
 
     /// Adds the rows of a clock and of each of its ports, also of those that did not answer.
-    #[tactic(auto, using(crate::proofs::AskingLemmas::ports_more))]
+    #[tactic(auto, using(crate::proofs::Gathering::ports_more))]
     fn ask_one(&self, table: &EveryWishes, clock: &SurveyedClock, rows: &mut Vec<Row>) -> Added
         ensures { Adds result rows.old.items rows.new.items
             (rows_of_every_clock self.now.answers.now.list.items table.now clock.now) }

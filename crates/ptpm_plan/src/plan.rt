@@ -8,7 +8,7 @@ ghost use Rattle.ptpm_plan.specs.Asking.{rows_of_file, unnamed_of};
 ghost use Rattle.ptpm_plan.specs.BestClock.{best_clocks, ranks_of, shown};
 ghost use Rattle.ptpm_plan.specs.Order.{order_key};
 ghost use Rattle.ptpm_plan.specs.Outcome.{found_by};
-ghost use Rattle.ptpm_plan.specs.Plans.{change_of};
+ghost use Rattle.ptpm_plan.specs.Planned.{change_of};
 ghost use Rattle.ptpm_plan.specs.Rows.{with_row};
 ghost use Rattle.ptpm_plan.specs.Warnings.{AreWarnings};
 
@@ -158,7 +158,7 @@ fn add_change(row: &Row, changes: &mut Vec<Change>) -> Result<(), AllocError>
 }
 
 /// The change that a row is.
-#[tactic(auto, unfolding(crate::specs::Plans::change_of))]
+#[tactic(auto, unfolding(crate::specs::Planned::change_of))]
 fn change_of(row: &Row) -> Option<Change>
     ensures { result ≡ change_of row.now }
 {

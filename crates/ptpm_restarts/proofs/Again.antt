@@ -5,12 +5,11 @@ use Rattle.std.proofs.lemmas.List.Elements.{Contains-append_cases, Contains-push
 use Rattle.ptpm_network.specs.RunningNetwork.{Done}
 use Rattle.ptpm_network.proofs.Answerable.{answerable-alone, answerable-at}
 use Rattle.ptpm_network.proofs.Held.{frame_at-map}
-use Rattle.ptpm_network.proofs.Leaving.{way-stays}
+use Rattle.ptpm_network.proofs.RoundTrip.{way-stays}
 use Rattle.ptpm_network.proofs.Promise.{first_of_sessions, firsts}
-use Rattle.ptpm_network.proofs.Reaching.{frame_at-is, step-reached}
+use Rattle.ptpm_network.proofs.Reaching.{frame_at-is, step-reached, reached}
 use Rattle.ptpm_network.proofs.Receiving.{not_idle}
 use Rattle.ptpm_network.proofs.Running.{follows}
-use Rattle.ptpm_network.proofs.Schedule.{reached}
 use Rattle.ptpm_network.proofs.Steps.{frames-stay}
 use Rattle.ptpm_restarts.specs.AsIfNever.{AreTimely, IsAsIfNever, IsTimely, is_late_held, is_late_in, never_crashed}
 use Rattle.ptpm_restarts.specs.GoingOn.{IsAnsweredAgain, StandsWithFewer, handed_in_saved, save_at}

@@ -17,9 +17,8 @@ use Rattle.ptpm_restarts.specs.Incidents.{CrashClock, CrashSession, GivesUp, Hap
 use Rattle.ptpm_restarts.specs.Restarting.{RestartingNetwork, SessionLog, begins, log_of, log_with, sent_or_waiting}
 use Rattle.ptpm_restarts.specs.Storage.{Stored, changed}
 use Rattle.ptpm_restarts.proofs.Acting.{InTimeForAll}
-use Rattle.ptpm_restarts.proofs.Beside.{IsBeside, here}
+use Rattle.ptpm_restarts.proofs.Beside.{IsBeside, here, IsSettled}
 use Rattle.ptpm_restarts.proofs.Sent.{all_contains}
-use Rattle.ptpm_restarts.proofs.Settled.{IsSettled}
 use Rattle.ptpm_restarts.proofs.Shapes.{ByShape, by-shape}
 use Rattle.ptpm_restarts.proofs.Steps.{Facts, among, numbered}
 

@@ -15,8 +15,7 @@ use Rattle.ptpm_restarts.specs.Incidents.{CrashClock, CrashSession, Happens, Obs
 use Rattle.ptpm_restarts.specs.Restarting as restarting
 use Rattle.ptpm_restarts.specs.Restarting.{RestartingNetwork, SessionLog, after_verdict, held_frames, log_of, log_told, log_with, running, sent_or_waiting, takes_turn, waiting_at, waiting_elsewhere, with_log}
 use Rattle.ptpm_restarts.specs.Storage.{Stored, changed, noted, restored, saved, saved_as}
-use Rattle.ptpm_restarts.proofs.Beside.{here}
-use Rattle.ptpm_restarts.proofs.Settled.{NextIs, turn-next}
+use Rattle.ptpm_restarts.proofs.Beside.{here, NextIs, turn-next}
 
 -- ---- networks that run alike
 

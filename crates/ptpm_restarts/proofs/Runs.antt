@@ -4,17 +4,16 @@ use Rattle.ptpm_network.proofs.Common.{is_late_delivery, State, true≢false, ar
 use Rattle.ptpm_manager.specs.declared.receiving.Received.TheVariants as received
 use Rattle.ptpm_network.specs.Events.{refusal}
 use Rattle.ptpm_network.proofs.Promise.{stands-event, stands-first, stands-judged}
-use Rattle.ptpm_network.proofs.Schedule.{reached}
+use Rattle.ptpm_network.proofs.Reaching.{reached}
 use Rattle.ptpm_network.proofs.Taking.{run-append}
 use Rattle.ptpm_restarts.specs.AsIfNever.{AreSomeOf, AreTimely, Ended, IsAsIfNever, IsPossible, IsPromisedRestarting, IsSame, IsTimely, Skip, Take, is_late_in, never_crashed}
 use Rattle.ptpm_restarts.specs.Incidents.{CrashClock, CrashSession, GivesUp, Happens, Observes, Incident, SaveClock, SaveSession, after_incidents, happens, incident, refused, unless}
 use Rattle.ptpm_restarts.specs.Restarting.{RestartingNetwork, SessionLog, held_frames, initial_restarting, log_of, sent_or_waiting}
 use Rattle.ptpm_restarts.specs.Storage.{Stored}
-use Rattle.ptpm_restarts.proofs.Beside.{IsBeside, clock-crashed, clock-saved, session-crashed, session-saved}
+use Rattle.ptpm_restarts.proofs.Beside.{IsBeside, clock-crashed, clock-saved, session-crashed, session-saved, settled-as}
 use Rattle.ptpm_restarts.proofs.Sent.{all-held, all_contains}
-use Rattle.ptpm_restarts.proofs.Settled.{settled-as}
 use Rattle.ptpm_restarts.proofs.Shapes.{AreSound, ByShape, by-shape, incident-sound, incident-stay}
-use Rattle.ptpm_restarts.proofs.Standing.{heard-live, in_time-there, standing}
+use Rattle.ptpm_restarts.proofs.Acting.{heard-live, in_time-there, standing}
 use Rattle.ptpm_restarts.proofs.Steps.{Goes, Stay, Stays, Step, among, event-step, numbered, room-there}
 use Rattle.ptpm_restarts.proofs.Worth.{worth-heard, worth-step}
 

@@ -12,9 +12,8 @@ use Rattle.ptpm_restarts.specs.Incidents.{replayed, comes_in, delivered, happens
 use Rattle.ptpm_restarts.specs.Restarting.{RestartingNetwork, SessionLog, begins, held_frames, log_of, log_told, log_with, notes, running, sends, takes_turn, turned, with_log}
 use Rattle.ptpm_restarts.specs.Restarting as restarting
 use Rattle.ptpm_restarts.specs.Storage.{Stored, changed, noted}
-use Rattle.ptpm_restarts.proofs.Beside.{IsBeside, after_clock, log-stays, turned-beside}
+use Rattle.ptpm_restarts.proofs.Beside.{IsBeside, after_clock, log-stays, turned-beside, IsAct, IsSettled, changed-act, not_both, noted-act, turn-act, turn-next}
 use Rattle.ptpm_restarts.proofs.Sent.{AreSent, all_contains, going-all, sent-both}
-use Rattle.ptpm_restarts.proofs.Settled.{IsAct, IsSettled, changed-act, not_both, noted-act, turn-act, turn-next}
 use Rattle.ptpm_restarts.proofs.Worth.{delivers-to}
 
 -- ---- frames by their numbers

@@ -1,19 +1,21 @@
 -- The entries of a table in the order of their managers: which of them comes next.
-use Rattle.std.proofs.Common.{suc, zero, arith, ◌≡◌, ℕ, ◌<◌, ◌≤◌, Bool, true, false, cond, refl, sym, ◌∙◌, ap, subst, List, [], ◌∷◌, length, drop, Option, Some, None, ◌&&◌, slice_get}
+use Rattle.std.proofs.Common.{suc, zero, arith, ◌≡◌, ℕ, ◌<◌, ◌≤◌, Bool, true, false, cond, refl, sym, ◌∙◌, ap, subst, List, [], ◌∷◌, length, drop, Option, Some, None, ◌&&◌, slice_get, ◌+◌, All}
 use Rattle.std.proofs.lemmas.Bool.{and_parts}
 use Rattle.std.proofs.lemmas.Option.{slice_get_within}
 use Rattle.std.proofs.lemmas.Cmp.{tied_itself}
-use Rattle.std.specs.Prelude.{option_map}
-use Rattle.std.specs.FinMap.{entries, entries_sorted, find, get, get-entries, is_sorted}
-use Rattle.std.specs.Ordering.{is_eq, is_lt, ordering_reverse}
-use Rattle.std.specs.Prelude.{T}
+use Rattle.std.specs.Prelude.{option_map, T}
+use Rattle.std.specs.FinMap.{entries, entries_sorted, find, get, get-entries, is_sorted, empty, get-empty, get-insert, insert, same_map}
+use Rattle.std.specs.Ordering.{is_eq, is_lt, ordering_reverse, eq_by_cmp}
 use Rattle.std.specs.declared.cmp.Ordering.{Ordering}
 use Rattle.std.specs.declared.cmp.Ordering.TheVariants.{Equal, Greater, Less}
 use Rattle.ptpm_codec.specs.declared.identity.PortIdentity.{PortIdentity}
 use Rattle.ptpm_codec.specs.Identity.{identity_cmp}
-use Rattle.ptpm_table.specs.Entries.{Entries, Entry}
+use Rattle.ptpm_table.specs.Entries.{Entries, Entry, is_known}
 use Rattle.ptpm_table.specs.Lending.{HasNoneAfter, IsAfter, IsNext, ManagerEntry}
-use Rattle.ptpm_table.proofs.Identities.{exact_identities, identities_total}
+use Rattle.ptpm_table.proofs.Identities.{exact_identities, identities_total, tied_identities}
+use Rattle.std.proofs.lemmas.List.Elements.{All-head, All-tail}
+use Rattle.ptpm_codec.proofs.MessageLaws.{same_identity-true}
+use Rattle.ptpm_saved.specs.Restoring.{kept_by, kept_of, let_go}
 
 abbrev pub Pair : Type 0
 Pair = PortIdentity × Entry
@@ -193,3 +195,63 @@ next_is m i x inside next = by_order (identity_cmp x.manager s.0.0) refl
 
 pub after_next : (es : List Pair) (i : ℕ) (e : Pair) → slice_get es i ≡ Some e → Some e.0 ≡ after_at es (suc i)
 after_next es i e is = ap (option_map (λ (x : Pair). x.0)) (sym is)
+
+-- ---- the entries of a table whose managers are all configured make the table again
+
+abbrev pub AreKnown : List PortIdentity → List Pair → Type 0
+AreKnown ms es = All (λ e. is_known e.0 ms ≡ true) es
+
+or_else : Option Entry → Option Entry → Option Entry
+or_else None o = o
+or_else (Some e) o = Some e
+
+none_of_own : (e : Pair) (es : List Pair) → is_sorted identity_cmp (e ∷ es) ≡ true → find identity_cmp e.0 es ≡ None
+none_of_own e es h = find_less e.0 es (λ j f is. below_at e.0 es j f (sorted_parts e es h).0 is)
+
+-- what is kept is found among the entries, or was there before
+get_kept : (ms : List PortIdentity) (es : List Pair) (m : Entries) (q : PortIdentity)
+    → is_sorted identity_cmp es ≡ true
+    → AreKnown ms es
+    → get (kept_of ms es m) q ≡ or_else (find identity_cmp q es) (get m q)
+unfolding or_else
+get_kept ms [] m q h known = refl
+get_kept ms (e ∷ es) m q h known =
+    ap (λ b. get (kept_of ms es (kept_by b m e)) q) (All-head (λ (x : Pair). is_known x.0 ms ≡ true) e es known)
+    ∙ get_kept ms es (insert m e.0 e.1) q (sorted_parts e es h).1 (All-tail (λ (x : Pair). is_known x.0 ms ≡ true) e es known)
+    ∙ ap (or_else (find identity_cmp q es)) (get-insert identities_total m e.0 e.1 q)
+    ∙ by_test (eq_by_cmp identity_cmp q e.0) refl
+  where
+    by_test : (b : Bool) → eq_by_cmp identity_cmp q e.0 ≡ b
+        → or_else (find identity_cmp q es) (cond (eq_by_cmp identity_cmp q e.0) (Some e.1) (get m q))
+        ≡ or_else (cond (eq_by_cmp identity_cmp q e.0) (Some e.1) (find identity_cmp q es)) (get m q)
+    by_test true is =
+        let own : q ≡ e.0 = same_identity-true q e.0 (sym (tied_identities q e.0) ∙ is) in
+        let nothing : find identity_cmp q es ≡ None = ap (λ p. find identity_cmp p es) own ∙ none_of_own e es h in
+        (λ i. or_else (nothing i) (cond (is i) (Some e.1) (get m q)))
+        ∙ sym (ap (λ b. or_else (cond b (Some e.1) (find identity_cmp q es)) (get m q)) is)
+    by_test false is =
+        ap (λ b. or_else (find identity_cmp q es) (cond b (Some e.1) (get m q))) is
+        ∙ sym (ap (λ b. or_else (cond b (Some e.1) (find identity_cmp q es)) (get m q)) is)
+
+or_none : (o : Option Entry) → or_else o None ≡ o
+unfolding or_else
+or_none None = refl
+or_none (Some e) = refl
+
+pub kept_all : (ms : List PortIdentity) (m : Entries)
+    → AreKnown ms (entries m)
+    → kept_of ms (entries m) empty ≡ m
+kept_all ms m known =
+    same_map identities_total exact_identities _ _ (λ q.
+    get_kept ms (entries m) empty q (sorted_entries m) known
+    ∙ ap (or_else (find identity_cmp q (entries m))) (get-empty identity_cmp q)
+    ∙ or_none (find identity_cmp q (entries m))
+    ∙ sym (get-entries m q))
+
+pub none_gone : (ms : List PortIdentity) (es : List Pair)
+    → AreKnown ms es
+    → let_go ms es ≡ 0
+none_gone ms [] known = refl
+none_gone ms (e ∷ es) known =
+    ap (λ b. cond b (let_go ms es) (1 + let_go ms es)) (All-head (λ (x : Pair). is_known x.0 ms ≡ true) e es known)
+    ∙ none_gone ms es (All-tail (λ (x : Pair). is_known x.0 ms ≡ true) e es known)

@@ -23,9 +23,8 @@ use Rattle.ptpm_manager.specs.Image.{image_head, request_front, request_image}
 use Rattle.ptpm_table.specs.Entries.{Entries, Entry, FitsAnswer, FitsCount, FitsOutcome, FitsRequest}
 use Rattle.ptpm_table.specs.Lending.{EntryFits, IsKeepable, IsNext, ManagerEntry}
 use Rattle.ptpm_codec.specs.declared.identity.PortIdentity.{PortIdentity}
-use Rattle.ptpm_saved.specs.Image.{answer_image, answers_image, body_image, clock_image, entries_image, entry_image, front_image, outcome_image, port_octets, saved_image, saved_of}
+use Rattle.ptpm_saved.specs.Image.{answer_image, answers_image, body_image, clock_image, entries_image, entry_image, front_image, outcome_image, port_octets, saved_image, saved_of, widest}
 use Rattle.ptpm_saved.specs.declared.image.TheConstants.{ANSWERS_OCTETS, ENTRY_OCTETS}
-use Rattle.ptpm_saved.specs.Widest.{widest}
 use Rattle.ptpm_saved.proofs.EntryOrder.{after_at, after_next, next_is}
 
 -- ---- one after the other

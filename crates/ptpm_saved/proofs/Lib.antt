@@ -2,13 +2,7 @@ pub mod EntryOrder
 pub mod ImageLemmas
 pub mod RestoringLemmas
 pub mod ReadingLemmas
-pub mod KeptAll
-pub mod OneImage
 pub mod BodyLemmas
 pub mod SavingLaws
-pub mod SavingClockLaws
-pub mod SavingSessionLaws
 pub mod WrittenLemmas
-pub mod NextSessionLaws
 pub mod BatchingLaws
-pub mod BatchingClockLaws

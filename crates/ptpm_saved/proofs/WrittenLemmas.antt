@@ -2,7 +2,7 @@
 use Rattle.std.proofs.Common.{◌≡◌, ℕ, ◌+◌, ◌≤◌, sym, ◌∙◌, ap, List, [], ◌++◌, length, take, drop, append_assoc, append-nil, arith, length-append, length-take-le, drop-drop}
 use Rattle.std.proofs.lemmas.List.{take_at, take-append-drop}
 use Rattle.std.proofs.Math.Seq.{drop-append-add}
-use Rattle.ptpm_saved.specs.Written.{over}
+use Rattle.ptpm_saved.specs.Image.{over}
 
 -- what comes after a part
 rest_is : (front rest : List ℕ) (mid n : ℕ) → length front ≡ mid → drop (mid + n) (front ++ rest) ≡ drop n rest

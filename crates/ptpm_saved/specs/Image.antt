@@ -1,7 +1,6 @@
 -- The image of a clock: the octets in which its data sets, and what is kept of each manager, survive the loss of power. A head
 -- says what the image is of. Numbers of several octets have the highest octet first (this project's profile).
-use Rattle.std.specs.Prelude.{◌≤◌, ℕ, IsTrue, List, [], ◌∷◌, ◌++◌, length, max, Option, Some, None}
-use Rattle.std.specs.FinMap as fin
+use Rattle.std.specs.Prelude.{ℕ, ◌+◌, List, ◌++◌, length, take, drop, ◌≤◌, IsTrue, [], ◌∷◌, max, Option, Some, None, ◌*◌}
 use Rattle.std.specs.FinMap.{is_sorted}
 use Rattle.std.specs.List.{All, flat_map}
 use Rattle.byteorder.specs.Endian.{big_bytes}
@@ -12,13 +11,21 @@ use Rattle.ptpm_codec.specs.Message.{error_number}
 use Rattle.ptpm_data.specs.declared.ports.TheConstants.{INLINE_PORTS}
 use Rattle.ptpm_data.specs.Image.{DataSetsFit, data_sets_octets}
 use Rattle.ptpm_data.specs.Members.{DataSetsValue, IsConsistent}
-use Rattle.ptpm_data.specs.Reply as reply
 use Rattle.ptpm_data.specs.Reply.{Answer, Outcome, ReplyValue}
 use Rattle.ptpm_table.specs.declared.managers.TheConstants.{MOST_MANAGERS}
 use Rattle.ptpm_table.specs.Entries.{Entry}
 use Rattle.ptpm_table.specs.Lending.{EntryFits, IsKeepable}
 use Rattle.ptpm_agent.specs.Turn.{State}
 use Rattle.ptpm_manager.specs.Image.{image_head, request_image}
+use Rattle.ptpm_saved.specs.declared.image.TheConstants.{ENTRY_OCTETS}
+use Rattle.std.specs.FinMap as fin
+use Rattle.ptpm_data.specs.Reply as reply
+
+-- ---- what a place for octets has after some were written into it
+
+-- these octets from the one at `at` on, and elsewhere what it had
+unfoldable pub over : ℕ → List ℕ → List ℕ → List ℕ
+over at octets place = take at place ++ octets ++ drop (at + length octets) place
 
 -- ---- an entry
 
@@ -100,3 +107,8 @@ pub record IsSaved (c : SavedClock) : Type 0 where
   pub consistent : IsConsistent c.sets
   pub fits : DataSetsFit c.sets
   pub entries : AreEntries (answers_kept c.sets) c.entries
+
+-- ---- how many octets a clock's image would have, if each entry had the most that one can have
+
+abbrev pub widest : State → ℕ
+widest s = 12 + length (data_sets_octets s.sets) + 1 + length (fin.entries s.entries) * ENTRY_OCTETS

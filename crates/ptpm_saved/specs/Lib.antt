@@ -5,9 +5,7 @@ pub mod Restoring
 pub mod Saving
 pub mod SavingClock
 pub mod SavingSession
-pub mod Written
 pub mod NextSession
 pub mod Batching
 pub mod BatchingClock
 pub mod AnswerRoom
-pub mod Widest

@@ -10,9 +10,7 @@ ghost use Rattle.ptpm_data.specs.Image.{data_sets_octets};
 ghost use Rattle.ptpm_manager.specs.Image.{image_head, request_front};
 ghost use Rattle.ptpm_codec.specs.Message.{IsDataField};
 ghost use Rattle.ptpm_table.specs.Lending.{IsKeepable, lent_answer, lent_outcome};
-ghost use Rattle.ptpm_saved.specs.Image.{answer_image, answers_image, clock_image, entries_image, entry_image, outcome_image, port_octets};
-ghost use Rattle.ptpm_saved.specs.Widest.{widest};
-ghost use Rattle.ptpm_saved.specs.Written.{over};
+ghost use Rattle.ptpm_saved.specs.Image.{answer_image, answers_image, clock_image, entries_image, entry_image, outcome_image, port_octets, widest, over};
 
 use arrayvec::ArrayVec;
 use ptpm_agent::Agent;
@@ -120,7 +118,7 @@ fn outcome_size(what: &LentWhat<'_>) -> usize
 /// Writes a clock's image over the first octets of a place, and answers how many there are: 104 to `CLOCK_OCTETS`. The other octets
 /// stay. `None` if the place has too few octets, and then nothing is written. The entries are gone through once if the place has
 /// room for as many entries of any size. Otherwise they are gone through twice, first for their sizes. Takes no memory.
-#[tactic(auto, unfolding(crate::specs::Written::over))]
+#[tactic(auto, unfolding(crate::specs::Image::over))]
 pub fn image_into<T: LendingTable + Drop>(agent: &Agent<T>, place: &mut [u8]) -> Option<usize>
     ensures room { IsSome result
         ↔ (length (clock_image (state_of T.entries agent.now)) ≤ length place.old) }
@@ -181,7 +179,7 @@ fn write_image<T: LendingTable + Drop>(agent: &Agent<T>, place: &mut [u8]) -> us
 }
 
 /// Writes octets over those of a place, from the one at `at` on, and answers where they end.
-#[tactic(auto, unfolding(crate::specs::Written::over))]
+#[tactic(auto, unfolding(crate::specs::Image::over))]
 #[inline(always)]
 fn write(place: &mut [u8], at: usize, octets: &[u8]) -> usize
     requires { at + length octets.now ≤ length place.old }
@@ -193,7 +191,7 @@ fn write(place: &mut [u8], at: usize, octets: &[u8]) -> usize
     end
 }
 
-#[tactic(auto, unfolding(crate::specs::Written::over), using(crate::proofs::WrittenLemmas::drop_twice))]
+#[tactic(auto, unfolding(crate::specs::Image::over), using(crate::proofs::WrittenLemmas::drop_twice))]
 fn write_sets(place: &mut [u8], at: usize, sets: &DataSets) -> usize
     requires { at + length (data_sets_octets sets.now) ≤ length place.old }
     ensures place { place.new ≡ over at (data_sets_octets sets.now) place.old }

@@ -12,9 +12,8 @@ use Rattle.ptpm_script.specs.LimitFaults.{count_marks, has_bad_size, has_target,
 use Rattle.ptpm_script.specs.Marks.{each, each_after, if_any, in_table}
 use Rattle.ptpm_script.specs.Rules.{session_rules}
 use Rattle.ptpm_script.specs.Spellings.{passes}
-use Rattle.ptpm_script.proofs.ApartLemmas.{all-both, append-none, each-none, value-none}
-use Rattle.ptpm_script.proofs.Sound.{SoundLink, SoundSession}
-use Rattle.ptpm_script.proofs.TableLemmas.{key-there, same_bytes}
+use Rattle.ptpm_script.proofs.Loops.{all-both, append-none, each-none, value-none}
+use Rattle.ptpm_script.proofs.TableLemmas.{SoundLink, SoundSession, key-there, same_bytes}
 
 -- ---- how many
 

@@ -24,10 +24,9 @@ use Rattle.ptpm_script.specs.NetworkValue.{AreDistinct, CanStart, IsEndOf, IsLin
 use Rattle.ptpm_script.specs.RepeatFaults.{end_repeats, is_clock_name, is_same_end, is_session_name, same_port}
 use Rattle.ptpm_script.specs.Rules.{session_rules}
 use Rattle.ptpm_script.specs.Spellings.{end_of, is_between, passes}
-use Rattle.ptpm_script.proofs.ApartLemmas.{all-at, all-both, all-map, all-weaker, distinct-made, flat-none, mark-none, value-none}
+use Rattle.ptpm_script.proofs.Loops.{all-at, all-both, all-map, all-weaker, distinct-made, flat-none, mark-none, value-none}
 use Rattle.ptpm_script.proofs.LimitLemmas.{HasSize, clock-count, few-managers-of, limits-none, link-items, link-sizes, session-count}
-use Rattle.ptpm_script.proofs.Sound.{SoundEnd, SoundFile, SoundLink, SoundSession}
-use Rattle.ptpm_script.proofs.TableLemmas.{key-there, passes_some, same_bytes}
+use Rattle.ptpm_script.proofs.TableLemmas.{SoundEnd, SoundFile, SoundLink, SoundSession, key-there, passes_some, same_bytes}
 
 -- ---- the first of a list that passes a test
 

@@ -1,14 +1,14 @@
 -- What holds of the network of every text that is one.
-use Rattle.std.proofs.Common.{◌≡◌, ◌≢◌, ℕ, ◌<◌, ◌≤◌, nat_lt, Bool, true, false, List, [], ◌∷◌, ◌++◌, length, map, Option, Some, None, Result, Ok, Err, refl, ap, sym, subst, ◌∙◌, if◌then◌else◌, cond}
+use Rattle.std.proofs.Common.{◌≡◌, ◌≢◌, ℕ, ◌<◌, ◌≤◌, nat_lt, Bool, true, false, List, [], ◌∷◌, ◌++◌, length, map, Option, Some, None, Result, Ok, Err, refl, ap, sym, subst, ◌∙◌, if◌then◌else◌, cond, IsOk, arith}
 use Rattle.std.specs.List.{AllByRecursion}
-use Rattle.std.specs.Prelude.{flat_map, unwrap_or}
+use Rattle.std.specs.Prelude.{flat_map, unwrap_or, slice_get, codes}
 use Rattle.std.specs.Result.{result_err}
 use Rattle.std.proofs.lemmas.List.{length-map}
 use Rattle.std.proofs.lemmas.Bool.{both_ways}
 use Rattle.toml.specs.Data.{Members}
 use Rattle.toml.specs.Parse.{parse_document}
 use Rattle.ptpm_codec.specs.Identity.{every_clock, same_clock}
-use Rattle.ptpm_codec.proofs.IdentityLaws.{same_clock-refl}
+use Rattle.ptpm_codec.proofs.MessageLaws.{same_clock-refl}
 use Rattle.ptpm_script.specs.declared.net_error.NetError.{NetError}
 use Rattle.ptpm_script.specs.declared.net_error.NetError.TheVariants.{TooLong}
 use Rattle.ptpm_script.specs.Faults.{file_marks, first_refusal, long_marks, marks_of_document, text_marks}
@@ -16,17 +16,35 @@ use Rattle.ptpm_script.specs.Heads.{ClockHeadValue, SessionHeadValue, clocks_of,
 use Rattle.ptpm_script.specs.LimitFaults.{limit_marks}
 use Rattle.ptpm_script.specs.Marks.{Mark, each_after}
 use Rattle.ptpm_script.specs.NameFaults.{clock_past_ports, end_name_marks, name_marks, target_marks}
-use Rattle.ptpm_script.specs.NetworkText.{clock_of, judged, network_in, network_of, network_of_document, session_of, some_port}
-use Rattle.ptpm_script.specs.NetworkValue.{IsAccepted, IsSessionOf, NetworkValue}
+use Rattle.ptpm_script.specs.NetworkText.{clock_of, judged, network_in, network_of, network_of_document, session_of, some_port, IsOfText}
+use Rattle.ptpm_script.specs.NetworkValue.{IsAccepted, IsSessionOf, NetworkValue, ClockValue, IsEndOf, AreSized, CanStart, first_sets}
 use Rattle.ptpm_script.specs.RepeatFaults.{clock_repeats, end_repeats, repeat_marks, session_repeats}
 use Rattle.ptpm_script.specs.ShapeFaults.{shape_marks}
-use Rattle.ptpm_script.specs.StartFaults.{start_marks}
-use Rattle.ptpm_script.proofs.ApartLemmas.{append-none}
-use Rattle.ptpm_script.proofs.ClockStartLemmas.{clocks-can-start}
+use Rattle.ptpm_script.specs.StartFaults.{start_marks, some_clock}
+use Rattle.ptpm_script.proofs.Loops.{append-none, all-map}
+use Rattle.ptpm_script.proofs.StartLemmas.{clocks-can-start}
 use Rattle.ptpm_script.proofs.NameLemmas.{counts, ends-once, few-managers, links-are, targets-there}
 use Rattle.ptpm_script.proofs.RepeatLemmas.{clock-identities, clock-names, no-clock-identity, no-clock-name, repeat-parts, session-identities, session-names}
-use Rattle.ptpm_script.proofs.ShapeLemmas.{shape-sound}
-use Rattle.ptpm_script.proofs.Sound.{SoundSession}
+use Rattle.ptpm_script.proofs.ShapeLemmas.{shape-sound, clock_at-size, port_at-fits}
+use Rattle.ptpm_script.proofs.TableLemmas.{SoundSession, SoundClock, SoundFile}
+use Rattle.std.proofs.Props.{props}
+use mathlib.Core.HLevel.{Σ_prop_path}
+use mathlib.Core.Logic.{∥∥₁_elim}
+use Rattle.std.proofs.lemmas.Option.{same_Some}
+use Rattle.std.specs.Coded.{le_prop}
+use Rattle.ptpm_script.specs.declared.network.End.{End}
+use Rattle.ptpm_codec.specs.Message.{PortIdentityFits}
+use Rattle.ptpm_codec.proofs.RefusalLaws.{option_or-none}
+use Rattle.ptpm_data.specs.RequestLaws.{IsSized}
+use Rattle.ptpm_data.specs.Start.{clock_fault, port_data_set, start_of, start_within}
+use Rattle.ptpm_data.specs.declared.start.ClockStart.{ClockStart}
+use Rattle.ptpm_data.specs.declared.start.PortStart.{PortStart}
+use Rattle.ptpm_data.proofs.StartLemmas.{description_small, description_sound}
+use Rattle.ptpm_script.specs.Starts.{clock_over}
+use Rattle.ptpm_script.specs.Values.{clock_at, port_at}
+use Rattle.ptpm_data.specs.contracts.start.ClockStart as clock_start
+use Rattle.ptpm_data.specs.contracts.start.PortStart as port_start
+use Rattle.ptpm_script.specs.declared.network.End.TheVariants as ends
 
 ok_same : (x y : NetworkValue) → ◌≡◌ {A = Result NetworkValue NetError} (Ok x) (Ok y) → x ≡ y
 ok_same x y h = cc
@@ -170,3 +188,83 @@ unfolding text_marks network_of
 faults-found text = first_if (nat_lt 262144 (length text)) (parse_document text)
 
 pub ruleset faults_found_laws = (faults-found)
+
+-- ---- what holds of the network of a text holds in one way at most, so it comes out of a truncated fact
+
+ClockValue-set : IsSet ClockValue
+ClockValue-set = hlevel (props, clock_start.the_row.coded, port_start.the_row.coded)
+
+-- the clock at a place, with a port
+abbrev IsPlace : NetworkValue → ℕ → ℕ → ClockValue → Type 0
+IsPlace n place port c = (slice_get n.clocks place ≡ Some c) × ((1 ≤ port) × (port ≤ length c.ports))
+
+is_place : (n : NetworkValue) (place port : ℕ) → IsProp ((c : ClockValue) × IsPlace n place port c)
+is_place n place port x y =
+    Σ_prop_path {B = IsPlace n place port} (λ c. hlevel (props, ClockValue-set)) (same_Some x.0 y.0 (sym x.1.0 ∙ y.1.0))
+
+IsEndOf-prop : (n : NetworkValue) (e : End) → IsProp (IsEndOf n e)
+IsEndOf-prop n (ends.Clock place port) x y =
+    let same = is_place n place port (x.0, (x.1, (x.2, x.3))) (y.0, (y.1, (y.2, y.3))) in
+    λ i. ((same i).0, (same i).1.0, (same i).1.1.0, (same i).1.1.1)
+IsEndOf-prop n (ends.Session place) x y = le_prop x y
+
+IsAccepted-prop : (n : NetworkValue) → IsProp (IsAccepted n)
+IsAccepted-prop n = hlevel (props, IsEndOf-prop)
+
+pub of_text-accepted : (n : NetworkValue) → ∥ IsOfText n ∥₁ → IsAccepted n
+of_text-accepted n t = ∥∥₁_elim t (IsAccepted-prop n) (λ s. accepted s.0 n s.1)
+
+pub ruleset network_laws = (of_text-accepted)
+
+-- ---- the network of every text that is one: its identities have eight octets, its portNumbers 16 bits, and its data sets their
+-- sizes.
+
+-- what holds of what is there, and of what stands in its place
+either : {A : Type 0} (P : A → Type 0) (o : Option A) (a : A) → ((x : A) → o ≡ Some x → P x) → P a → P (unwrap_or o a)
+either P None a there other = other
+either P (Some x) a there other = there x refl
+
+faultless : (c : ClockStart) (ports : List PortStart) → IsOk (start_of c ports) → clock_fault c ≡ None
+unfolding start_within
+faultless c ports h = grind (arith, option_or-none)
+
+clock_sized : (c : ClockHeadValue) → SoundClock c → CanStart (clock_of c) → IsSized (first_sets (clock_of c))
+unfolding clock_of clock_over
+clock_sized c sound can =
+    let start = (clock_of c).start in
+    let ports = (clock_of c).ports in
+    let identity : length start.identity.0 ≡ 8 = subst (λ o. length (unwrap_or o some_clock).0 ≡ 8) (sym sound.identity_is) sound.identity_size in
+    record {
+      some_port = subst (λ n. 1 ≤ n) (sym (length-map ports port_data_set)) can.some_port;
+      few_ports = omega (arith, length-map ports port_data_set, can.few_ports);
+      text = description_small start.user_description.items (description_sound start (faultless start ports can.starts));
+      identity = identity;
+      parent = either (λ p. length p.clock.0 ≡ 8) (port_at (codes "parent_port") c.table) (record { clock = start.identity; port = 0 })
+          (λ p h. (port_at-fits (codes "parent_port") c.table p h).clock) identity;
+      grandmaster = either (λ g. length g.0 ≡ 8) (clock_at (codes "grandmaster") c.table) start.identity
+          (clock_at-size (codes "grandmaster") c.table) identity;
+    }
+
+clocks_sized : (cs : List ClockHeadValue) → AllByRecursion SoundClock cs → AllByRecursion CanStart (map clock_of cs)
+    → AllByRecursion (λ c. IsSized (first_sets c)) (map clock_of cs)
+clocks_sized [] sound can = tt
+clocks_sized (c ∷ cs) sound can = (clock_sized c sound.0 can.0, clocks_sized cs sound.1 can.1)
+
+session_sized : (cs : List ClockHeadValue) (s : SessionHeadValue) → SoundSession s → PortIdentityFits (session_of cs s).identity
+unfolding session_of
+session_sized cs s sound = subst (λ o. PortIdentityFits (unwrap_or o some_port)) (sym sound.identity_is) sound.identity_fits
+
+document_sized : (ms : Members) → SoundFile ms → AllByRecursion CanStart (network_in ms).clocks → AreSized (network_in ms)
+unfolding network_in
+document_sized ms sound can =
+    let cs = clocks_of ms in
+    record {
+      clocks = clocks_sized cs sound.clocks can;
+      sessions = all-map (session_of cs) SoundSession (λ s. PortIdentityFits s.identity) (session_sized cs) (sessions_of ms) sound.sessions;
+    }
+
+pub sized : (text : List ℕ) (n : NetworkValue) → network_of text ≡ Ok n → AreSized n
+sized text n h =
+    let d = document-of text n h in
+    let can = (subst IsAccepted (sym d.3) (accepted text n h)).clocks in
+    subst AreSized d.3 (document_sized d.0 (shape-sound d.0 (unmarked d.0 d.2).shape) can)

@@ -8,7 +8,7 @@ use Rattle.std.proofs.lemmas.Slice.Eq.{bytes_eq-Decides}
 use Rattle.toml.specs.Data.{Members, get_member}
 use Rattle.ptpm_codec.specs.Identity.{same_clock, same_identity}
 use Rattle.ptpm_codec.specs.declared.identity.PortIdentity.{PortIdentity}
-use Rattle.ptpm_codec.proofs.IdentityLaws.{same_clock-refl}
+use Rattle.ptpm_codec.proofs.MessageLaws.{same_clock-refl}
 use Rattle.ptpm_script.specs.declared.net_error.NetError.TheVariants.{Twice}
 use Rattle.ptpm_script.specs.Heads.{ClockHeadValue, EndHeadValue, SessionHeadValue, items_at}
 use Rattle.ptpm_script.specs.Marks.{Spot, each_after}
@@ -19,9 +19,8 @@ use Rattle.ptpm_script.specs.Rules.{clock_rules, session_rules}
 use Rattle.ptpm_script.specs.Spellings.{passes}
 use Rattle.ptpm_script.specs.StartFaults.{some_clock}
 use Rattle.ptpm_script.specs.Starts.{clock_over}
-use Rattle.ptpm_script.proofs.ApartLemmas.{after-none, all-both, all-map, append-none, distinct-made, value-none}
-use Rattle.ptpm_script.proofs.Sound.{SoundClock, SoundSession}
-use Rattle.ptpm_script.proofs.TableLemmas.{key-there}
+use Rattle.ptpm_script.proofs.Loops.{after-none, all-both, all-map, append-none, distinct-made, value-none}
+use Rattle.ptpm_script.proofs.TableLemmas.{SoundClock, SoundSession, key-there}
 
 -- ---- what two have
 

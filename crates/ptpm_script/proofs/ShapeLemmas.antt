@@ -1,21 +1,66 @@
 -- The tables of a file in which no fault of shape is found are sound.
-use Rattle.std.proofs.Common.{◌≡◌, ℕ, zero, suc, ◌+◌, true, false, List, [], ◌∷◌, ◌++◌, map, take, Option, Some, None, refl, ap, sym, subst, ◌∙◌, if◌then◌else◌, is_none, codes, option_map, option_and_then}
+use Rattle.std.proofs.Common.{arith, ◌≡◌, ℕ, Bool, true, false, List, length, Option, Some, None, refl, ap, subst, cond, zero, suc, ◌+◌, [], ◌∷◌, ◌++◌, map, take, sym, ◌∙◌, if◌then◌else◌, is_none, codes, option_map, option_and_then}
+use Rattle.std.specs.Result.{result_ok}
+use Rattle.std.proofs.lemmas.Bool.Decides.{nat_tests}
+use Rattle.std.proofs.lemmas.Option.{cond_some}
+use Rattle.hex.specs.Hex.{decode_sized}
+use Rattle.hex.proofs.HexLemmas.{decode_pairs-ok, decode_sized-ok}
+use Rattle.toml.specs.Data.{Members, Data, as_array, as_str, as_table, get_member}
+use Rattle.ptpm_codec.specs.declared.identity.ClockIdentity.{ClockIdentity}
+use Rattle.ptpm_codec.specs.declared.identity.PortIdentity.{PortIdentity}
+use Rattle.ptpm_codec.specs.Identity.{every_clock, same_clock}
+use Rattle.ptpm_codec.specs.Message.{PortIdentityFits}
+use Rattle.ptpm_script.specs.Spellings.{clock_identity, if_one_clock, port_identity, port_of, end_of}
+use Rattle.ptpm_script.specs.Values.{clock_at, port_at, text_at, natural_at}
+use Rattle.ptpm_script.proofs.TableLemmas.{opt_inv, array_given, clock_given, given, name_given, port_given, requires, whole_given, Keeps, SoundClock, SoundEnd, SoundFile, SoundLink, SoundPort, SoundSession}
 use Rattle.std.specs.List.{AllByRecursion}
-use Rattle.toml.specs.Data.{Data, Members, as_array, as_str, as_table, get_member}
 use Rattle.ptpm_script.specs.declared.net_error.NetError.TheVariants.{BadShape}
-use Rattle.ptpm_script.specs.declared.place.Array.TheVariants as arrays
-use Rattle.ptpm_script.specs.declared.rules.Kind.TheVariants as kinds
 use Rattle.ptpm_script.specs.Heads.{clock_head, clock_in, clocks_of, if_name, items_at, items_in, list_of, list_or_none, members_items, name_at, session_head, session_in, sessions_of}
 use Rattle.ptpm_script.specs.KeyFaults.{key_marks, members_marks, missing_keys, missing_marks, table_marks, wrong_keys, wrong_marks}
 use Rattle.ptpm_script.specs.Marks.{Mark, Spot, at_item, each, if_any, in_file, in_port, in_table}
 use Rattle.ptpm_script.specs.Rules.{KeyRule, kind_of, clock_rules, file_rules, link_rules, port_rules, session_rules, u16}
 use Rattle.ptpm_script.specs.ShapeFaults.{clock_marks, end_marks, link_marks, port_marks, ports_marks, rights_marks, session_marks, shape_marks}
-use Rattle.ptpm_script.specs.Spellings.{clock_identity, end_of, port_identity}
-use Rattle.ptpm_script.specs.Values.{natural_at, text_at}
-use Rattle.ptpm_script.proofs.ApartLemmas.{all-weaker, append-none, each-none, mark-none}
-use Rattle.ptpm_script.proofs.IdentityLemmas.{clock-is_one, clock-size, port-fits, port-is_one}
-use Rattle.ptpm_script.proofs.Sound.{Keeps, SoundClock, SoundEnd, SoundFile, SoundLink, SoundPort, SoundSession}
-use Rattle.ptpm_script.proofs.TableLemmas.{array_given, clock_given, given, name_given, opt_inv, port_given, requires, whole_given}
+use Rattle.ptpm_script.proofs.Loops.{all-weaker, append-none, each-none, mark-none}
+use Rattle.ptpm_script.specs.declared.place.Array.TheVariants as arrays
+use Rattle.ptpm_script.specs.declared.rules.Kind.TheVariants as kinds
+
+-- ---- what the identities of a network file are: of eight octets, and not all ones
+
+else_some : {A : Type 0} (test : Bool) (x y : A) → cond test None (Some x) ≡ Some y → (test ≡ false) × (x ≡ y)
+else_some true x y h = cc
+else_some false x y h = (refl, cc)
+
+pub clock-is_one : (text : List ℕ) (c : ClockIdentity) → clock_identity text ≡ Some c → same_clock c every_clock ≡ false
+unfolding clock_identity
+clock-is_one text c h =
+    let octets = opt_inv if_one_clock (result_ok (decode_sized text 8)) c h in
+    let both = else_some (same_clock (record { 0 = octets.0 }) every_clock) (record { 0 = octets.0 }) c octets.2 in
+    subst (λ k. same_clock k every_clock ≡ false) both.1 both.0
+
+pub clock-size : (text : List ℕ) (c : ClockIdentity) → clock_identity text ≡ Some c → length c.0 ≡ 8
+unfolding clock_identity
+clock-size text c h = grind (arith, opt_inv, else_some, decode_sized-ok, decode_pairs-ok)
+
+clock_part : (a : Option ClockIdentity) (b : Option ℕ) (p : PortIdentity) → port_of a b ≡ Some p → a ≡ Some p.clock
+clock_part (Some clock) (Some port) p h = let q : record { clock = clock; port = port } ≡ p = cc in ap (λ r. Some r.clock) q
+clock_part (Some clock) None p h = cc
+clock_part None b p h = cc
+
+pub port-is_one : (text : List ℕ) (p : PortIdentity) → port_identity text ≡ Some p → same_clock p.clock every_clock ≡ false
+unfolding port_identity
+port-is_one text p h = grind (arith, opt_inv, clock_part, clock-is_one)
+
+pub port-fits : (text : List ℕ) (p : PortIdentity) → port_identity text ≡ Some p → PortIdentityFits p
+unfolding port_identity
+port-fits text p h = grind (arith, opt_inv, clock-size, clock_part, cond_some, nat_tests)
+
+-- ---- at a key
+
+pub clock_at-size : (key : List ℕ) (ms : Members) (c : ClockIdentity) → clock_at key ms ≡ Some c → length c.0 ≡ 8
+clock_at-size key ms c h = let text = opt_inv clock_identity (text_at key ms) c h in clock-size text.0 c text.2
+
+pub port_at-fits : (key : List ℕ) (ms : Members) (p : PortIdentity) → port_at key ms ≡ Some p → PortIdentityFits p
+port_at-fits key ms p h = let text = opt_inv port_identity (text_at key ms) p h in port-fits text.0 p text.2
 
 -- ---- tables
 

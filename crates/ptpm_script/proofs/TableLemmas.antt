@@ -1,21 +1,83 @@
--- What is at a key of a table that keeps to its rules.
-use Rattle.std.proofs.Common.{arith, ◌≡◌, ℕ, ℤ, pos, negsuc, nat_le, int_le, Bool, true, false, ◌&&◌, ◌||◌, ◌⊎◌, inl, inr, if◌then◌else◌, List, [], ◌∷◌, Option, Some, None, refl, ap, sym, subst, ◌∙◌, is_none, is_some, bytes_eq, option_and_then, Ordering, Less, Equal, Greater, nat_cmp, is_eq}
+-- The tables of a network file in which no fault of shape is found: what holds of them, and what is at a key.
+use Rattle.std.proofs.Common.{◌≡◌, ℕ, false, List, [], length, Option, Some, arith, ℤ, pos, negsuc, nat_le, int_le, Bool, true, ◌&&◌, ◌||◌, ◌⊎◌, inl, inr, if◌then◌else◌, ◌∷◌, None, refl, ap, sym, subst, ◌∙◌, is_none, is_some, bytes_eq, Ordering, Less, Equal, Greater, nat_cmp, is_eq}
+use Rattle.std.specs.Prelude.{codes, option_and_then}
+use Rattle.std.specs.List.{AllByRecursion}
+use Rattle.toml.specs.Data.{Data, Items, Members, as_array, as_str, as_table, get_member, as_integer, no_members, member}
+use Rattle.ptpm_codec.specs.declared.identity.ClockIdentity.{ClockIdentity}
+use Rattle.ptpm_codec.specs.declared.identity.PortIdentity.{PortIdentity}
+use Rattle.ptpm_codec.specs.Identity.{every_clock, same_clock}
+use Rattle.ptpm_codec.specs.Message.{PortIdentityFits}
+use Rattle.ptpm_script.specs.Heads.{ClockHeadValue, SessionHeadValue, clocks_of, items_at, list_of, sessions_of}
+use Rattle.ptpm_script.specs.KeyFaults.{missing_keys, wrong_keys, holds}
+use Rattle.ptpm_script.specs.Rules.{KeyRule, clock_rules, port_rules, session_rules, fits, kind_of}
+use Rattle.ptpm_script.specs.Spellings.{end_of, clock_identity, is_name, passes, port_identity}
+use Rattle.ptpm_script.specs.Values.{natural_at, clock_at, natural_up_to, port_at, text_at}
 use Rattle.std.specs.Cmp.Lexicographic.{slice_cmp}
 use Rattle.std.specs.Ordering.{match_ordering}
 use Rattle.std.proofs.lemmas.Bool.{and_parts, or_cases}
 use Rattle.std.proofs.lemmas.Bool.Decides.{nat_tests}
 use Rattle.std.proofs.lemmas.Cmp.{same_from_slice_cmp}
 use Rattle.std.proofs.lemmas.Slice.Eq.{bytes_eq-Decides}
-use Rattle.toml.specs.Data.{Data, as_array, as_integer, as_str, Items, Members, no_members, member, get_member}
-use Rattle.ptpm_codec.specs.declared.identity.ClockIdentity.{ClockIdentity}
-use Rattle.ptpm_codec.specs.declared.identity.PortIdentity.{PortIdentity}
 use Rattle.ptpm_script.specs.declared.rules.Kind.{Kind}
 use Rattle.ptpm_script.specs.declared.rules.Kind.TheVariants as kinds
-use Rattle.ptpm_script.specs.Rules.{KeyRule, fits, kind_of}
-use Rattle.ptpm_script.specs.Spellings.{clock_identity, is_name, passes, port_identity}
-use Rattle.ptpm_script.specs.Values.{clock_at, natural_at, natural_up_to, port_at, text_at}
-use Rattle.ptpm_script.specs.KeyFaults.{holds, missing_keys, wrong_keys}
-use Rattle.ptpm_script.proofs.Sound.{Keeps}
+
+-- ---- what holds of the tables of a network file in which no fault of shape is found
+
+-- each key is one of the rules and holds what it may, and none that is required is missing
+pub record Keeps (rules : List KeyRule) (ms : Members) : Type 0 where
+  pub missing : missing_keys rules ms ≡ []
+  pub wrong : wrong_keys rules ms ≡ []
+
+-- a port's table
+pub record SoundPort (d : Data) : Type 0 where
+  pub table : Members
+  pub is : as_table d ≡ Some table
+  pub keeps : Keeps port_rules table
+  pub number : ℕ
+  pub number_is : natural_at 65535 (codes "number") table ≡ Some number
+
+pub record SoundClock (c : ClockHeadValue) : Type 0 where
+  pub keeps : Keeps clock_rules c.table
+  pub name : List ℕ
+  pub name_is : c.name ≡ Some name
+  pub identity : ClockIdentity
+  pub identity_is : c.identity ≡ Some identity
+  pub is_one : same_clock identity every_clock ≡ false
+  pub identity_size : length identity.0 ≡ 8
+  pub count : ℕ
+  pub count_is : c.count ≡ Some count
+  pub ports : AllByRecursion SoundPort (items_at (codes "port") c.table)
+
+pub record SoundSession (s : SessionHeadValue) : Type 0 where
+  pub keeps : Keeps session_rules s.table
+  pub name : List ℕ
+  pub name_is : s.name ≡ Some name
+  pub identity : PortIdentity
+  pub identity_is : s.identity ≡ Some identity
+  pub is_one : same_clock identity.clock every_clock ≡ false
+  pub identity_fits : PortIdentityFits identity
+  pub target : List ℕ
+  pub target_is : s.target ≡ Some target
+
+-- an end of a link, by its name and its port
+pub record SoundEnd (d : Data) : Type 0 where
+  pub name : List ℕ
+  pub port : Option ℕ
+  pub is : option_and_then end_of (as_str d) ≡ Some (name, port)
+
+pub record SoundLink (d : Data) : Type 0 where
+  pub table : Members
+  pub is : as_table d ≡ Some table
+  pub items : Items
+  pub items_are : option_and_then as_array (get_member (codes "ends") table) ≡ Some items
+  pub ends : AllByRecursion SoundEnd (list_of items)
+
+pub record SoundFile (ms : Members) : Type 0 where
+  pub clocks : AllByRecursion SoundClock (clocks_of ms)
+  pub sessions : AllByRecursion SoundSession (sessions_of ms)
+  pub links : AllByRecursion SoundLink (items_at (codes "link") ms)
+
+-- ---- what is at a key of a table that keeps to its rules
 
 pub same_bytes : (xs ys : List ℕ) → bytes_eq xs ys ≡ true → xs ≡ ys
 same_bytes xs ys h = (bytes_eq-Decides xs ys).0 h

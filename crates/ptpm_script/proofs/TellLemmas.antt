@@ -1,5 +1,10 @@
--- Which fault of a start some marks tell of: the first is of it, and there are none if there is none.
-use Rattle.std.proofs.Common.{◌≡◌, ℕ, Bool, true, false, not, if◌then◌else◌, List, [], ◌∷◌, ◌++◌, find, Option, Some, None, refl, ap, subst, ◌∙◌, is_some, option_map}
+-- What marks tell: the first of them says what is refused, and where there are none nothing is.
+use Rattle.std.proofs.Common.{◌≡◌, List, [], ◌∷◌, Option, Some, None, Result, Ok, Err, refl, ℕ, Bool, true, false, not, if◌then◌else◌, ◌++◌, find, ap, subst, ◌∙◌, is_some, option_map}
+use Rattle.ptpm_script.specs.Faults.{first_refusal}
+use Rattle.ptpm_script.specs.Marks.{Mark, Spot, at_key, mark_if, value_mark, value_mark_if}
+use Rattle.ptpm_script.specs.NetworkText.{judged}
+use Rattle.ptpm_script.specs.NetworkValue.{NetworkValue}
+use Rattle.ptpm_script.specs.declared.net_error.NetError.{NetError}
 use Rattle.std.specs.Option.{option_or}
 use Rattle.toml.specs.Data.{Data, Members, get_member}
 use Rattle.ptpm_data.specs.MemberNames.{member_name}
@@ -8,9 +13,19 @@ use Rattle.ptpm_data.specs.declared.members.Member.{Member}
 use Rattle.ptpm_data.specs.declared.start.StartError.{StartError}
 use Rattle.ptpm_data.specs.declared.start.StartError.TheVariants.{BadValue}
 use Rattle.ptpm_script.specs.declared.net_error.NetError.TheVariants.{BadClock}
-use Rattle.ptpm_script.specs.Faults.{first_refusal}
-use Rattle.ptpm_script.specs.Marks.{Mark, Spot, at_key, mark_if, value_mark, value_mark_if}
 use Rattle.ptpm_script.specs.StartFaults.{out_marks}
+
+-- ---- what is judged by marks is refused as the first of them is, and is what it was if there is none
+
+abbrev pub refused_by : Option NetError → NetworkValue → Result NetworkValue NetError
+refused_by None network = Ok network
+refused_by (Some class) network = Err class
+
+pub judged_by_first : (marks : List Mark) (network : NetworkValue) → judged marks network ≡ refused_by (first_refusal marks) network
+judged_by_first [] network = refl
+judged_by_first (m ∷ marks) network = refl
+
+-- ---- which fault of a start some marks tell of: the first is of it, and there are none if there is none
 
 abbrev pub Tells : Option StartError → List Mark → Type 0
 Tells o marks = first_refusal marks ≡ option_map (λ e. BadClock e) o

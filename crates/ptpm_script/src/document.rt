@@ -82,7 +82,7 @@ fn document_of(alloc: Global, text: &str) -> Result<Document, OutOfMemory>
 }
 
 /// The parts of the network that a document is, or the refusal that its first fault is of.
-#[tactic(auto, using(crate::proofs::Judged::judged_by_first))]
+#[tactic(auto, using(crate::proofs::TellLemmas::judged_by_first))]
 fn parts_of(alloc: Global, file: &Table) -> Result<Parts, NetError>
     ensures { IsAnswerAs (λ p. value_of p.clocks.items p.sessions.items p.links.items) result
         (network_of_document (Some (table_view file.now))) }

@@ -147,7 +147,7 @@ fn other_clock<'a>(
 }
 
 /// What a target may be, if it is not there.
-#[tactic(auto, using(crate::proofs::FindLemmas::any_found))]
+#[tactic(auto, using(crate::proofs::ItemLemmas::any_found))]
 fn other_target<'a>(
     alloc: Global,
     clocks: &[ClockHead<'a>],
@@ -166,7 +166,7 @@ fn other_target<'a>(
 }
 
 /// What an end that is not there may be instead; `None` if it is there.
-#[tactic(auto, using(crate::proofs::FindLemmas::any_found))]
+#[tactic(auto, using(crate::proofs::ItemLemmas::any_found))]
 fn other_end<'a>(
     alloc: Global,
     clocks: &[ClockHead<'a>],
@@ -192,7 +192,7 @@ fn other_end<'a>(
 }
 
 /// The same of a clock's port.
-#[tactic(auto, using(crate::proofs::FindLemmas::found_shown))]
+#[tactic(auto, using(crate::proofs::ItemLemmas::found_shown))]
 fn other_clock_port<'a>(
     alloc: Global,
     clocks: &[ClockHead<'a>],

@@ -25,7 +25,7 @@ pub fn accepted_networks()
 {}
 
 /// Every `Network` is one that some text is, and keeps those limits.
-#[tactic(auto, using(crate::proofs::NetworkFacts::network_laws))]
+#[tactic(auto, using(crate::proofs::NetworkLaw::network_laws))]
 pub fn network_law(network: &Network)
     ensures of_text { ∥ IsOfText (network_value network.now) ∥₁ }
     ensures accepted { IsAccepted (network_value network.now) }
@@ -40,7 +40,7 @@ pub fn faults_found()
 {}
 
 /// If only starts of clocks are at fault in a file, it is refused for what the first of these starts is refused for.
-#[tactic(auto, using(crate::proofs::ClockStartLemmas::clock_start_faults_laws))]
+#[tactic(auto, using(crate::proofs::StartLemmas::clock_start_faults_laws))]
 pub fn clock_start_faults()
     ensures { (ms : Members)
         → shape_marks ms ≡ []

@@ -148,7 +148,7 @@ fn port_before(numbers: &[Option<u16>], number: Option<u16>) -> Option<usize>
 }
 
 /// The place of the first clock of a name.
-#[tactic(auto, using(crate::proofs::FindLemmas::any_found))]
+#[tactic(auto, using(crate::proofs::ItemLemmas::any_found))]
 fn place_of_clock<'a>(clocks: &[ClockHead<'a>], name: Option<&str>) -> Option<Place<'a>>
     ensures { is_some result
         ≡ passes (is_clock_name (map clock_value clocks.now)) (option_map (λ n. n.now) name.entry) }
@@ -170,7 +170,7 @@ fn clock_of<'a>(clocks: &[ClockHead<'a>], identity: Option<ClockIdentity>) -> Op
 }
 
 /// The place of the first session of a name.
-#[tactic(auto, using(crate::proofs::FindLemmas::any_found))]
+#[tactic(auto, using(crate::proofs::ItemLemmas::any_found))]
 fn place_of_session<'a>(sessions: &[SessionHead<'a>], name: Option<&str>) -> Option<Place<'a>>
     ensures { is_some result
         ≡ passes (is_session_name (map session_value sessions.now)) (option_map (λ n. n.now) name.entry) }

@@ -1,4 +1,2 @@
-pub mod CrcLemmas
 pub mod Remainders
 pub mod SealLaws
-pub mod ChangedSeals

@@ -1,9 +1,15 @@
 -- A remainder is not lost: two that differ still do after the same octets.
-use Rattle.std.proofs.Common.{arith, ◌≡◌, ◌≢◌, ℕ, zero, suc, ◌-◌, ◌/◌, ◌%◌, ◌^◌, ◌<◌, ◌⊎◌, inl, inr, refl, sym, ◌∙◌, ap, List, [], ◌∷◌, ◌++◌, bit_xor}
+use Rattle.std.proofs.Common.{◌≡◌, ℕ, List, [], ◌∷◌, ◌++◌, refl, arith, ◌≢◌, zero, suc, ◌-◌, ◌/◌, ◌%◌, ◌^◌, ◌<◌, ◌⊎◌, inl, inr, sym, ◌∙◌, ap, bit_xor}
+use Rattle.ptpm_seal.specs.Crc.{after, after_octet, AreOctets, after_bit, after_four, crc_of, polynomial}
 use Rattle.std.proofs.Math.Nat.{pow-suc}
 use Rattle.std.proofs.lemmas.Nat.{xor_comm, xor_mod, xor_of_32, xor_shr}
-use Rattle.ptpm_seal.specs.Crc.{AreOctets, after, after_bit, after_four, after_octet, crc_of, polynomial}
-use Rattle.ptpm_seal.proofs.CrcLemmas.{after_append}
+
+-- ---- the remainder of octets in two parts
+
+pub after_append : (r : ℕ) (xs ys : List ℕ) → after r (xs ++ ys) ≡ after (after r xs) ys
+unfolding after
+after_append r [] ys = refl
+after_append r (x ∷ xs) ys = after_append (after_octet r x) xs ys
 
 -- ---- one number added twice
 

@@ -6,7 +6,7 @@ ghost use Rattle.ptpm_seal.specs.Crc.{after, after_bit, after_four, after_octet,
 const POLYNOMIAL: u32 = 0xedb8_8320;
 
 /// The CRC-32 of octets in two parts.
-#[tactic(auto, using(crate::proofs::CrcLemmas::after_append))]
+#[tactic(auto, using(crate::proofs::Remainders::after_append))]
 pub fn crc32(front: &[u8], rest: &[u8]) -> u32
     ensures { result ≡ crc_of (front.now ++ rest.now) }
 {

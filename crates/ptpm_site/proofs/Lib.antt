@@ -1,7 +1,4 @@
-pub mod Below
-pub mod Marking
+pub mod Rows
+pub mod Strays
 pub mod Parts
 pub mod Passing
-pub mod Rows
-pub mod Sorted
-pub mod Strays

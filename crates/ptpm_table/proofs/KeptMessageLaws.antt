@@ -1,11 +1,12 @@
 -- Kept messages: written over for another copy, and read back.
-use Rattle.std.proofs.Common.{suc, arith, ◌≡◌, ◌<◌, ◌≤◌, ◌^◌, ℕ, ◌+◌, ◌-◌, ◌*◌, Bool, true, false, refl, sym, ◌∙◌, ap, subst, List, [], ◌∷◌, ◌++◌, length, get_or, map, take, drop, Option, Some, None, unwrap_or, slice_set, All}
+use Rattle.std.proofs.Common.{arith, List, map, subst, All, suc, ◌≡◌, ◌<◌, ◌≤◌, ◌^◌, ℕ, ◌+◌, ◌-◌, ◌*◌, Bool, true, false, refl, sym, ◌∙◌, ap, [], ◌∷◌, ◌++◌, length, get_or, take, drop, Option, Some, None, unwrap_or, slice_set}
+use Rattle.std.proofs.Math.ListN.{get_or-map}
+use Rattle.std.proofs.lemmas.List.{length-map, append-nil, drop-append-le, length-append, map-append, take_more, length-drop, take-append-le, take_all}
 use Rattle.ptpm_codec.specs.declared.message.Action.{Action}
-use Rattle.ptpm_codec.specs.declared.message.Action.TheVariants as actions
 use Rattle.ptpm_codec.specs.declared.message.Message.{Message}
 use Rattle.ptpm_codec.specs.Canonical.{canonical, port_identity_octets, text_octets, tlv_octets}
 use Rattle.ptpm_codec.specs.Layout.{message_octets, number_at, port_identity_at}
-use Rattle.ptpm_codec.specs.Message.{Fits, IsValid, IsRequestAction}
+use Rattle.ptpm_codec.specs.Message.{Fits, IsValid, IsRequestAction, reply_action}
 use Rattle.ptpm_codec.specs.Reading.{body_at, message_at, message_of, some_unless}
 use Rattle.ptpm_codec.specs.Refusal.{refusal}
 use Rattle.ptpm_codec.specs.declared.error.DecodeError.{DecodeError}
@@ -13,8 +14,6 @@ use Rattle.ptpm_codec.specs.Spelling.{Spells}
 use Rattle.ptpm_codec.proofs.CanonicalLaws.{by_clocks, canonical_octets, canonical_size, canonical_spells}
 use Rattle.ptpm_codec.proofs.ReadingLaws.{spells-message_of}
 use Rattle.ptpm_codec.proofs.RewritingLaws.{set_all, set_domain, set_hops, set_starting_hops}
-use Rattle.std.proofs.lemmas.List.{append-nil, drop-append-le, length-append, length-map, map-append, take_more, length-drop, take-append-le, take_all}
-use Rattle.ptpm_data.specs.Reply as reply
 use Rattle.ptpm_data.specs.Reply.{Answer, Outcome, ReplyValue, answer_of}
 use Rattle.ptpm_data.specs.declared.ports.TheConstants.{INLINE_PORTS}
 use Rattle.ptpm_data.specs.declared.reply.PortAnswer.{PortAnswer}
@@ -23,11 +22,20 @@ use Rattle.ptpm_table.specs.declared.kept_octets.TheConstants.{MESSAGE_OCTETS, P
 use Rattle.ptpm_data.specs.ManagementId.{is_of_port}
 use Rattle.ptpm_data.specs.Request.{RequestValue}
 use Rattle.std.specs.Prelude.{is_some}
-use Rattle.ptpm_table.proofs.ListLemmas.{All-unmap}
-use Rattle.ptpm_codec.specs.Message.{reply_action}
 use Rattle.ptpm_table.specs.Entries.{FitsAnswer, FitsCount, FitsOutcome, FitsRequest}
 use Rattle.ptpm_table.specs.KeptMessages.{AreSizes, EachKept, Envelope, IsCopyOf, IsKeptMessage, IsKeptReply, answer_in, first_copy, has_port, kept_message, outcome_in, outcome_of_body, pieces, port_for, port_in, renewed, sent_message, source_port}
 use Rattle.ptpm_table.specs.Rendering.{answer_body, hops_passed, rendered, reply_message}
+use Rattle.ptpm_codec.specs.declared.message.Action.TheVariants as actions
+use Rattle.ptpm_data.specs.Reply as reply
+
+-- ---- lists of parts
+
+-- what holds of each part
+pub All-unmap : {X Y : Type 0} (P : Y → Type 0) (f : X → Y) (xs : List X)
+    → All P (map f xs)
+    → All (λ x. P (f x)) xs
+All-unmap {X} {Y} P f xs h = λ k d inside.
+    subst P (get_or-map f xs k d) (h k (f d) (omega (arith, length-map xs f)))
 
 -- ---- written over
 

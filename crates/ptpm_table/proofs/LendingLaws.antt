@@ -32,8 +32,7 @@ use Rattle.ptpm_table.specs.Managers.{has_twice, identities}
 use Rattle.ptpm_table.specs.Rendering.{answer_body, rendered}
 use Rattle.ptpm_table.specs.Slots.{AreKeepable, HaveFew, HaveRoom, IsSooner, IsUsedAfter, configured, entry_in, slot_of, used}
 use Rattle.ptpm_table.specs.declared.slot.Slot.{Slot}
-use Rattle.ptpm_table.proofs.Identities.{identities_total, same_identity-comm, same_identity-refl}
-use Rattle.ptpm_table.proofs.Maps.{get_entry}
+use Rattle.ptpm_table.proofs.Identities.{identities_total, same_identity-comm, same_identity-refl, get_entry}
 use Rattle.ptpm_table.proofs.Slots.{found_manager, get_used, known_slot, none_used}
 use Rattle.std.proofs.lemmas.List.Sums.{count_by-le-length}
 

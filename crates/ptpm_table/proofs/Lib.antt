@@ -1,10 +1,8 @@
 pub mod SerialLaws
-pub mod ListLemmas
+pub mod KeptMessageLaws
 pub mod Identities
-pub mod Maps
 pub mod Fitting
 pub mod Slots
-pub mod KeptMessageLaws
 pub mod SentLaws
 pub mod LendingLaws
 pub mod InOrderLaws

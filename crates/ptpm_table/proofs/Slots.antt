@@ -17,9 +17,8 @@ use Rattle.ptpm_table.specs.Entries.{is_known}
 use Rattle.ptpm_table.specs.Managers.{has_twice, identities, rights_in}
 use Rattle.ptpm_table.specs.Slots.{HaveFew, clocks, configured, entry_in, rights_at, slot_of, used}
 use Rattle.ptpm_table.specs.declared.slot.Slot.{Slot}
-use Rattle.ptpm_codec.proofs.IdentityLaws.{same_identity-true}
-use Rattle.ptpm_table.proofs.Identities.{same_identity-refl, same_identity-comm}
-use Rattle.ptpm_table.proofs.Maps.{get_entry, one_entry}
+use Rattle.ptpm_codec.proofs.MessageLaws.{same_identity-true}
+use Rattle.ptpm_table.proofs.Identities.{same_identity-refl, same_identity-comm, get_entry, one_entry}
 
 abbrev managers : List Slot → List PortIdentity
 managers slots = identities (configured slots)

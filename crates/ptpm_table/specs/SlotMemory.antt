@@ -5,7 +5,7 @@ use Rattle.std.specs.Global.{Vec}
 use Rattle.std.specs.Vec.{vec_capacity, with_items}
 use Rattle.arrayvec.specs.ArrayVec as array
 use Rattle.arrayvec.specs.ArrayVec.{ArrayVec, array_vec_len}
-use Rattle.ptpm_codec.proofs.BufferLaws.{refilled}
+use Rattle.ptpm_codec.proofs.OctetLaws.{refilled}
 use Rattle.ptpm_table.specs.contracts.slot.Slot as slot
 use Rattle.ptpm_table.specs.declared.slot.Slot.{Slot}
 

@@ -99,7 +99,7 @@ impl PlainTable {
         }
     }
 
-    #[tactic(auto, using(crate::proofs::Maps::get_entry))]
+    #[tactic(auto, using(crate::proofs::Identities::get_entry))]
     fn find(&self, who: &PortIdentity) -> Option<&Kept>
         ensures { option_copied result
             ≡ fin.get (fin.from_entries {R = identity_cmp} self.now.kept.entries) who.now }
@@ -141,7 +141,7 @@ impl ReplyTable for PlainTable {
         }
     }
 
-    #[tactic(auto, using(crate::proofs::Maps::one_entry))]
+    #[tactic(auto, using(crate::proofs::Identities::one_entry))]
     fn keep(
         &mut self,
         who: &PortIdentity,

@@ -1,2 +1,1 @@
-mod LineLemmas
 pub mod NextLine

@@ -79,7 +79,7 @@ impl<R: Read + Drop> LineReader<R> {
     }
 
     /// The text of the line that was read last; none if its octets are no UTF-8.
-    #[tactic(auto, using(crate::proofs::LineLemmas::text_laws))]
+    #[tactic(auto, using(crate::proofs::NextLine::text_laws))]
     pub fn text(&self) -> Option<&str>
         ensures text { IfSome result (λ text. text.now ≡ reader_line self.now) }
         ensures utf8 { is_utf8 (reader_line self.now) ≡ is_some result }
@@ -226,7 +226,7 @@ impl<R: Read + Drop> LineReader<R> {
 }
 
 /// The next octet of a reader that shows what it has read ahead; none at its end. What fails is not tried again.
-#[tactic(auto, using(crate::proofs::LineLemmas::next_octet_laws))]
+#[tactic(auto, using(crate::proofs::NextLine::next_octet_laws))]
 fn next_octet<B: BufRead>(reader: &mut B) -> Result<Option<u8>, LineReadError>
     ensures octet { IfOk result
         (λ o. Consumes (B.remaining reader.old) (B.remaining reader.new) (given o)) }

@@ -1,15 +1,18 @@
 -- The network that an accepted file describes is one of the network machine's.
-use Rattle.ptpm_world.proofs.Common.{suc, zero, arith, ◌≡◌, ℕ, ◌<◌, ◌==◌, Bool, true, false, ◌&&◌, ◌||◌, List, [], ◌∷◌, Some, refl, sym, ◌∙◌, length, map, if◌then◌else◌, ⊎_elim, and_parts, eqb-true, eq-eqb, or_cases, or_left, or_right, length-map, slice_get_within, slice_get, slice_index_or, AllByRecursion, filter, PortIdentity, same_identity, is_known, identities, HasEnd, configured, described, described_end, with_rights, AreSized, IsAccepted, IsEndOf, IsLinkOf, NetworkValue}
-use Rattle.ptpm_codec.proofs.IdentityLaws.{same_identity-true}
+use Rattle.ptpm_world.proofs.Common.{suc, zero, arith, ◌≡◌, ℕ, ◌<◌, ◌==◌, Bool, true, false, ◌&&◌, ◌||◌, List, [], ◌∷◌, Some, refl, sym, ◌∙◌, length, map, if◌then◌else◌, ⊎_elim, and_parts, eqb-true, eq-eqb, or_cases, or_left, or_right, length-map, slice_get_within, slice_get, slice_index_or, AllByRecursion, filter, PortIdentity, same_identity, is_known, identities, HasEnd, configured, described, described_end, with_rights, AreSized, IsAccepted, IsEndOf, IsLinkOf, NetworkValue, IsNetwork, IsOfText}
+use Rattle.ptpm_codec.proofs.MessageLaws.{same_identity-true}
 use Rattle.ptpm_table.proofs.Identities.{same_identity-refl}
-use Rattle.ptpm_network.specs.Network as machine
 use Rattle.ptpm_network.specs.Network.{IsLink}
 use Rattle.ptpm_network.proofs.Lists.{all_get, all_made}
 use Rattle.ptpm_script.specs.declared.network.End.{End}
-use Rattle.ptpm_script.specs.declared.network.End.TheVariants as ends
 use Rattle.ptpm_script.specs.declared.network.NetworkSession.{NetworkSession}
 use Rattle.ptpm_script.specs.NetworkValue.{CanStart, IsSessionOf}
 use Rattle.ptpm_world.specs.Described.{clock_at, no_clock, no_session, session_at}
+use Rattle.std.proofs.Props.{props}
+use mathlib.Core.Logic.{∥∥₁_elim}
+use Rattle.ptpm_script.proofs.NetworkLaw.{of_text-accepted, sized}
+use Rattle.ptpm_network.specs.Network as machine
+use Rattle.ptpm_script.specs.declared.network.End.TheVariants as ends
 
 -- ---- what is at a place
 
@@ -116,3 +119,14 @@ pub described-network : (n : NetworkValue)
     → AreSized n
     → machine.IsNetwork (described n)
 described-network n facts sized = grind (arith, there, of_place, target-starts, known-configured, known-place, described-links, length-map)
+
+-- ---- the network of every text is one of the network machine's, however the text is kept
+
+AreSized-prop : (n : NetworkValue) → IsProp (AreSized n)
+AreSized-prop n = hlevel props
+
+pub of_text-sized : (n : NetworkValue) → ∥ IsOfText n ∥₁ → AreSized n
+of_text-sized n t = ∥∥₁_elim t (AreSized-prop n) (λ s. sized s.0 n s.1)
+
+pub of_text-network : (n : NetworkValue) → ∥ IsOfText n ∥₁ → IsNetwork (described n)
+of_text-network n t = described-network n (of_text-accepted n t) (of_text-sized n t)

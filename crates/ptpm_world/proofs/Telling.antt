@@ -1,24 +1,64 @@
 -- What the lines of a trace say of the machine, if no delivery is late.
-use Rattle.ptpm_world.proofs.Common.{arith, ◌≡◌, ◌∙◌, ℕ, ◌<◌, ◌+◌, ◌++◌, ◌⊎◌, inl, inr, Bool, false, List, [], ◌∷◌, length, map, None, Some, Ok, Err, Option, Result, refl, sym, ap, subst, append_assoc, append-nil, length-append, length-map, same_Some, eq-eqb, option_map, result_err, AllByRecursion, Report, Deliver, IsInRange, Refusal, Retune, frame_at, no_room, refusal, AreInTime, is_late_delivery, step, AtSession, HasEnd, Network, Happened, Held, RunningNetwork, held, network_after, network_event, StandsAfter, Frame, NetworkState, initial_state, Names, placed, placed_all, Played, event_of, played, played_by, unless_fault, line_fault, after, answer, answer_of, error_of, took_of, event_line, event_text}
-use Rattle.std.specs.Prelude.{IfOk, ◌↔◌}
-use Rattle.ptpm_network.specs.Events as machine
-use Rattle.ptpm_network.specs.Events.{Replay, no_end, no_session}
+use Rattle.ptpm_world.proofs.Common.{◌≡◌, ℕ, List, Option, Some, None, refl, ◌∙◌, ap, option_map, SessionValue, PortIdentity, frame_at, StandsAfter, is_late_frame, run, Network, Stands, Held, RunningNetwork, held, Frame, NetworkState, Neither, Origin, ReplyTo, RequestOf, initial_state, is_late, is_late_at, is_late_held, is_late_of, arith, ◌<◌, ◌+◌, ◌++◌, ◌⊎◌, inl, inr, Bool, false, [], ◌∷◌, length, map, Ok, Err, Result, sym, subst, append_assoc, append-nil, length-append, length-map, same_Some, eq-eqb, result_err, AllByRecursion, Report, Deliver, IsInRange, Refusal, Retune, no_room, refusal, AreInTime, is_late_delivery, step, AtSession, HasEnd, Happened, network_after, network_event, Names, placed, placed_all, Played, event_of, played, played_by, unless_fault, line_fault, after, answer, answer_of, error_of, took_of, event_line, event_text}
+use Rattle.ptpm_network.specs.Invariant.{IsOfOrigin, IsReached}
 use Rattle.ptpm_network.specs.Machine.{state_after}
+use Rattle.ptpm_network.proofs.Held.{frame_at-map}
+use Rattle.ptpm_network.proofs.Promise.{first_of_sessions, firsts, stands-headline, stands-event, stands-judged, stands-refused}
+use Rattle.ptpm_network.proofs.Reaching.{frame_at-is, reached}
+use Rattle.std.specs.Prelude.{IfOk, ◌↔◌}
+use Rattle.ptpm_network.specs.Events.{Replay, no_end, no_session}
 use Rattle.ptpm_network.specs.Network.{End}
 use Rattle.ptpm_network.specs.RunningNetwork.{replays}
 use Rattle.ptpm_network.proofs.CarriedOut.{if_not_refused}
-use Rattle.ptpm_network.proofs.Held.{frame_at-map}
 use Rattle.ptpm_network.proofs.Lists.{with_place-same}
-use Rattle.ptpm_network.proofs.Promise.{first_of_sessions, firsts, stands-event, stands-headline, stands-judged, stands-refused}
-use Rattle.ptpm_network.proofs.Reaching.{frame_at-is}
-use Rattle.ptpm_network.proofs.Schedule.{reached}
 use Rattle.ptpm_network.proofs.Taking.{run-append}
 use Rattle.ptpm_script.specs.declared.event.Event.{Event}
 use Rattle.ptpm_world.specs.declared.script_error.ScriptError.{ScriptError}
 use Rattle.ptpm_world.specs.declared.took.Took.TheVariants.{Answered}
 use Rattle.ptpm_world.specs.MachineTrace.{IsMachineTrace, IsReported, Tells, TellsEvent}
 use Rattle.ptpm_world.specs.Trace.{is_late_event}
-use Rattle.ptpm_world.proofs.Lateness.{late-after}
+use Rattle.ptpm_network.specs.Events as machine
+
+-- ---- let a running network be where the machine is. A delivery is late by what the network sees if it is late in the machine
+
+late-origin : (N : Network) (first : ℕ → PortIdentity → ℕ) (r : RunningNetwork) (w : NetworkState)
+    (octets : List ℕ) (o : Origin)
+    → Stands N first r w
+    → IsOfOrigin N w octets o
+    → is_late_of r o ≡ is_late w o
+late-origin N first r w octets (RequestOf s k) at i = ap (λ (v : SessionValue). is_late_at k v.issued) (at.sessions s i.0)
+late-origin N first r w octets (ReplyTo s k) at i = ap (λ (v : SessionValue). is_late_at k v.issued) (at.sessions s i.0)
+late-origin N first r w octets Neither at i = refl
+
+late-frame : (N : Network) (first : ℕ → PortIdentity → ℕ) (r : RunningNetwork) (w : NetworkState)
+    (n : ℕ) (o : Option Frame)
+    → IsReached N w
+    → Stands N first r w
+    → frame_at w.frames n ≡ o → is_late_held r (option_map held o) ≡ is_late_frame w o
+late-frame N first r w n None reached at e = refl
+late-frame N first r w n (Some f) reached at e = late-origin N first r w f.octets f.origin at (frame_at-is N w n f reached e).origin
+
+pub late-after : (N : Network) (past : List machine.Event) (r : RunningNetwork) (n : ℕ)
+    → StandsAfter N past r
+    → is_late_held r (frame_at r.frames n)
+    ≡ is_late_frame (run N (initial_state N) past)
+    (frame_at (run N (initial_state N) past).frames n)
+late-after N past r n at =
+    let p = at.promised in
+    let w : NetworkState = run N (initial_state N) past in
+    let first : ℕ → PortIdentity → ℕ = first_of_sessions N N.sessions in
+    let there = at.stands first (firsts N p.network) in
+    ap (λ (hs : List Held). is_late_held r (frame_at hs n)) there.frames
+    ∙ ap (is_late_held r) (frame_at-map w.frames n)
+    ∙ late-frame N first r w n (frame_at w.frames n) (reached N past p.network p.in_range) there refl
+
+-- its frames are the machine's
+pub frame-after : (N : Network) (past : List machine.Event) (r : RunningNetwork) (n : ℕ)
+    → StandsAfter N past r
+    → frame_at r.frames n ≡ option_map held (frame_at (state_after N past).frames n)
+frame-after N past r n at =
+    ap (λ (hs : List Held). frame_at hs n) (stands-headline N past r at).frames
+    ∙ frame_at-map (state_after N past).frames n
 
 -- ---- what an event that happened did to reports
 

@@ -7,7 +7,6 @@ pub mod Placed
 pub mod Starting
 pub mod Took
 pub mod Stepping
-pub mod TookText
 pub mod Trace
 pub mod Lines
 pub mod ScriptError

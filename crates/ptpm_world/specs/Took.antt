@@ -1,18 +1,20 @@
 -- What a step answers.
-use Rattle.std.specs.Prelude.{List, [], ◌∷◌, Result, Ok, Err}
+use Rattle.std.specs.Prelude.{List, [], ◌∷◌, Result, Ok, Err, ℕ, ◌++◌, codes}
 use Rattle.ptpm_manager.specs.declared.error.BeginError.{BeginError}
-use Rattle.ptpm_manager.specs.declared.error.BeginError.TheVariants as begins
 use Rattle.ptpm_manager.specs.declared.receiving.Received.{Received}
-use Rattle.ptpm_manager.specs.declared.receiving.Received.TheVariants as received
 use Rattle.ptpm_manager.specs.declared.report.Report.{Report}
 use Rattle.ptpm_network.specs.Events.{Event, Refusal}
-use Rattle.ptpm_network.specs.Events as refusals
 use Rattle.ptpm_network.specs.Network.{Network}
 use Rattle.ptpm_network.specs.RunningNetwork.{Decided, Deed, Done, Happened, Heard, RunningNetwork, network_after, network_event}
 use Rattle.ptpm_world.specs.declared.took.StepError.{StepError}
-use Rattle.ptpm_world.specs.declared.took.StepError.TheVariants as errors
 use Rattle.ptpm_world.specs.declared.took.Took.{Took}
 use Rattle.ptpm_world.specs.declared.took.Took.TheVariants.{Fine, AtClock, Answered, Ignored}
+use Rattle.ptpm_agent.specs.VerdictText.{verdict_text}
+use Rattle.ptpm_manager.specs.ErrorText.{begin_error_text, reason_text, send_error_text}
+use Rattle.ptpm_manager.specs.declared.error.BeginError.TheVariants as begins
+use Rattle.ptpm_manager.specs.declared.receiving.Received.TheVariants as received
+use Rattle.ptpm_network.specs.Events as refusals
+use Rattle.ptpm_world.specs.declared.took.StepError.TheVariants as errors
 
 abbrev pub error_of : Refusal → StepError
 error_of refusals.NoSuchName = errors.NoSuchName
@@ -54,3 +56,21 @@ answer N r e = answer_of (network_event N r e)
 -- the network after it: a refused event changes nothing
 abbrev pub after : Network → RunningNetwork → Event → RunningNetwork
 after N r e = network_after r (network_event N r e)
+
+-- ---- how what an event did, and why one is refused, are written (this project's profile)
+
+abbrev pub took_text : Took → List ℕ
+took_text Fine = codes "ok"
+took_text (AtClock verdict) = verdict_text verdict
+took_text Answered = codes "Answered"
+took_text (Ignored reason) = codes "Ignored " ++ reason_text reason
+
+-- a session's own refusal has no name before it
+abbrev pub step_error_text : StepError → List ℕ
+step_error_text errors.NoSuchName = codes "NoSuchName"
+step_error_text errors.NoSuchFrame = codes "NoSuchFrame"
+step_error_text errors.Forged = codes "Forged"
+step_error_text errors.FramesAtMaximum = codes "FramesAtMaximum"
+step_error_text (errors.Begin error) = begin_error_text error
+step_error_text (errors.Send error) = send_error_text error
+step_error_text errors.OutOfMemory = codes "OutOfMemory"

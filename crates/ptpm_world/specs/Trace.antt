@@ -22,8 +22,7 @@ use Rattle.ptpm_world.specs.declared.took.StepError.TheVariants as errors
 use Rattle.ptpm_world.specs.declared.took.Took.{Took}
 use Rattle.ptpm_world.specs.Placed.{Names, placed}
 use Rattle.ptpm_world.specs.Running.{is_late_held}
-use Rattle.ptpm_world.specs.Took.{after, answer}
-use Rattle.ptpm_world.specs.TookText.{step_error_text, took_text}
+use Rattle.ptpm_world.specs.Took.{after, answer, step_error_text, took_text}
 
 abbrev pub line_feed : List ℕ
 line_feed = 10 ∷ []

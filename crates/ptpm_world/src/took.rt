@@ -21,7 +21,7 @@ pub enum Took {
 /// `ok`, a verdict's name, `Answered`, or `Ignored` and the reason.
 impl fmt::Display for Took {
     ghost use Rattle.std.specs.Prelude.{Some};
-    ghost use Rattle.ptpm_world.specs.TookText.{took_text};
+    ghost use Rattle.ptpm_world.specs.Took.{took_text};
 
     ghost output = { λ took. Some (took_text took) };
 
@@ -57,7 +57,7 @@ pub enum StepError {
 /// The name; a session's own refusal only by its name.
 impl fmt::Display for StepError {
     ghost use Rattle.std.specs.Prelude.{Some};
-    ghost use Rattle.ptpm_world.specs.TookText.{step_error_text};
+    ghost use Rattle.ptpm_world.specs.Took.{step_error_text};
 
     ghost output = { λ e. Some (step_error_text e) };
 

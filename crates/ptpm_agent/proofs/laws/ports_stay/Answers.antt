@@ -1,5 +1,5 @@
 use Rattle.ptpm_agent.proofs.AtMostOnce.{applied_once-ports}
-use Rattle.ptpm_agent.proofs.TurnKeeps.{turn-ports}
+use Rattle.ptpm_agent.proofs.Turns.{turn-ports}
 use Rattle.ptpm_agent.proofs.laws.ports_stay.Goals as goal
 
 pub returns-clause-in_turn : goal.returns-clause-in_turn

@@ -1,4 +1,4 @@
-use Rattle.ptpm_agent.proofs.CarriedOut.{kept-latest, kept-others, turn-carried, turns-carried}
+use Rattle.ptpm_agent.proofs.Entries.{kept-latest, kept-others, turn-carried, turns-carried}
 use Rattle.ptpm_agent.proofs.laws.requests_of_turns.Goals as goal
 
 pub returns-clause-one : goal.returns-clause-one

@@ -1,6 +1,6 @@
 use Rattle.std.proofs.Common.{◌≡◌, ◌∙◌, ap}
 use Rattle.ptpm_host.specs.Numbers.{verdict_number}
-use Rattle.ptpm_c.proofs.Placed.{blanked_places, unchanged_places}
+use Rattle.ptpm_c.proofs.HandedOut.{blanked_places, unchanged_places}
 use Rattle.ptpm_c.proofs.batching.decide.Goals as goal
 
 pub returns-in-Ok-clause-decided : goal.returns-in-Ok-clause-decided

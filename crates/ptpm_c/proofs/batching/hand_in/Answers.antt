@@ -2,7 +2,7 @@ use Rattle.std.proofs.Common.{◌≡◌, ◌∙◌, ◌||◌, ap}
 use Rattle.ptpm_agent.specs.declared.verdict.Verdict.{Verdict}
 use Rattle.ptpm_saved.specs.SavingClock.{is_new}
 use Rattle.ptpm_host.specs.Numbers.{verdict_number}
-use Rattle.ptpm_c.proofs.Placed.{unchanged_places}
+use Rattle.ptpm_c.proofs.HandedOut.{unchanged_places}
 use Rattle.ptpm_c.proofs.batching.hand_in.Goals as goal
 
 pub returns-in-Ok-clause-taken : goal.returns-in-Ok-clause-taken

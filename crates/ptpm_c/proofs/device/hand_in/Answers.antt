@@ -1,7 +1,7 @@
 use Rattle.std.proofs.Common.{◌∙◌, ap}
 use Rattle.ptpm_host.specs.Numbers.{verdict_number}
 use Rattle.ptpm_c.specs.declared.device.Taken.{Taken}
-use Rattle.ptpm_c.proofs.Placed.{placed}
+use Rattle.ptpm_c.proofs.HandedOut.{placed}
 use Rattle.ptpm_c.proofs.device.hand_in.Goals as goal
 
 pub returns-in-Ok-clause-changed : goal.returns-in-Ok-clause-changed

@@ -1,7 +1,7 @@
 use Rattle.std.proofs.Common.{rules, ◌≡◌, Some, refl, subst}
 use Rattle.ptpm_host.specs.declared.saving_clock.SavingClock.{SavingClock}
 use Rattle.ptpm_c.specs.Batching.{RefusesDecision}
-use Rattle.ptpm_c.proofs.Placed.{unchanged_places}
+use Rattle.ptpm_c.proofs.HandedOut.{unchanged_places}
 use Rattle.ptpm_c.proofs.device.ptpm_clock_decide.Goals as goal
 
 pub returns-clause-refused : goal.returns-clause-refused

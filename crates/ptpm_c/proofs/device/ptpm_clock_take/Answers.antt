@@ -3,7 +3,7 @@ use Rattle.ptpm_host.specs.declared.clock.HostedClock.{HostedClock}
 use Rattle.ptpm_host.specs.declared.saving_clock.SavingClock.{SavingClock}
 use Rattle.ptpm_c.specs.Batching.{RefusesCall, ReportsCall, TakesCall}
 use Rattle.ptpm_c.specs.Said.{RefusesSaid, ReportsSaid, TakesSaid}
-use Rattle.ptpm_c.proofs.Placed.{unchanged_places}
+use Rattle.ptpm_c.proofs.HandedOut.{unchanged_places}
 use Rattle.ptpm_c.proofs.device.ptpm_clock_take.Goals as goal
 
 pub returns-in-Clock-clause-turned : goal.returns-in-Clock-clause-turned

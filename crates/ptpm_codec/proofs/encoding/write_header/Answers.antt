@@ -3,7 +3,7 @@ use Rattle.byteorder.specs.Endian.{big_bytes}
 use Rattle.ptpm_codec.specs.Envelope.{written}
 use Rattle.ptpm_codec.specs.declared.message.Message.{Message}
 use Rattle.ptpm_codec.specs.Message.{PortIdentityFits, action_code}
-use Rattle.ptpm_codec.proofs.HeaderLaws.{by_place, header_written}
+use Rattle.ptpm_codec.proofs.CanonicalLaws.{by_place, header_written}
 use Rattle.ptpm_codec.proofs.encoding.write_header.Goals as goal
 
 pub returns-clause-source : goal.returns-clause-source

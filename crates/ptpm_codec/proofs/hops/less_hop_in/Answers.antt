@@ -3,7 +3,7 @@ use Rattle.std.specs.Prelude.{slice_set}
 use Rattle.std.proofs.lemmas.List.{length-take-le}
 use Rattle.ptpm_codec.specs.Layout.{message_length, message_octets, octet}
 use Rattle.ptpm_codec.specs.Reading.{IsWellFormed}
-use Rattle.ptpm_codec.proofs.PlaceLaws.{octet-take}
+use Rattle.ptpm_codec.proofs.OctetLaws.{octet-take}
 use Rattle.ptpm_codec.proofs.ReadingLaws.{message_size}
 use Rattle.ptpm_codec.proofs.hops.less_hop_in.Goals as goal
 

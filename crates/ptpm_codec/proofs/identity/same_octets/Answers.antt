@@ -1,5 +1,5 @@
 use Rattle.std.proofs.Common.{rules}
-use Rattle.ptpm_codec.proofs.IdentityLaws.{octets_by_number}
+use Rattle.ptpm_codec.proofs.MessageLaws.{octets_by_number}
 use Rattle.ptpm_codec.proofs.identity.same_octets.Goals as goal
 
 pub returns : goal.returns

@@ -1,6 +1,6 @@
 use Rattle.std.proofs.Common.{◌≡◌, ◌∙◌, ap, arith, length}
 use Rattle.ptpm_data.specs.Members.{DataSetsValue}
-use Rattle.ptpm_agent.proofs.TurnKeeps.{turn-ports}
+use Rattle.ptpm_agent.proofs.Turns.{turn-ports}
 use Rattle.ptpm_commands.proofs.answer.answer_datagram.Goals as goal
 
 pub returns-in_err-write_messages-clause-port : goal.returns-in_err-write_messages-clause-port

@@ -3,8 +3,7 @@ use Rattle.std.specs.Io.KnownBytes.{Appends}
 use Rattle.ptpm_commands.specs.Lines.{left_in}
 use Rattle.ptpm_commands.specs.Show.{AreShown, row_lines}
 use Rattle.ptpm_commands.specs.Taken.{ShowsNext, line_message}
-use Rattle.ptpm_commands.proofs.ShownLines.{passed-first, passed-next, passed-over, passed-shown}
-use Rattle.ptpm_commands.proofs.TakenLemmas.{all-good, is-fault}
+use Rattle.ptpm_commands.proofs.TakenLemmas.{passed-first, passed-next, passed-over, passed-shown, all-good, is-fault}
 use Rattle.ptpm_commands.proofs.show.show_good_lines_as.Goals as goal
 use Rattle.ptpm_commands.proofs.show.show_good_lines_as.Goals.{else-loop-number-test, in-Err+in_ok-flush-in-Err, in-Ok-true, then-loop-number-test+in-Ok-false}
 

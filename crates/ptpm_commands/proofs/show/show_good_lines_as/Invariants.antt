@@ -1,5 +1,5 @@
 use Rattle.ptpm_commands.specs.Lines.{left_in}
-use Rattle.ptpm_commands.proofs.ShownLines.{PassedSo}
+use Rattle.ptpm_commands.proofs.TakenLemmas.{PassedSo}
 use Rattle.ptpm_commands.proofs.show.show_good_lines_as.Given as goal
 
 -- the messages of the lines so far are shown

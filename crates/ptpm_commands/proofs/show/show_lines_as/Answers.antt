@@ -3,8 +3,7 @@ use Rattle.std.specs.Io.KnownBytes.{Appends}
 use Rattle.ptpm_commands.specs.Lines.{left_in}
 use Rattle.ptpm_commands.specs.Show.{AreShown, row_lines}
 use Rattle.ptpm_commands.specs.Taken.{ShowsNext, line_message}
-use Rattle.ptpm_commands.proofs.ShownLines.{so-first, so-next, so-shown}
-use Rattle.ptpm_commands.proofs.TakenLemmas.{all-taken, first-fault, handed-on}
+use Rattle.ptpm_commands.proofs.TakenLemmas.{so-first, so-next, so-shown, all-taken, first-fault, handed-on}
 use Rattle.ptpm_commands.proofs.show.show_lines_as.Goals as goal
 use Rattle.ptpm_commands.proofs.show.show_lines_as.Goals.{else-loop-number-test, then-loop-number-test+in_ok-show_next+then-not-branch}
 

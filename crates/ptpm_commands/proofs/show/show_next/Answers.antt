@@ -1,8 +1,7 @@
 use Rattle.std.proofs.Common.{refl, subst}
 use Rattle.ptpm_text.specs.Lines.{ReadsNext}
 use Rattle.ptpm_commands.specs.Lines.{latest_line, left_in, row_value}
-use Rattle.ptpm_commands.proofs.ShownLines.{shows-next}
-use Rattle.ptpm_commands.proofs.TakenLemmas.{next-last}
+use Rattle.ptpm_commands.proofs.TakenLemmas.{shows-next, next-last}
 use Rattle.ptpm_commands.proofs.show.show_next.Goals as goal
 
 pub returns-then-not-branch-clause-next : goal.returns-then-not-branch-clause-next

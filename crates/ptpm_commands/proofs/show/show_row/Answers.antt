@@ -1,5 +1,5 @@
 use Rattle.std.proofs.Common.{ap, map}
-use Rattle.ptpm_commands.proofs.ShownLines.{shows-row}
+use Rattle.ptpm_commands.proofs.TakenLemmas.{shows-row}
 use Rattle.ptpm_commands.proofs.show.show_row.Goals as goal
 
 pub returns-in-Ok-clause-shown : goal.returns-in-Ok-clause-shown

@@ -2,7 +2,7 @@ use Rattle.std.proofs.Common.{arith}
 use Rattle.std.proofs.lemmas.List.{get_or_default}
 use Rattle.std.proofs.lemmas.List.Edits.{map_over_more}
 use Rattle.ptpm_data.specs.PortChange.{port_after}
-use Rattle.ptpm_data.proofs.NamedPorts.{named_changed-every, named_changed-one, map_over_all}
+use Rattle.ptpm_data.proofs.ReplyLemmas.{named_changed-every, named_changed-one, map_over_all}
 use Rattle.ptpm_data.proofs.changes.change_named.Goals as goal
 
 pub loop-set-preserved : goal.loop-set-preserved

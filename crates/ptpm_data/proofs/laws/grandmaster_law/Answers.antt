@@ -11,7 +11,7 @@ use Rattle.ptpm_data.specs.SetField.{octet}
 use Rattle.ptpm_data.specs.Changes.{changed_by, grandmaster_changed, set_members}
 use Rattle.ptpm_data.specs.PrecedenceChange.{precedence_after}
 use Rattle.ptpm_data.specs.SetLaws.{IsAcceptedSet, MovesWithGrandmaster}
-use Rattle.ptpm_data.proofs.Setting.{set_changes}
+use Rattle.ptpm_data.proofs.OwnOctets.{set_changes}
 use Rattle.ptpm_data.specs.declared.members.Member.TheVariants as members
 use Rattle.ptpm_data.specs.declared.management_id.Layout.TheVariants as layouts
 use Rattle.ptpm_data.proofs.laws.grandmaster_law.Goals as goal

@@ -1,6 +1,6 @@
 use Rattle.std.proofs.Common.{arith, refl, rules}
 use Rattle.ptpm_data.specs.Observation.{ports_after}
-use Rattle.ptpm_data.proofs.Observing.{ports_step}
+use Rattle.ptpm_data.proofs.Observed.{ports_step}
 use Rattle.ptpm_data.proofs.observation.move_ports.Goals as goal
 
 pub loop-place-init : goal.loop-place-init

@@ -1,6 +1,5 @@
 use Rattle.ptpm_world.proofs.Common.{network_value}
-use Rattle.ptpm_draw.proofs.Choosing.{picture-numbers}
-use Rattle.ptpm_draw.proofs.Drawings.{shows, unread}
+use Rattle.ptpm_draw.proofs.Drawings.{picture-numbers, shows, unread}
 use Rattle.ptpm_draw.specs.Picture.{drawn_in}
 use Rattle.ptpm_draw.proofs.drawing.read_selection.Goals as goal
 

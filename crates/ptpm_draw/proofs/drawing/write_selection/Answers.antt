@@ -2,7 +2,7 @@ use Rattle.ptpm_world.proofs.Common.{ap, map, ◌∙◌}
 use Rattle.ptpm_draw.specs.declared.picture.EventRow.{EventRow}
 use Rattle.ptpm_draw.specs.declared.selection.Selection.{Selection}
 use Rattle.ptpm_world.specs.declared.whole_script.EventLine.{EventLine}
-use Rattle.ptpm_draw.proofs.Choosing.{shown-flushed}
+use Rattle.ptpm_draw.proofs.Drawings.{shown-flushed}
 use Rattle.ptpm_draw.proofs.drawing.write_selection.Goals as goal
 
 pub returns-clause-shown : goal.returns-clause-shown

@@ -1,6 +1,6 @@
 use Rattle.std.proofs.Common.{sym, ◌∙◌}
 use Rattle.ptpm_world.specs.Placed.{names_in, placed}
-use Rattle.ptpm_world.proofs.Answering.{answered}
+use Rattle.ptpm_world.proofs.Ending.{answered}
 use Rattle.ptpm_draw.proofs.picture.play_event.Goals as goal
 
 pub returns-clause-answer : goal.returns-clause-answer

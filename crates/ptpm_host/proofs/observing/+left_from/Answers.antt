@@ -1,6 +1,6 @@
 use Rattle.std.proofs.Common.{arith, ◌<◌, ◌≤◌}
 use Rattle.std.specs.Int.{from_bool}
-use Rattle.ptpm_host.proofs.LeftNumbers.{bit_small, in_word, twice_fits}
+use Rattle.ptpm_host.proofs.ObservedPlaces.{bit_small, in_word, twice_fits}
 use Rattle.ptpm_host.proofs.observing.+left_from.Goals as goal
 
 pub overflow_mul-result : goal.overflow_mul-result

@@ -4,7 +4,7 @@ use Rattle.std.proofs.lemmas.Grind.{common_steps}
 use Rattle.ptpm_saved.specs.SavingClock.{Datagram}
 use Rattle.ptpm_host.specs.UnderWay.{IsUnderWayImage, may_be_under_way, under_way_front, under_way_image}
 use Rattle.ptpm_host.proofs.UnderWay.{may_be_small}
-use Rattle.ptpm_host.proofs.UnderWayImages.{AreParts, put_together, taken_apart}
+use Rattle.ptpm_host.proofs.RestoredWith.{AreParts, put_together, taken_apart}
 use Rattle.ptpm_host.proofs.restoring.taken_apart.Goals as goal
 
 parts : (ports : ℕ) (x : Datagram) (clock image : List ℕ) → IsUnderWayImage ports x clock image → AreParts x clock image

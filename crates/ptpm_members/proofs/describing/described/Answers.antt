@@ -1,6 +1,6 @@
 use Rattle.std.proofs.Common.{arith, ◌≡◌, ◌∙◌, ap, sym, ℕ, List, ◌++◌, length}
 use Rattle.std.proofs.lemmas.Bool.{eqb-true}
-use Rattle.ptpm_members.proofs.Meant.{described_all, meant_end, too_long}
+use Rattle.ptpm_members.proofs.ParsingLemmas.{described_all, meant_end, too_long}
 use Rattle.ptpm_members.proofs.describing.described.Goals as goal
 
 pub returns-then-is_full : goal.returns-then-is_full

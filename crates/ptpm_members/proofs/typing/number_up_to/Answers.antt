@@ -1,5 +1,5 @@
 use Rattle.std.proofs.Common.{sym, ◌∙◌, arith}
-use Rattle.ptpm_members.proofs.Numerals.{number_read, number_unread, small_if_some, with_plus}
+use Rattle.ptpm_members.proofs.ParsingLemmas.{number_read, number_unread, small_if_some, with_plus}
 use Rattle.ptpm_members.proofs.typing.number_up_to.Goals as goal
 
 pub returns-then-has_plus-clause-value : goal.returns-then-has_plus-clause-value

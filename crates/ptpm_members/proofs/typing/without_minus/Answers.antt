@@ -1,6 +1,6 @@
 use Rattle.std.proofs.Common.{arith}
 use Rattle.std.proofs.lemmas.Str.Pattern.{strip_prefix_char}
-use Rattle.ptpm_members.proofs.Numerals.{stripped}
+use Rattle.ptpm_members.proofs.ParsingLemmas.{stripped}
 use Rattle.ptpm_members.proofs.typing.without_minus.Goals as goal
 
 pub returns : goal.returns

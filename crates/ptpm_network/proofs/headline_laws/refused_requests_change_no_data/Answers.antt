@@ -1,4 +1,4 @@
-use Rattle.ptpm_network.proofs.Unchanged.{refused-copy, refused-leaves}
+use Rattle.ptpm_network.proofs.Standing.{refused-copy, refused-leaves}
 use Rattle.ptpm_network.proofs.headline_laws.refused_requests_change_no_data.Goals as goal
 use Rattle.ptpm_network.proofs.Arriving.{history-here}
 use Rattle.ptpm_network.proofs.Common.{◌∙◌, after_arrival, history, ap}

@@ -1,6 +1,5 @@
 use Rattle.ptpm_network.proofs.laws.answers_by_octets.Goals as goal
-use Rattle.ptpm_network.proofs.Schedule.{reached}
-use Rattle.ptpm_network.proofs.Reaching.{frame_at-is}
+use Rattle.ptpm_network.proofs.Reaching.{reached, frame_at-is}
 use Rattle.ptpm_network.proofs.Common.{NetworkState, subst, HasEnd, run, initial_state}
 use Rattle.ptpm_network.proofs.Receiving.{received-as_reported}
 

@@ -2,9 +2,8 @@ use Rattle.ptpm_network.proofs.Standing.{stands-initial_state, stands-turned}
 use Rattle.ptpm_network.proofs.laws.clocks_stand.Goals as goal
 use Rattle.ptpm_network.proofs.Frames.{heard-frame}
 use Rattle.ptpm_network.proofs.Common.{initial_state, NetworkState, run, subst, HasEnd}
-use Rattle.ptpm_network.proofs.Reaching.{frame_at-is}
-use Rattle.ptpm_network.proofs.Schedule.{reached}
-use Rattle.ptpm_network.proofs.InTime.{in_window}
+use Rattle.ptpm_network.proofs.Reaching.{frame_at-is, reached}
+use Rattle.ptpm_network.proofs.Running.{in_window}
 
 pub returns-clause-first : goal.returns-clause-first
 returns-clause-first c = stands-initial_state

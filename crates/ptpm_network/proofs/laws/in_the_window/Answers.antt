@@ -1,9 +1,8 @@
-use Rattle.ptpm_network.proofs.InTime.{copies-in_window, copies-numbered, in_window}
+use Rattle.ptpm_network.proofs.Running.{copies-in_window, copies-numbered, in_window}
 use Rattle.ptpm_network.proofs.laws.in_the_window.Goals as goal
 use Rattle.ptpm_network.proofs.Common.{subst, NetworkState, run, initial_state, sets_once, HasEnd}
-use Rattle.ptpm_network.proofs.Reaching.{frame_at-is}
+use Rattle.ptpm_network.proofs.Reaching.{frame_at-is, reached}
 use Rattle.ptpm_network.proofs.Frames.{heard-frame}
-use Rattle.ptpm_network.proofs.Schedule.{reached}
 
 -- a frame that was sent
 pub returns-clause-copy : goal.returns-clause-copy

@@ -1,7 +1,7 @@
 use Rattle.ptpm_network.proofs.laws.one_request_at_a_time.Goals as goal
 use Rattle.ptpm_network.proofs.Common.{ℕ, zero, suc, manager, ◌≡◌, run, Some, accepted_at_target, initial_state, kept_reply, arith, NetworkState, le_trans, ◌<◌, None, Accepted, Network}
 use Rattle.ptpm_network.proofs.Accepting.{kept-le}
-use Rattle.ptpm_network.proofs.Schedule.{reached}
+use Rattle.ptpm_network.proofs.Reaching.{reached}
 
 pub returns-clause-accepted_begun : goal.returns-clause-accepted_begun
 returns-clause-accepted_begun c = λ N es s n i place. ((reached N es n i).sessions s place).begun_before

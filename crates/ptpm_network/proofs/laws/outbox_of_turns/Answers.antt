@@ -1,4 +1,4 @@
-use Rattle.ptpm_network.proofs.Turning.{turn-answers, turn-passes_on}
+use Rattle.ptpm_network.proofs.Posting.{turn-answers, turn-passes_on}
 use Rattle.ptpm_network.proofs.laws.outbox_of_turns.Goals as goal
 
 pub returns-clause-forwards : goal.returns-clause-forwards

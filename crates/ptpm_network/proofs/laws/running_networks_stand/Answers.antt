@@ -1,5 +1,5 @@
 use Rattle.ptpm_network.proofs.Running.{follows, network_run-running}
-use Rattle.ptpm_network.proofs.Schedule.{reached}
+use Rattle.ptpm_network.proofs.Reaching.{reached}
 use Rattle.ptpm_network.proofs.laws.running_networks_stand.Goals as goal
 
 pub returns-clause-refused : goal.returns-clause-refused

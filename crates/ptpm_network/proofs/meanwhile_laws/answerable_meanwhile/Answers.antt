@@ -1,12 +1,11 @@
 use Rattle.ptpm_network.proofs.Answerable.{answerable-alone}
-use Rattle.ptpm_network.proofs.Resuming.{ready-answerable}
+use Rattle.ptpm_network.proofs.Reporting.{ready-answerable, reports-run}
 use Rattle.ptpm_network.proofs.meanwhile_laws.answerable_meanwhile.Goals as goal
 use Rattle.ptpm_network.proofs.Promise.{firsts, first_of_sessions}
 use Rattle.ptpm_network.proofs.Common.{NetworkState, PortIdentity, subst, initial_state, ℕ, Stands, run, network_run, AreFirsts}
-use Rattle.ptpm_network.proofs.Schedule.{reached}
+use Rattle.ptpm_network.proofs.Reaching.{reached}
 use Rattle.ptpm_network.proofs.Taking.{taken-in_time}
 use Rattle.ptpm_network.proofs.Running.{network_run-stands}
-use Rattle.ptpm_network.proofs.Reporting.{reports-run}
 
 pub returns-clause-answered : goal.returns-clause-answered
 returns-clause-answered c = ready-answerable

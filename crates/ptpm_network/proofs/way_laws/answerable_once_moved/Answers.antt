@@ -1,4 +1,4 @@
-use Rattle.ptpm_network.proofs.Resuming.{taken-moved, taken-resumed, moving, answerable-after, runs-after, both-ready, resumed-ready, retuned-ready}
+use Rattle.ptpm_network.proofs.Reporting.{taken-moved, taken-resumed, moving, answerable-after, runs-after, both-ready, resumed-ready, retuned-ready}
 use Rattle.ptpm_network.proofs.way_laws.answerable_once_moved.Goals as goal
 use Rattle.ptpm_network.proofs.Common.{Retune, [], ◌∷◌, refl, Resume}
 use Rattle.ptpm_network.specs.Machine.{state_after}

@@ -1,8 +1,7 @@
 use Rattle.ptpm_network.proofs.Exchanging.{delivery-taken, delivery-step, reports-answer, replied}
 use Rattle.ptpm_network.proofs.way_laws.one_copy_each_way.Goals as goal
 use Rattle.ptpm_network.proofs.Common.{HasReplied, run, issued, sym, HasReported, arith, subst, le-ltb, NetworkState, AtSession, ◌+◌, AtPort, initial_state, IsForOne, ◌-◌}
-use Rattle.ptpm_network.proofs.Schedule.{reached}
-use Rattle.ptpm_network.proofs.Reaching.{frame_at-is}
+use Rattle.ptpm_network.proofs.Reaching.{reached, frame_at-is}
 
 pub returns-clause-in_time : goal.returns-clause-in_time
 returns-clause-in_time c = λ w s. let now = le-ltb (issued w s + 32768) (issued w s) (omega arith) in (now, now)

@@ -1,7 +1,7 @@
 use Rattle.ptpm_network.proofs.Worth.{report-index, report-worth, begins-busy, at_most_once}
 use Rattle.ptpm_network.proofs.worth_laws.reported_exactly_once.Goals as goal
 use Rattle.ptpm_network.proofs.Common.{run, arith, initial_state}
-use Rattle.ptpm_network.proofs.Schedule.{reached}
+use Rattle.ptpm_network.proofs.Reaching.{reached}
 use Rattle.ptpm_network.specs.Machine.{state_after}
 
 pub returns-clause-in_order : goal.returns-clause-in_order

@@ -5,7 +5,7 @@ use Rattle.ptpm_data.specs.ManagementId.{is_of_port}
 use Rattle.ptpm_data.specs.Reply.{Answer, answer_of}
 use Rattle.ptpm_data.specs.Request.{RequestValue}
 use Rattle.ptpm_table.specs.Entries.{FitsAnswer}
-use Rattle.ptpm_table.proofs.ListLemmas.{All-unmap}
+use Rattle.ptpm_table.proofs.KeptMessageLaws.{All-unmap}
 use Rattle.std.proofs.lemmas.List.Elements.{All-map}
 use Rattle.ptpm_saved.proofs.ReadingLemmas.{keepable_reply, not_fitting, reply_there}
 use Rattle.ptpm_saved.proofs.entry_reading.read_reply.Goals as goal

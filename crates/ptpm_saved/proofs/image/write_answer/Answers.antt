@@ -1,7 +1,6 @@
 use Rattle.std.proofs.Common.{◌∙◌, ap, arith, length-append}
 use Rattle.ptpm_table.specs.Lending.{lent_outcome}
-use Rattle.ptpm_saved.specs.Image.{answer_image, outcome_image, port_octets}
-use Rattle.ptpm_saved.specs.Written.{over}
+use Rattle.ptpm_saved.specs.Image.{answer_image, outcome_image, port_octets, over}
 use Rattle.ptpm_saved.proofs.WrittenLemmas.{over_on}
 use Rattle.ptpm_saved.proofs.image.write_answer.Goals as goal
 

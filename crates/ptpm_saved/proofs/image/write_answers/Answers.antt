@@ -2,8 +2,7 @@ use Rattle.std.proofs.Common.{◌≡◌, ◌∷◌, ◌++◌, ◌∙◌, [], Lis
 use Rattle.ptpm_data.specs.ManagementId.{is_of_port}
 use Rattle.ptpm_data.specs.Reply.{Answer}
 use Rattle.ptpm_table.specs.Lending.{lent_answer}
-use Rattle.ptpm_saved.specs.Image.{answer_image, answers_image}
-use Rattle.ptpm_saved.specs.Written.{over}
+use Rattle.ptpm_saved.specs.Image.{answer_image, answers_image, over}
 use Rattle.ptpm_saved.proofs.ImageLemmas.{answer_at, answer_small, next_answer, no_answers}
 use Rattle.ptpm_saved.proofs.WrittenLemmas.{over_none, over_on}
 use Rattle.ptpm_saved.proofs.image.write_answers.Goals as goal

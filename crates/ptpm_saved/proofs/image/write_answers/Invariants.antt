@@ -1,7 +1,6 @@
 use Rattle.std.proofs.Common.{◌≡◌, ◌+◌, ◌++◌, List, length}
 use Rattle.ptpm_data.specs.Reply.{Answer}
-use Rattle.ptpm_saved.specs.Image.{answers_image}
-use Rattle.ptpm_saved.specs.Written.{over}
+use Rattle.ptpm_saved.specs.Image.{answers_image, over}
 use Rattle.ptpm_saved.proofs.image.write_answers.Given as goal
 
 abbrev pub invariant-loop-answer : goal.invariant-loop-answer

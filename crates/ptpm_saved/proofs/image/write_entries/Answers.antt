@@ -2,8 +2,7 @@ use Rattle.std.proofs.Common.{◌≡◌, ◌+◌, ◌*◌, ◌<◌, ◌≤◌, �
 use Rattle.std.proofs.lemmas.List.{take_all}
 use Rattle.std.specs.FinMap.{entries}
 use Rattle.ptpm_saved.specs.declared.image.TheConstants.{ENTRY_OCTETS}
-use Rattle.ptpm_saved.specs.Image.{entries_image, entry_image}
-use Rattle.ptpm_saved.specs.Written.{over}
+use Rattle.ptpm_saved.specs.Image.{entries_image, entry_image, over}
 use Rattle.ptpm_saved.proofs.ImageLemmas.{entry_given, entry_small, no_entries}
 use Rattle.ptpm_saved.proofs.WrittenLemmas.{over_none, over_on}
 use Rattle.ptpm_saved.proofs.image.write_entries.Goals as goal

@@ -1,8 +1,7 @@
 use Rattle.std.proofs.Common.{◌≡◌, ◌+◌, ◌*◌, ◌≤◌, length, take}
 use Rattle.std.specs.FinMap.{entries}
 use Rattle.ptpm_saved.specs.declared.image.TheConstants.{ENTRY_OCTETS}
-use Rattle.ptpm_saved.specs.Image.{entries_image}
-use Rattle.ptpm_saved.specs.Written.{over}
+use Rattle.ptpm_saved.specs.Image.{entries_image, over}
 use Rattle.ptpm_saved.proofs.image.write_entries.Given as goal
 
 abbrev pub invariant-loop-index : goal.invariant-loop-index

@@ -1,6 +1,5 @@
 use Rattle.std.proofs.Common.{[], ◌∷◌, ◌∙◌, ap, arith, length}
-use Rattle.ptpm_saved.specs.Image.{answers_image}
-use Rattle.ptpm_saved.specs.Written.{over}
+use Rattle.ptpm_saved.specs.Image.{answers_image, over}
 use Rattle.ptpm_saved.proofs.ImageLemmas.{entry_length, entry_parts}
 use Rattle.ptpm_saved.proofs.WrittenLemmas.{four_written}
 use Rattle.ptpm_saved.proofs.image.write_entry.Goals as goal

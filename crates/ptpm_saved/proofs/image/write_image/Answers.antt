@@ -4,9 +4,7 @@ use Rattle.ptpm_data.specs.Image.{data_sets_octets}
 use Rattle.ptpm_agent.specs.Agent.{state_of}
 use Rattle.ptpm_manager.specs.Image.{image_head}
 use Rattle.ptpm_saved.specs.declared.image.TheConstants.{ENTRY_OCTETS}
-use Rattle.ptpm_saved.specs.Image.{clock_image, entries_image}
-use Rattle.ptpm_saved.specs.Widest.{widest}
-use Rattle.ptpm_saved.specs.Written.{over}
+use Rattle.ptpm_saved.specs.Image.{clock_image, entries_image, widest, over}
 use Rattle.ptpm_saved.proofs.ImageLemmas.{has_room, head_length, put_together, sets_small, size_is, widest_is}
 use Rattle.ptpm_saved.proofs.WrittenLemmas.{all_written}
 use Rattle.ptpm_saved.proofs.image.write_image.Goals as goal

@@ -3,9 +3,8 @@ use Rattle.ptpm_saved.specs.Saving.{IsAsIfPowered}
 use Rattle.ptpm_saved.specs.SavingClock.{CanBe, clock_process}
 use Rattle.ptpm_saved.specs.Batching.{all_events, begun}
 use Rattle.ptpm_saved.specs.BatchingClock.{is_of_manager}
-use Rattle.ptpm_saved.proofs.SavingClockLaws.{clock_as_if_powered, clock_sound}
-use Rattle.ptpm_saved.proofs.BatchingLaws.{as_the_device}
-use Rattle.ptpm_saved.proofs.BatchingClockLaws.{by_sets_alone, holds_changes}
+use Rattle.ptpm_saved.proofs.SavingLaws.{clock_as_if_powered, clock_sound}
+use Rattle.ptpm_saved.proofs.BatchingLaws.{as_the_device, by_sets_alone, holds_changes}
 use Rattle.ptpm_saved.proofs.laws.batching_clock_law.Goals as goal
 
 pub returns-clause-device : goal.returns-clause-device

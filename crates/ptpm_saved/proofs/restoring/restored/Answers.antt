@@ -4,7 +4,7 @@ use Rattle.ptpm_data.specs.Members.{DataSetsValue}
 use Rattle.ptpm_saved.specs.Image.{saved_of}
 use Rattle.ptpm_saved.specs.Restoring.{IsImageOf, kept_of, let_go}
 use Rattle.ptpm_saved.proofs.BodyLemmas.{image_taken}
-use Rattle.ptpm_saved.proofs.KeptAll.{kept_all, none_gone}
+use Rattle.ptpm_saved.proofs.EntryOrder.{kept_all, none_gone}
 use Rattle.ptpm_saved.proofs.restoring.restored.Goals as goal
 
 pub put_back_judged-requires-clause-judged : goal.put_back_judged-requires-clause-judged

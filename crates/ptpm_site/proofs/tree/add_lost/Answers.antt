@@ -5,14 +5,14 @@ use Rattle.std.proofs.lemmas.Option.{same_Some}
 use Rattle.std.specs.List.{Contains}
 use Rattle.std.specs.Option.{option_eq}
 use Rattle.ptpm_codec.specs.Identity.{same_identity}
-use Rattle.ptpm_codec.proofs.IdentityLaws.{same_identity-true}
+use Rattle.ptpm_codec.proofs.MessageLaws.{same_identity-true}
 use Rattle.ptpm_codec.specs.declared.identity.PortIdentity.{PortIdentity}
 use Rattle.ptpm_site.specs.declared.tree.forest.Lost.{Lost}
 use Rattle.ptpm_site.specs.declared.tree.TreeRow.{TreeRow}
 use Rattle.ptpm_site.specs.declared.tree.TreeRow.TheVariants as row
 use Rattle.ptpm_site.specs.declared.tree.builder.TreeBuilder.{TreeBuilder}
 use Rattle.ptpm_site.specs.Tree.{IsAbove}
-use Rattle.ptpm_site.proofs.Below.{IsAbove-last}
+use Rattle.ptpm_site.proofs.Rows.{IsAbove-last}
 use Rattle.ptpm_site.proofs.tree.add_lost.Goals as goal
 use Rattle.ptpm_site.proofs.tree.add_lost.Goals.{then-ne+in_ok-add_not_seen, else-ne}
 

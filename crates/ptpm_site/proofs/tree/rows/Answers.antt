@@ -1,7 +1,7 @@
 -- There are no rows at first.
 use Rattle.std.proofs.Common.{subst, sym}
 use Rattle.ptpm_site.specs.Growing.{AreTrue, IsFollowedIn}
-use Rattle.ptpm_site.proofs.Below.{AreBelow-none}
+use Rattle.ptpm_site.proofs.Rows.{AreBelow-none}
 use Rattle.ptpm_site.proofs.tree.rows.Goals as goal
 
 pub loop-place-init : goal.loop-place-init

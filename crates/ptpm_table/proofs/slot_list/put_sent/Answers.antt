@@ -7,7 +7,7 @@ use Rattle.ptpm_table.specs.KeptMessages.{KeptValue}
 use Rattle.ptpm_table.specs.Sending.{IsSentReply}
 use Rattle.ptpm_table.specs.Slots.{used}
 use Rattle.ptpm_table.specs.declared.slot.Slot.{Slot}
-use Rattle.ptpm_codec.proofs.IdentityLaws.{same_identity-true}
+use Rattle.ptpm_codec.proofs.MessageLaws.{same_identity-true}
 use Rattle.ptpm_table.specs.Entries.{Entry}
 use Rattle.ptpm_table.proofs.LendingLaws.{few_set, keepable_set, room_at, room_set, sent_count, sent_fits}
 use Rattle.ptpm_table.proofs.Slots.{clock_at, clocks_set, configured_set, entries_set, has_place}

@@ -1,6 +1,6 @@
 use Rattle.ptpm_world.proofs.Common.{◌≡◌, false, Some, sym, ap, ◌∙◌, option_map, option_or, result_err, reading, is_skipped}
 use Rattle.ptpm_world.specs.Lines.{latest_line}
-use Rattle.ptpm_world.proofs.Checking.{bad-event}
+use Rattle.ptpm_world.proofs.ScriptLemmas.{bad-event}
 use Rattle.ptpm_world.proofs.findings.check_event.Goals as goal
 
 pub returns-in_ok-writeln-clause-first : goal.returns-in_ok-writeln-clause-first

@@ -1,5 +1,5 @@
 use Rattle.ptpm_world.proofs.Common.{◌+◌, true, Ok, refl, ap, ◌∙◌, arith, option_or, result_err, left_in, event_of, text_fault}
-use Rattle.ptpm_world.proofs.Checking.{checks-more}
+use Rattle.ptpm_world.proofs.ScriptLemmas.{checks-more}
 use Rattle.ptpm_world.proofs.Playing.{next-is}
 use Rattle.ptpm_world.specs.Lines.{latest_line, line_count}
 use Rattle.ptpm_world.proofs.findings.check_events.Goals as goal

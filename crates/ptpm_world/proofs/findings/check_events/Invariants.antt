@@ -1,6 +1,6 @@
 use Rattle.ptpm_world.proofs.Common.{◌≤◌, ◌+◌, ◌-◌, left_in}
 use Rattle.ptpm_world.specs.Findings.{IsCounted}
-use Rattle.ptpm_world.proofs.Checking.{ChecksOn}
+use Rattle.ptpm_world.proofs.ScriptLemmas.{ChecksOn}
 use Rattle.ptpm_world.specs.Lines.{line_count}
 use Rattle.ptpm_world.proofs.findings.check_events.Given as goal
 

@@ -1,6 +1,6 @@
 use Rattle.ptpm_world.proofs.Common.{◌+◌, ap, ◌∙◌, option_map, result_err, string_bytes, network_of, left_in}
 use Rattle.ptpm_world.specs.Lines.{line_count}
-use Rattle.ptpm_world.proofs.Checking.{script-first}
+use Rattle.ptpm_world.proofs.ScriptLemmas.{script-first}
 use Rattle.ptpm_world.proofs.findings.check_lines.Goals as goal
 use Rattle.ptpm_world.specs.declared.script_error.ScriptError.TheVariants.{BadNetwork}
 

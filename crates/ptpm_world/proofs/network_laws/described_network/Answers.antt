@@ -1,4 +1,4 @@
-use Rattle.ptpm_world.proofs.NetworkFacts.{of_text-network}
+use Rattle.ptpm_world.proofs.DescribedLaws.{of_text-network}
 use Rattle.ptpm_world.proofs.network_laws.described_network.Goals as goal
 
 pub returns : goal.returns

@@ -1,6 +1,5 @@
 use Rattle.ptpm_world.proofs.DescribedLaws.{described-network}
-use Rattle.ptpm_script.proofs.NetworkLaw.{accepted}
-use Rattle.ptpm_script.proofs.SizeLaw.{sized}
+use Rattle.ptpm_script.proofs.NetworkLaw.{accepted, sized}
 use Rattle.ptpm_world.proofs.network_laws.described_networks.Goals as goal
 
 pub returns : goal.returns

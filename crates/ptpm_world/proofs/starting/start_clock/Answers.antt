@@ -1,6 +1,6 @@
 use Rattle.ptpm_world.proofs.Common.{ap, arith, refl, rules, sym, subst, ◌≡◌, ◌≤◌, false, length, ◌∙◌, has_twice, identities, clock_value, network_value, RunningClock, configured, agent_clock}
 use Rattle.ptpm_table.specs.Managers.{Clock}
-use Rattle.ptpm_script.proofs.NetworkFacts.{of_text-accepted}
+use Rattle.ptpm_script.proofs.NetworkLaw.{of_text-accepted}
 use Rattle.ptpm_world.proofs.StartingLemmas.{changed_last, clock_is, few_managers, is_last, none_twice, pushed_on, read_at, started_clock, starts_at, value_at}
 use Rattle.ptpm_world.proofs.starting.start_clock.Goals as goal
 

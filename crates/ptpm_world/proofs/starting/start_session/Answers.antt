@@ -2,7 +2,7 @@ use Rattle.ptpm_world.proofs.Common.{◌≡◌, ◌<◌, ℕ, Some, ap, ◌∙�
 use Rattle.ptpm_script.specs.declared.network.Network.{Network}
 use Rattle.ptpm_script.specs.declared.network.NetworkSession.{NetworkSession}
 use Rattle.ptpm_script.specs.NetworkValue.{CanStart}
-use Rattle.ptpm_script.proofs.NetworkFacts.{of_text-accepted}
+use Rattle.ptpm_script.proofs.NetworkLaw.{of_text-accepted}
 use Rattle.ptpm_world.proofs.StartingLemmas.{clock_is, read_at, session_at_clock, started_session, starts_at, two_clocks, value_at}
 use Rattle.ptpm_world.specs.Described.{no_session}
 use Rattle.ptpm_world.proofs.DescribedLaws.{at_place}

@@ -1,6 +1,5 @@
 use Rattle.ptpm_world.proofs.Common.{◌≡◌, ℕ, ◌<◌, List, arith, subst, length, get_or, ap, ◌∙◌, flat_map, Appends, Appends-nil, TakesFirst, take_all, RunningClock, clock_lines}
-use Rattle.ptpm_world.proofs.Taking.{writes-err}
-use Rattle.ptpm_world.proofs.TraceLemmas.{data-written, written-cut, written-more}
+use Rattle.ptpm_world.proofs.Taking.{writes-err, data-written, written-cut, written-more}
 use Rattle.ptpm_world.proofs.trace.write_data_sets.Goals as goal
 
 pub loop-clock-init : goal.loop-clock-init

@@ -1,5 +1,5 @@
 use Rattle.ptpm_world.proofs.Common.{arith, ℕ, List, ap, refl, sym, subst, ◌∙◌, TakesFirst, event_text}
-use Rattle.ptpm_world.proofs.Answering.{answered, line-said}
+use Rattle.ptpm_world.proofs.Ending.{answered, line-said}
 use Rattle.ptpm_world.proofs.Taking.{takes-none, writes-err}
 use Rattle.ptpm_world.proofs.trace.write_event.Goals as goal
 

@@ -1,6 +1,5 @@
 use Rattle.ptpm_world.proofs.Common.{◌≡◌, ℕ, ◌<◌, List, arith, subst, length, get_or, ap, ◌∙◌, flat_map, Appends, Appends-nil, TakesFirst, take_all, RunningSession, report_line, session_lines}
-use Rattle.ptpm_world.proofs.Taking.{writes-err}
-use Rattle.ptpm_world.proofs.TraceLemmas.{reports-written, written-cut, written-more}
+use Rattle.ptpm_world.proofs.Taking.{writes-err, reports-written, written-cut, written-more}
 use Rattle.ptpm_world.proofs.trace.write_reports.Goals as goal
 
 pub loop-session-init : goal.loop-session-init

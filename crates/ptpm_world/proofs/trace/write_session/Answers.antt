@@ -1,6 +1,5 @@
 use Rattle.ptpm_world.proofs.Common.{arith, flat_map, Appends-nil, take_all}
-use Rattle.ptpm_world.proofs.Taking.{writes-err}
-use Rattle.ptpm_world.proofs.TraceLemmas.{written-cut, written-more}
+use Rattle.ptpm_world.proofs.Taking.{writes-err, written-cut, written-more}
 use Rattle.ptpm_world.proofs.trace.write_session.Goals as goal
 
 pub loop-report-init : goal.loop-report-init

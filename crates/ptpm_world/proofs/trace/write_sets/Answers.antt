@@ -1,6 +1,5 @@
 use Rattle.ptpm_world.proofs.Common.{arith, flat_map, Appends-nil, Appends-trans}
-use Rattle.ptpm_world.proofs.Taking.{takes-after, takes-front, writes-err}
-use Rattle.ptpm_world.proofs.TraceLemmas.{ports-cut, ports-more}
+use Rattle.ptpm_world.proofs.Taking.{takes-after, takes-front, writes-err, ports-cut, ports-more}
 use Rattle.ptpm_world.proofs.trace.write_sets.Goals as goal
 
 pub loop-port-init : goal.loop-port-init

@@ -3,15 +3,13 @@ use Rattle.std.specs.FinMap.{insert}
 use Rattle.ptpm_codec.specs.Message.{reply_action}
 use Rattle.ptpm_data.specs.Changes.{changed_by}
 use Rattle.ptpm_data.specs.Replies.{reply_to}
-use Rattle.ptpm_data.proofs.AnswerCounts.{new_few}
-use Rattle.ptpm_data.proofs.Answering.{reply_to-parts}
+use Rattle.ptpm_data.proofs.Answering.{new_few, reply_to-parts}
 use Rattle.ptpm_table.specs.Rendering.{rendered}
 use Rattle.ptpm_agent.specs.Addressing.{heard_of}
 use Rattle.ptpm_agent.specs.Agent.{state_of}
 use Rattle.ptpm_agent.specs.Turn.{new_reply}
-use Rattle.ptpm_agent.proofs.Fitting.{fits_numbered}
+use Rattle.ptpm_agent.proofs.SentReplies.{fits_numbered, sender_as_made, sent_rendered, sent_reply}
 use Rattle.ptpm_agent.proofs.MostSent.{rendered_count}
-use Rattle.ptpm_agent.proofs.SentReplies.{sender_as_made, sent_rendered, sent_reply}
 use Rattle.ptpm_agent.proofs.Turns.{new_parts}
 use Rattle.ptpm_agent.proofs.agent.Agent.accept.Goals as goal
 

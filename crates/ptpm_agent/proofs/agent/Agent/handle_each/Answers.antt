@@ -7,7 +7,7 @@ use Rattle.ptpm_agent.specs.Once.{History, applied_once, copies}
 use Rattle.ptpm_agent.specs.Turn.{State, outbox_of, turn}
 use Rattle.ptpm_agent.proofs.Deliveries.{outbox_due-at, stands_turns}
 use Rattle.ptpm_agent.proofs.Lists.{after_each-append, after_each-datagrams, datagrams_of-append, last_sent-append}
-use Rattle.ptpm_agent.proofs.TurnKeeps.{turn-ports}
+use Rattle.ptpm_agent.proofs.Turns.{turn-ports}
 use Rattle.ptpm_agent.proofs.agent.Agent.handle_each.Goals as goal
 
 pub loop-place-init : goal.loop-place-init

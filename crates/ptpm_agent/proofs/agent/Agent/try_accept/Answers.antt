@@ -2,9 +2,9 @@ use Rattle.std.proofs.Common.{arith, ◌∙◌, ap, length}
 use Rattle.ptpm_data.specs.Members.{DataSetsValue}
 use Rattle.ptpm_data.specs.Replies.{reply_to}
 use Rattle.ptpm_data.specs.Reply.{ReplyValue}
-use Rattle.ptpm_data.proofs.AnswerCounts.{new_few}
+use Rattle.ptpm_data.proofs.Answering.{new_few}
 use Rattle.ptpm_table.proofs.Fitting.{fitting_sendable}
-use Rattle.ptpm_agent.proofs.Fitting.{fits_numbered}
+use Rattle.ptpm_agent.proofs.SentReplies.{fits_numbered}
 use Rattle.ptpm_agent.proofs.Turns.{new_parts}
 use Rattle.ptpm_agent.proofs.agent.Agent.try_accept.Goals as goal
 

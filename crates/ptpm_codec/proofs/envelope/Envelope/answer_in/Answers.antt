@@ -1,7 +1,7 @@
 use Rattle.std.proofs.Common.{◌≡◌, ◌∙◌, ◌+◌, ◌++◌, ap, length}
 use Rattle.byteorder.specs.Endian.{big_bytes}
 use Rattle.ptpm_codec.specs.Envelope.{envelope_of, written}
-use Rattle.ptpm_codec.proofs.EnvelopeLaws.{answer_written}
+use Rattle.ptpm_codec.proofs.CanonicalLaws.{answer_written}
 use Rattle.ptpm_codec.proofs.envelope.Envelope.answer_in.Goals as goal
 
 pub returns : goal.returns

@@ -2,7 +2,7 @@ use Rattle.std.proofs.Common.{◌≡◌, [], ◌∙◌, ◌++◌, ap, take}
 use Rattle.byteorder.specs.Endian.{big_bytes}
 use Rattle.ptpm_codec.specs.Canonical.{error_status_octets}
 use Rattle.ptpm_codec.specs.Envelope.{envelope_of, written}
-use Rattle.ptpm_codec.proofs.EnvelopeLaws.{error_head, fault_written}
+use Rattle.ptpm_codec.proofs.CanonicalLaws.{error_head, fault_written}
 use Rattle.ptpm_codec.proofs.envelope.Envelope.refuse_in.Goals as goal
 
 pub returns : goal.returns

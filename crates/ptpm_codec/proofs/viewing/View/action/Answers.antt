@@ -1,4 +1,4 @@
-use Rattle.ptpm_codec.proofs.ViewLaws.{action_seen}
+use Rattle.ptpm_codec.proofs.ReadingLaws.{action_seen}
 use Rattle.ptpm_codec.proofs.viewing.View.action.Goals as goal
 
 pub returns : goal.returns

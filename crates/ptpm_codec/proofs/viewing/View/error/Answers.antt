@@ -1,7 +1,7 @@
 use Rattle.std.proofs.Common.{Some, sym, ap, ◌∙◌}
 use Rattle.ptpm_codec.specs.declared.tlv.TlvKind.TheVariants.{Management, ErrorStatus}
 use Rattle.ptpm_codec.specs.Message.{error_of}
-use Rattle.ptpm_codec.proofs.ViewLaws.{body_seen, error_of-management}
+use Rattle.ptpm_codec.proofs.ReadingLaws.{body_seen, error_of-management}
 use Rattle.ptpm_codec.proofs.viewing.View.error.Goals as goal
 
 pub returns-in-Management : goal.returns-in-Management

@@ -1,7 +1,7 @@
 use Rattle.std.proofs.Common.{sym, ap, ◌∙◌}
 use Rattle.ptpm_codec.specs.declared.tlv.TlvKind.TheVariants.{Management, ErrorStatus}
 use Rattle.ptpm_codec.specs.Message.{id_of}
-use Rattle.ptpm_codec.proofs.ViewLaws.{body_seen, id_of-management}
+use Rattle.ptpm_codec.proofs.ReadingLaws.{body_seen, id_of-management}
 use Rattle.ptpm_codec.proofs.viewing.View.id.Goals as goal
 
 pub returns-in-Management : goal.returns-in-Management

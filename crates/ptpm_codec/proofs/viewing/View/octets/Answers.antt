@@ -1,7 +1,7 @@
 use Rattle.std.proofs.Common.{sym, ap, ◌∙◌}
 use Rattle.ptpm_codec.specs.declared.tlv.TlvKind.TheVariants.{Management, ErrorStatus}
 use Rattle.ptpm_codec.specs.Message.{octets_of}
-use Rattle.ptpm_codec.proofs.ViewLaws.{body_seen, octets_of-management}
+use Rattle.ptpm_codec.proofs.ReadingLaws.{body_seen, octets_of-management}
 use Rattle.ptpm_codec.proofs.viewing.View.octets.Goals as goal
 
 pub returns-in-Management : goal.returns-in-Management

@@ -2,7 +2,7 @@ use Rattle.std.proofs.Common.{sym, ap, ◌∙◌}
 use Rattle.ptpm_codec.specs.declared.tlv.TlvKind.TheVariants.{Management, ErrorStatus}
 use Rattle.ptpm_codec.specs.Message.{text_of}
 use Rattle.ptpm_codec.specs.PtpText.{ptp_text}
-use Rattle.ptpm_codec.proofs.ViewLaws.{body_seen, text_of-management}
+use Rattle.ptpm_codec.proofs.ReadingLaws.{body_seen, text_of-management}
 use Rattle.ptpm_codec.proofs.viewing.View.text.Goals as goal
 
 pub returns-in-Management : goal.returns-in-Management

@@ -1,5 +1,5 @@
 use Rattle.std.proofs.Common.{true, false, sym, refl, ◌∙◌}
-use Rattle.ptpm_codec.proofs.ViewLaws.{body_seen, action_seen, fault_of-parts, management_of-parts}
+use Rattle.ptpm_codec.proofs.ReadingLaws.{body_seen, action_seen, fault_of-parts, management_of-parts}
 use Rattle.ptpm_codec.proofs.viewing.View.to_body.Goals.{in-Some+in_ok-copy_of-in-Some, in-None+in_ok-octets-in-None+then-is_reply, in-None+in_ok-octets-in-None+else-is_reply}
 use Rattle.ptpm_codec.proofs.viewing.View.to_body.Goals as goal
 

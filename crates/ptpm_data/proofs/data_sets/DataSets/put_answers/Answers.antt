@@ -7,7 +7,7 @@ use Rattle.ptpm_data.specs.Replies.{answer, named_ports, outcome}
 use Rattle.ptpm_data.specs.Reply.{Answer}
 use Rattle.ptpm_data.specs.Request.{RequestValue}
 use Rattle.ptpm_data.proofs.Answering.{answer_by_row}
-use Rattle.ptpm_data.proofs.NamedPorts.{answers-after, answers-count}
+use Rattle.ptpm_data.proofs.ReplyLemmas.{answers-after, answers-count}
 use Rattle.ptpm_data.proofs.data_sets.DataSets.put_answers.Goals as goal
 
 pub loop-port-init : goal.loop-port-init

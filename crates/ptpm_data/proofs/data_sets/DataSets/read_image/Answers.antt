@@ -1,7 +1,7 @@
 use Rattle.std.proofs.Common.{◌≤◌, ap, arith, length, refl}
 use Rattle.ptpm_data.specs.declared.ports.TheConstants.{INLINE_PORTS, PORTS}
 use Rattle.ptpm_data.proofs.ImageLemmas.{ports_length}
-use Rattle.ptpm_data.proofs.RestoringLaws.{reads_back, text_small}
+use Rattle.ptpm_data.proofs.OneImage.{reads_back, text_small}
 use Rattle.ptpm_data.proofs.data_sets.DataSets.read_image.Goals as goal
 
 pub returns-in_default-read_clock : goal.returns-in_default-read_clock

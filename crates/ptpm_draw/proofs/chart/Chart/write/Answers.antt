@@ -1,6 +1,6 @@
 use Rattle.ptpm_world.proofs.Common.{map, subst, Appends}
 use Rattle.ptpm_draw.specs.declared.picture.EventRow.{EventRow}
-use Rattle.ptpm_draw.proofs.Choosing.{shown-all}
+use Rattle.ptpm_draw.proofs.Drawings.{shown-all}
 use Rattle.ptpm_draw.proofs.chart.Chart.write.Goals as goal
 
 pub returns-clause-shown : goal.returns-clause-shown

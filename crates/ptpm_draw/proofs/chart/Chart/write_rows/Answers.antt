@@ -1,5 +1,5 @@
 use Rattle.std.proofs.Common.{rules}
-use Rattle.ptpm_draw.proofs.Choosing.{parts-row}
+use Rattle.ptpm_draw.proofs.Drawings.{parts-row}
 use Rattle.ptpm_draw.proofs.chart.Chart.write_rows.Goals as goal
 
 pub loop-place-preserved : goal.loop-place-preserved

@@ -1,5 +1,5 @@
 use Rattle.ptpm_world.proofs.Common.{map, take}
-use Rattle.ptpm_draw.specs.Parts.{AddsParts}
+use Rattle.ptpm_draw.specs.Drawing.{AddsParts}
 use Rattle.ptpm_draw.specs.declared.picture.EventRow.{EventRow}
 use Rattle.ptpm_draw.proofs.chart.Chart.write_rows.Given as goal
 

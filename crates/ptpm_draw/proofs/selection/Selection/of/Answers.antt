@@ -1,5 +1,5 @@
 use Rattle.ptpm_draw.specs.Picture.{drawn_in}
-use Rattle.ptpm_draw.proofs.Choosing.{numbers-left}
+use Rattle.ptpm_draw.proofs.Drawings.{numbers-left}
 use Rattle.ptpm_draw.proofs.selection.Selection.of.Goals as goal
 
 pub invariant_of-result : goal.invariant_of-result

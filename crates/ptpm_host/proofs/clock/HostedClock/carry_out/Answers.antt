@@ -8,10 +8,9 @@ use Rattle.ptpm_saved.specs.SavingClock.{is_new}
 use Rattle.ptpm_host.specs.Clock.{clock_in, state_in}
 use Rattle.ptpm_host.specs.Device.{said_value}
 use Rattle.ptpm_host.specs.MostSent.{most_sent}
-use Rattle.ptpm_host.proofs.Changing.{not_new}
-use Rattle.ptpm_host.proofs.ComingLaws.{turn_of-ports, turn_of-unchanged}
+use Rattle.ptpm_host.proofs.ComingLaws.{not_new, turn_of-ports, turn_of-unchanged}
 use Rattle.ptpm_host.proofs.MostSent.{sends_no_more, sends_no_more_here}
-use Rattle.ptpm_host.proofs.Queues.{sent_most}
+use Rattle.ptpm_host.proofs.Places.{sent_most}
 use Rattle.ptpm_host.proofs.clock.HostedClock.carry_out.Goals as goal
 
 pub returns-then-of_owner-clause-most : goal.returns-then-of_owner-clause-most

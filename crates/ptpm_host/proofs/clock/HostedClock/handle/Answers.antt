@@ -4,7 +4,7 @@ use Rattle.std.proofs.lemmas.Grind.{common_steps}
 use Rattle.ptpm_data.specs.Members.{HasPort}
 use Rattle.ptpm_host.specs.Clock.{clock_in, state_in}
 use Rattle.ptpm_host.specs.MostSent.{most_sent}
-use Rattle.ptpm_host.proofs.Changing.{sets_stay}
+use Rattle.ptpm_host.proofs.ComingLaws.{sets_stay}
 use Rattle.ptpm_host.proofs.MostSent.{sends_no_more_alone}
 use Rattle.ptpm_host.proofs.clock.HostedClock.handle.Goals as goal
 

@@ -3,7 +3,7 @@ use Rattle.std.proofs.lemmas.Bool.{false≢true}
 use Rattle.ptpm_saved.specs.Image.{clock_image}
 use Rattle.ptpm_saved.specs.SavingClock.{Datagram}
 use Rattle.ptpm_host.specs.Clock.{state_in}
-use Rattle.ptpm_host.proofs.UnderWayImages.{image_length, written}
+use Rattle.ptpm_host.proofs.RestoredWith.{image_length, written}
 use Rattle.ptpm_host.proofs.clock.HostedClock.image_with.Goals as goal
 
 pub returns-then-octets-start-clause-room : goal.returns-then-octets-start-clause-room

@@ -1,4 +1,4 @@
-use Rattle.ptpm_host.proofs.Changing.{sets_stay}
+use Rattle.ptpm_host.proofs.ComingLaws.{sets_stay}
 use Rattle.ptpm_host.proofs.clock.HostedClock.take_turn.Goals as goal
 
 pub returns-clause-new_alone : goal.returns-clause-new_alone

@@ -1,5 +1,5 @@
 use Rattle.std.proofs.Common.{refl}
-use Rattle.ptpm_host.proofs.Behind.{grown_at_write}
+use Rattle.ptpm_host.proofs.Places.{grown_at_write}
 use Rattle.ptpm_host.proofs.outbox.OutboxOutgoing.push_refusal.Goals as goal
 
 pub returns-clause-grown : goal.returns-clause-grown

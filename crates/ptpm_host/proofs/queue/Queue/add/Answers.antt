@@ -1,8 +1,7 @@
 use Rattle.std.proofs.Common.{◌≤◌, ◌<◌, All, arith, length, rules, take}
 use Rattle.ptpm_host.specs.Clock.{IsWhole}
 use Rattle.ptpm_host.specs.Queue.{queued, room_of}
-use Rattle.ptpm_host.proofs.Queues.{count_at}
-use Rattle.ptpm_host.proofs.Whole.{whole_at_write}
+use Rattle.ptpm_host.proofs.Places.{count_at, whole_at_write}
 use Rattle.ptpm_host.proofs.queue.Queue.add.Goals as goal
 
 pub invariant_of-self : goal.invariant_of-self

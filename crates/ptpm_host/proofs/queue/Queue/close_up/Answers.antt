@@ -1,7 +1,7 @@
 use Rattle.std.proofs.Common.{◌≤◌, ◌-◌, ◌∙◌, ap, length, rules, take}
 use Rattle.ptpm_host.specs.Clock.{messages_in}
 use Rattle.ptpm_host.specs.Queue.{queued}
-use Rattle.ptpm_host.proofs.Queues.{closed_at}
+use Rattle.ptpm_host.proofs.Places.{closed_at}
 use Rattle.ptpm_host.proofs.queue.Queue.close_up.Goals as goal
 
 pub returns-then-self-gt0-clause-queued : goal.returns-then-self-gt0-clause-queued

@@ -1,6 +1,6 @@
 use Rattle.std.proofs.Common.{◌≤◌, length, rules, sym}
 use Rattle.ptpm_host.specs.Queue.{queued}
-use Rattle.ptpm_host.proofs.Queues.{count_at}
+use Rattle.ptpm_host.proofs.Places.{count_at}
 use Rattle.ptpm_host.proofs.queue.Queue.count.Goals as goal
 
 pub returns : goal.returns

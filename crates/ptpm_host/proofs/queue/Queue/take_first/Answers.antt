@@ -1,7 +1,7 @@
 use Rattle.std.proofs.Common.{◌≤◌, ◌<◌, ◌+◌, ◌∷◌, ◌∙◌, ap, arith, drop, length, rules, sym, take}
 use Rattle.ptpm_host.specs.Clock.{message_in, messages_in}
 use Rattle.ptpm_host.specs.Queue.{queued}
-use Rattle.ptpm_host.proofs.Queues.{count_at, first_at}
+use Rattle.ptpm_host.proofs.Places.{count_at, first_at}
 use Rattle.ptpm_host.proofs.queue.Queue.take_first.Goals as goal
 
 pub returns-clause-queued : goal.returns-clause-queued

@@ -2,7 +2,7 @@ use Rattle.std.proofs.Common.{◌≤◌, [], ap, arith, get_or-take, length, len
 use Rattle.ptpm_host.specs.declared.sent.Sent.{Sent}
 use Rattle.ptpm_host.specs.Clock.{IsWhole, messages_in}
 use Rattle.ptpm_host.specs.Queue.{queued}
-use Rattle.ptpm_host.proofs.Queues.{as_many}
+use Rattle.ptpm_host.proofs.Places.{as_many}
 use Rattle.ptpm_host.proofs.queue.Queue.take_over.Goals as goal
 
 pub add-requires-clause-closed : goal.add-requires-clause-closed

@@ -1,6 +1,6 @@
 use Rattle.std.proofs.Common.{arith, ◌∙◌, ap, refl, sym, ℕ, ◌+◌, List, drop}
 use Rattle.ptpm_members.specs.NumberNames.{is_name, named_in, number_of}
-use Rattle.ptpm_members.proofs.Naming.{goes_on, is_found, is_nowhere}
+use Rattle.ptpm_members.proofs.IdNames.{goes_on, is_found, is_nowhere}
 use Rattle.ptpm_members.proofs.number_names.Enumeration.number_of.Goals as goal
 
 pub loop-number-init : goal.loop-number-init

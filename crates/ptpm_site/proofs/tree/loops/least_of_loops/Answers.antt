@@ -1,7 +1,7 @@
 -- Each walk passes its first place, and marks the least place of a loop that it finds.
 use Rattle.std.proofs.Common.{◌≡◌, ◌<◌, true, Some, None, Vec, Bool, length, set, vec_len, sym, ap, subst, arith}
 use Rattle.ptpm_site.specs.Walks.{Walked}
-use Rattle.ptpm_site.proofs.Marking.{AreMarked, AreMarked-all, AreMarked-round, AreMarked-straight, IsClosed-more, IsPassed-next}
+use Rattle.ptpm_site.proofs.Strays.{AreMarked, AreMarked-all, AreMarked-round, AreMarked-straight, IsClosed-more, IsPassed-next}
 use Rattle.ptpm_site.proofs.tree.loops.least_of_loops.Goals as goal
 use Rattle.ptpm_site.proofs.tree.loops.least_of_loops.Goals.{in-Some, in_default}
 

@@ -1,8 +1,7 @@
 -- Each place up to this one is passed, and those that were passed are marked where they are the least of a loop.
 use Rattle.std.proofs.Common.{◌≡◌, ℕ, ◌<◌, length, vec_len}
 use Rattle.ptpm_site.specs.Walks.{IsPassed}
-use Rattle.ptpm_site.proofs.Marking.{AreMarked}
-use Rattle.ptpm_site.proofs.Strays.{IsClosed}
+use Rattle.ptpm_site.proofs.Strays.{AreMarked, IsClosed}
 use Rattle.ptpm_site.proofs.tree.loops.least_of_loops.Given as goal
 
 abbrev pub invariant-loop-start : goal.invariant-loop-start

@@ -5,8 +5,7 @@ use Rattle.std.specs.Prelude.{IfNone, OnSome}
 use Rattle.std.specs.Io.Buffered.{reader_remaining}
 use Rattle.std.specs.Io.BufRead.{drop_through}
 use Rattle.ptpm_text.specs.Lines.{LeavesLong, ReadsNext, left_of, reader_left}
-use Rattle.ptpm_text.proofs.LineLemmas.{IsRead, NoFeed, end-on, no_feed-more, read-first, read-more, some_there}
-use Rattle.ptpm_text.proofs.NextLine.{leaves-long, left-whole, next-end, next-feed}
+use Rattle.ptpm_text.proofs.NextLine.{IsRead, NoFeed, end-on, no_feed-more, read-first, read-more, some_there, leaves-long, left-whole, next-end, next-feed}
 use Rattle.ptpm_text.proofs.line_reader.LineReader.read_rest.Goals as goal
 
 pub loop-next-init : goal.loop-next-init

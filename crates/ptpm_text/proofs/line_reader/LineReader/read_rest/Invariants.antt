@@ -2,7 +2,7 @@ use Rattle.std.proofs.Common.{◌≡◌, ◌<◌, ◌≤◌, ◌-◌, false, len
 use Rattle.std.specs.Io.KnownBytes.{IsAtEnd}
 use Rattle.std.specs.Prelude.{IfNone, OnSome}
 use Rattle.ptpm_text.specs.Lines.{reader_left}
-use Rattle.ptpm_text.proofs.LineLemmas.{IsRead, NoFeed}
+use Rattle.ptpm_text.proofs.NextLine.{IsRead, NoFeed}
 use Rattle.ptpm_text.proofs.line_reader.LineReader.read_rest.Given as goal
 
 -- the line so far and the next octet are what was read, and no line feed was among them

@@ -1,7 +1,7 @@
 use Rattle.ptpm_world.proofs.Common.{arith}
 use Rattle.std.proofs.Output.{has_written_of_eq}
 use Rattle.std.proofs.lemmas.Option.{none-some}
-use Rattle.ptpm_world.proofs.Answering.{named_text, unnamed_text}
+use Rattle.ptpm_world.proofs.Ending.{named_text, unnamed_text}
 use Rattle.ptpm_world.proofs.trace.ErrorTextDisplay.fmt.Goals as goal
 
 pub returns-in-Some-clause-writes : goal.returns-in-Some-clause-writes

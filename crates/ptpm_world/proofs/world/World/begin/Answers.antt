@@ -2,7 +2,7 @@ use Rattle.ptpm_world.proofs.Common.{◌≡◌, Some, refl, ap, option_map, slic
 use Rattle.ptpm_manager.specs.Ask.{request_of}
 use Rattle.ptpm_world.proofs.Changing.{names-session}
 use Rattle.ptpm_world.proofs.Ending.{step_error, step_named}
-use Rattle.ptpm_world.proofs.SessionSteps.{begin-error, acts-fine, no_name}
+use Rattle.ptpm_world.proofs.Steps.{begin-error, acts-fine, no_name}
 use Rattle.ptpm_world.proofs.world.World.begin.Goals as goal
 use Rattle.ptpm_world.proofs.world.World.begin.Goals.{After-index_mut}
 

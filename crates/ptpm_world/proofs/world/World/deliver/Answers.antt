@@ -1,11 +1,9 @@
 use Rattle.ptpm_world.proofs.Common.{Deliver, Ok, reaches, running, seen, ◌≡◌, ◌++◌, ◌∙◌, All, ℕ, List, Some, ap, arith, length, nat_lt, refl, subst, sym, slice_get_read, flat_map, slice_get, frame_at, frames_limit, origin_by, posted_by, Held, AreLinks, IsStoredFrame, World, port_counts, described_end, frame_value, held_in, link_ends, origin_of}
-use Rattle.ptpm_world.proofs.Changing.{names-clock, names-session}
-use Rattle.ptpm_world.proofs.ClockSteps.{deliver-no_frame, deliver-too_many, ports_after, turn-step}
+use Rattle.ptpm_world.proofs.Changing.{names-clock, names-session, kept-clock}
+use Rattle.ptpm_world.proofs.Steps.{deliver-no_frame, deliver-too_many, ports_after, turn-step, hear-step, hear-unchanged}
 use Rattle.ptpm_network.specs.Network.{End}
-use Rattle.ptpm_world.proofs.Refusing.{delivered}
-use Rattle.ptpm_world.proofs.Kept.{kept-clock}
-use Rattle.ptpm_world.proofs.SessionSteps.{hear-step, hear-unchanged}
-use Rattle.ptpm_world.proofs.There.{IsAtClock, at_clock, at_session, lent_octets, with_octets}
+use Rattle.ptpm_world.proofs.Ending.{delivered}
+use Rattle.ptpm_world.proofs.WorldLemmas.{IsAtClock, at_clock, at_session, lent_octets, with_octets}
 use Rattle.ptpm_world.proofs.world.World.deliver.Goals as goal
 use Rattle.ptpm_world.proofs.world.World.deliver.Goals.{After-index_mut, After-index_mut-clock}
 

@@ -1,6 +1,6 @@
 use Rattle.ptpm_world.proofs.Common.{◌∙◌, frame_value, running}
-use Rattle.ptpm_world.proofs.Lateness.{frame-after}
-use Rattle.ptpm_world.proofs.Naming.{known-frame}
+use Rattle.ptpm_world.proofs.Telling.{frame-after}
+use Rattle.ptpm_world.proofs.WorldLemmas.{known-frame}
 use Rattle.ptpm_world.proofs.world.World.frame.Goals as goal
 
 pub returns-clause-known : goal.returns-clause-known

@@ -1,9 +1,7 @@
 use Rattle.ptpm_world.proofs.Common.{◌++◌, cond-false, flat_map, network_event, posted_by, strange_frame, ◌≡◌, ◌∙◌, All, Some, ap, length, refl, subst, sym, same_Some, slice_get_read, slice_get, has_port, origin_by, Neither, RunningClock, AreLinks, IsStoredFrame, port_counts, held_in, link_ends, Stranger}
-use Rattle.ptpm_world.proofs.Changing.{names-clock}
-use Rattle.ptpm_world.proofs.ClockSteps.{ports_after, stranger-forges, stranger-no_clock, stranger-no_port, stranger-too_many, port_there, turn-step}
-use Rattle.ptpm_world.proofs.Refusing.{roomy, skips}
-use Rattle.ptpm_world.proofs.Ending.{step_named}
-use Rattle.ptpm_world.proofs.Kept.{kept-clock}
+use Rattle.ptpm_world.proofs.Changing.{names-clock, kept-clock}
+use Rattle.ptpm_world.proofs.Steps.{ports_after, stranger-forges, stranger-no_clock, stranger-no_port, stranger-too_many, port_there, turn-step}
+use Rattle.ptpm_world.proofs.Ending.{roomy, skips, step_named}
 use Rattle.ptpm_world.proofs.world.World.intrude.Goals as goal
 use Rattle.ptpm_world.proofs.world.World.intrude.Goals.{After-has_port, After-index_mut-clock}
 

@@ -1,9 +1,8 @@
 use Rattle.ptpm_world.proofs.Common.{arith, ◌≡◌, ℕ, Bool, Some, ap, length, sym, ◌∙◌, frame_at, is_late_held, is_late_of, frame_value, held_in, origin_of, port_counts, running, World}
 use Rattle.ptpm_world.specs.declared.frames.Frame.{Frame}
 use Rattle.ptpm_world.specs.declared.frames.Origin.{Origin}
-use Rattle.ptpm_world.proofs.Lateness.{late-after}
-use Rattle.ptpm_world.proofs.Naming.{late-there}
-use Rattle.ptpm_world.proofs.WorldLemmas.{origin_there}
+use Rattle.ptpm_world.proofs.Telling.{late-after}
+use Rattle.ptpm_world.proofs.WorldLemmas.{late-there, origin_there}
 use Rattle.ptpm_world.proofs.world.World.is_late.Goals as goal
 
 pub is_left_behind-requires : goal.is_left_behind-requires

@@ -1,7 +1,7 @@
 use Rattle.ptpm_world.proofs.Common.{ap, ◌∙◌, map, arith, link_value, network_value, described}
 use Rattle.ptpm_network.proofs.Served.{served-first}
-use Rattle.ptpm_script.proofs.NetworkFacts.{of_text-accepted}
-use Rattle.ptpm_world.proofs.NetworkFacts.{of_text-network}
+use Rattle.ptpm_script.proofs.NetworkLaw.{of_text-accepted}
+use Rattle.ptpm_world.proofs.DescribedLaws.{of_text-network}
 use Rattle.ptpm_world.proofs.StartingLemmas.{are_links, are_names, is_of, none_stored, stands}
 use Rattle.ptpm_world.proofs.world.World.new.Goals as goal
 

@@ -1,8 +1,6 @@
 use Rattle.ptpm_world.proofs.Common.{arith, ◌≡◌, ◌+◌, ap, sym, subst, ◌∙◌, refl, Some, length, option_map, slice_get, slice_get_read, run, initial_state, RunningSession}
 use Rattle.ptpm_network.specs.Worth.{IsWorth}
-use Rattle.ptpm_world.proofs.Naming.{known-found, unknown-name}
-use Rattle.ptpm_world.proofs.Reporting.{worth-shown}
-use Rattle.ptpm_world.proofs.WorldLemmas.{at_name, of_no_name}
+use Rattle.ptpm_world.proofs.WorldLemmas.{known-found, unknown-name, worth-shown, at_name, of_no_name}
 use Rattle.ptpm_world.proofs.world.World.reports.Goals as goal
 
 pub returns-in-Some-clause-reports : goal.returns-in-Some-clause-reports

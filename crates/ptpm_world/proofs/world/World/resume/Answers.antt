@@ -3,7 +3,7 @@ use Rattle.ptpm_network.specs.RunningNetwork.{nothing_to_resume}
 use Rattle.ptpm_manager.specs.declared.error.SendError.TheVariants as sends
 use Rattle.ptpm_world.proofs.Changing.{names-session}
 use Rattle.ptpm_world.proofs.Ending.{step_error, step_named}
-use Rattle.ptpm_world.proofs.SessionSteps.{acts-fine, no_name, acts-refused}
+use Rattle.ptpm_world.proofs.Steps.{acts-fine, no_name, acts-refused}
 use Rattle.ptpm_world.proofs.world.World.resume.Goals as goal
 use Rattle.ptpm_world.proofs.world.World.resume.Goals.{After-index_mut}
 

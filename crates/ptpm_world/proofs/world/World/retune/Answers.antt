@@ -1,7 +1,7 @@
 use Rattle.ptpm_world.proofs.Common.{◌≡◌, None, Some, refl, slice_get_read, slice_get, Retune, retuned, network_event}
 use Rattle.ptpm_world.proofs.Changing.{names-session}
 use Rattle.ptpm_world.proofs.Ending.{step_named}
-use Rattle.ptpm_world.proofs.SessionSteps.{acts-fine, no_name}
+use Rattle.ptpm_world.proofs.Steps.{acts-fine, no_name}
 use Rattle.ptpm_world.proofs.world.World.retune.Goals as goal
 use Rattle.ptpm_world.proofs.world.World.retune.Goals.{After-index_mut}
 

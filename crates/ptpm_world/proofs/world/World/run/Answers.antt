@@ -5,12 +5,9 @@ use Rattle.ptpm_network.specs.Served.{IsServedSoFar}
 use Rattle.ptpm_network.proofs.Promise.{stands-headline}
 use Rattle.ptpm_script.specs.declared.event.Event.{Event}
 use Rattle.ptpm_world.specs.declared.took.StepError.TheVariants as errors
-use Rattle.ptpm_world.proofs.CarriedOut.{leads-carried}
+use Rattle.ptpm_world.proofs.Following.{leads-carried, HasGoneOn, gone_on-more, gone_on-none, taken-stops, served-more, leads-more}
 use Rattle.ptpm_world.proofs.Ending.{err_is, step-went}
-use Rattle.ptpm_world.proofs.Following.{HasGoneOn, gone_on-more, gone_on-none, taken-stops}
-use Rattle.ptpm_world.proofs.Places.{map_more, map_split}
-use Rattle.ptpm_world.proofs.Scheduling.{leads-more}
-use Rattle.ptpm_world.proofs.Serving.{served-more}
+use Rattle.ptpm_world.proofs.Changing.{map_more, map_split}
 use Rattle.ptpm_world.proofs.world.World.run.Goals as goal
 use Rattle.ptpm_world.proofs.world.World.run.Goals.{In-Err}
 

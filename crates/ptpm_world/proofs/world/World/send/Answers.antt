@@ -1,8 +1,7 @@
 use Rattle.ptpm_world.proofs.Common.{arith, Send, ◌++◌, posted, peers, network_event, ◌≡◌, Some, refl, sym, ◌∙◌, ap, subst, All, length, slice_get_read, slice_get, SessionValue, AtSession, RequestOf, AreLinks, IsStoredFrame, port_counts, held_in, link_ends}
-use Rattle.ptpm_world.proofs.Changing.{names-session}
+use Rattle.ptpm_world.proofs.Changing.{names-session, kept-session}
 use Rattle.ptpm_world.proofs.Ending.{step_error, step_named}
-use Rattle.ptpm_world.proofs.Kept.{kept-session}
-use Rattle.ptpm_world.proofs.SessionSteps.{message_due, send-fine, no_name, send-refused, send-too_many}
+use Rattle.ptpm_world.proofs.Steps.{message_due, send-fine, no_name, send-refused, send-too_many}
 use Rattle.ptpm_world.proofs.world.World.send.Goals as goal
 use Rattle.ptpm_world.proofs.world.World.send.Goals.{After-index_mut}
 

@@ -1,8 +1,6 @@
 use Rattle.ptpm_world.proofs.Common.{arith, ap, sym, ◌∙◌, refl, Some, length, slice_get_read, RunningClock, sets_of}
 use Rattle.ptpm_data.specs.Members.{DataSetsValue}
-use Rattle.ptpm_world.proofs.Naming.{known-found, unknown-name}
-use Rattle.ptpm_world.proofs.Reporting.{sets-shown}
-use Rattle.ptpm_world.proofs.WorldLemmas.{at_name, of_no_name}
+use Rattle.ptpm_world.proofs.WorldLemmas.{known-found, unknown-name, sets-shown, at_name, of_no_name}
 use Rattle.ptpm_world.proofs.world.World.sets.Goals as goal
 
 pub returns-in-Some-clause-sets : goal.returns-in-Some-clause-sets

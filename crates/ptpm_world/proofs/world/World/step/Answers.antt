@@ -1,7 +1,5 @@
 use Rattle.ptpm_world.proofs.Common.{arith, names_in}
-use Rattle.ptpm_world.proofs.CarriedOut.{step-carries}
-use Rattle.ptpm_world.proofs.Following.{step-machine}
-use Rattle.ptpm_world.proofs.Serving.{step-serves}
+use Rattle.ptpm_world.proofs.Following.{step-carries, step-machine, step-serves}
 use Rattle.ptpm_world.proofs.world.World.step.Goals as goal
 
 pub returns-clause-machine : goal.returns-clause-machine

@@ -1,7 +1,7 @@
 -- What comes next stands below what it follows, and none of the rest waits for a row that is deeper.
 use Rattle.std.proofs.Common.{ℕ, ◌≤◌, [], ◌∷◌, ◌++◌, subst, sym, arith}
 use Rattle.ptpm_site.specs.Growing.{AreWaiting}
-use Rattle.ptpm_site.proofs.Below.{AreWaiting-none, AreWaiting-rest, last_deep, last_stands, rest_shallow}
+use Rattle.ptpm_site.proofs.Rows.{AreWaiting-none, AreWaiting-rest, last_deep, last_stands, rest_shallow}
 use Rattle.ptpm_site.proofs.tree.builder.TreeBuilder.add_subtree.Goals as goal
 
 pub grow-init : goal.grow-init

@@ -4,7 +4,7 @@ use Rattle.std.proofs.lemmas.Result.{on_ok_weaker}
 use Rattle.ptpm_site.specs.declared.tree.TreeRow.{TreeRow}
 use Rattle.ptpm_site.specs.declared.tree.TreeRow.TheVariants as row
 use Rattle.ptpm_site.specs.Growing.{AreTrue, AreWaiting, IsFollowedIn, StaysAbove}
-use Rattle.ptpm_site.proofs.Below.{AreBelow-push, AreWaiting-put, StaysAbove-push}
+use Rattle.ptpm_site.proofs.Rows.{AreBelow-push, AreWaiting-put, StaysAbove-push}
 use Rattle.ptpm_site.proofs.tree.builder.TreeBuilder.put.Goals as goal
 
 pub returns-clause-below : goal.returns-clause-below

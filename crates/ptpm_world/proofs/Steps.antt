@@ -1,28 +1,134 @@
--- Events at a session: what the world becomes, and what is answered.
-use Rattle.ptpm_world.proofs.Common.{arith, ◌≡◌, ℕ, ◌<◌, List, [], ◌∷◌, ◌++◌, Option, Some, None, Result, Ok, Err, OnOk, OnErr, IfOk, IfErr, is_some, not, if◌then◌else◌, true, false, refl, sym, ◌∙◌, ap, subst, option_map, length, nat_lt, slice_get_within, append-nil, slice_get, slice_set, Report, SessionValue, begin_refusal, due_message, send_refusal, Begin, Send, Deliver, BeginRefused, SendRefused, Refusal, frame_at, frames_limit, Done, Happened, Held, acts, hears, network_event, posted, reaches, sends_in, sent_posted, unless_refused, with_session_value, AtSession, Network, peers, RequestOf, StepError, Took, World, RunningSession, held_in, link_ends, IsOf, reports_of, running, session_of, IsStep, begin_error, error_of, heard, reports_in}
+-- Events at a clock and at a session: what the world becomes, and what is answered.
+use Rattle.ptpm_world.proofs.Common.{arith, ◌≡◌, ℕ, ◌<◌, ◌&&◌, not, List, ◌++◌, Some, None, Ok, Err, true, false, sym, ◌∙◌, ap, length, nat_lt, nat_le, and_from, and_left, and_right, cond-true, cond-false, le-ltb, lt-ltb, slice_get_within, flat_map, map, slice_get, DataSetsValue, has_port, State, turn, Deliver, Stranger, NoSuchFrame, frames_limit, frame_at, is_forged, no_port, Held, delivers, held, network_event, takes_turn, turn_frames, Network, origin_by, posted_by, Frame, World, RunningClock, held_in, link_ends, IsOf, agent_clock, agent_state, running, IsStep, [], ◌∷◌, Option, Result, OnOk, OnErr, IfOk, IfErr, is_some, if◌then◌else◌, refl, subst, option_map, append-nil, slice_set, Report, SessionValue, begin_refusal, due_message, send_refusal, Begin, Send, BeginRefused, SendRefused, Refusal, Done, Happened, acts, hears, posted, reaches, sends_in, sent_posted, unless_refused, with_session_value, AtSession, peers, RequestOf, StepError, Took, RunningSession, reports_of, session_of, begin_error, error_of, heard, reports_in}
 use Rattle.std.proofs.Math.Nat.{le_refl}
+use Rattle.ptpm_agent.specs.Agent.{IsTurned}
+use Rattle.ptpm_agent.specs.declared.verdict.Verdict.{Verdict}
+use Rattle.ptpm_network.proofs.Posting.{held-turn_frames}
+use Rattle.ptpm_agent.proofs.Lists.{state_after}
+use Rattle.ptpm_agent.proofs.Turns.{turn-ports}
+use Rattle.ptpm_world.specs.declared.took.Took.TheVariants.{AtClock, Fine}
+use Rattle.ptpm_network.specs.Events.{Event, no_session}
+use Rattle.ptpm_world.proofs.Changing.{ClockChange, clock_change-network, clock_change-running, SessionChange, running_by, session_change-network, session_change-none, session_change-quiet, session_change-running, read-kept}
+use Rattle.ptpm_world.proofs.Ending.{step_fine, step_refused, full, skips, stops, absent, delivered, roomy, step_memory}
 use Rattle.ptpm_codec.specs.declared.message.Message.{Message}
 use Rattle.ptpm_codec.specs.Canonical.{canonical}
 use Rattle.ptpm_data.specs.Request.{RequestValue}
 use Rattle.ptpm_manager.specs.declared.ask.Ask.{Ask}
 use Rattle.ptpm_manager.specs.declared.error.BeginError.{BeginError}
-use Rattle.ptpm_manager.specs.declared.error.BeginError.TheVariants as begins
 use Rattle.ptpm_manager.specs.declared.error.SendError.{SendError}
-use Rattle.ptpm_manager.specs.declared.error.SendError.TheVariants as sends
 use Rattle.ptpm_manager.specs.declared.receiving.Received.{Received}
-use Rattle.ptpm_manager.specs.declared.receiving.Received.TheVariants as received
 use Rattle.ptpm_manager.specs.Receiving.{left_by, received_of}
 use Rattle.ptpm_manager.specs.Session.{sent}
 use Rattle.ptpm_manager.specs.Setup.{request_message}
-use Rattle.ptpm_network.specs.Events.{Event, no_session}
 use Rattle.ptpm_network.specs.Network.{End}
 use Rattle.ptpm_network.proofs.Worth.{session-named}
 use Rattle.ptpm_world.specs.declared.took.StepError.TheVariants as errors
-use Rattle.ptpm_world.specs.declared.took.Took.TheVariants.{Fine}
-use Rattle.ptpm_world.proofs.Changing.{SessionChange, running_by, session_change-network, session_change-none, session_change-quiet, session_change-running}
-use Rattle.ptpm_world.proofs.Refusing.{absent, delivered, full, roomy, skips, stops}
-use Rattle.ptpm_world.proofs.Places.{read-kept}
-use Rattle.ptpm_world.proofs.Ending.{step_fine, step_memory, step_refused}
+use Rattle.ptpm_manager.specs.declared.error.BeginError.TheVariants as begins
+use Rattle.ptpm_manager.specs.declared.error.SendError.TheVariants as sends
+use Rattle.ptpm_manager.specs.declared.receiving.Received.TheVariants as received
+
+-- ---- events at a clock: what the world becomes, and what is answered
+
+-- ---- a turn
+
+module _ (N : Network) (old new : World) (c port : ℕ) (x y : RunningClock) (f : Frame) (verdict : Verdict) (out : List (ℕ × List ℕ)) (is : IsOf N old) (change : ClockChange old new c x y) (turned : IsTurned (turn (agent_clock x.agent) (agent_state x.agent) port f.octets) verdict out (agent_state y.agent)) where
+  there : IsTurned (turn (N.clock c) ((running old).clock c) port f.octets) verdict out
+      (agent_state y.agent)
+  there = grind arith
+
+  frames_after : flat_map
+      (posted_by (link_ends old.links.items) c port f.origin (origin_by verdict f.origin))
+      out
+      ≡ map held (turn_frames N ((running old).clock c) c port f)
+  frames_after = grind (arith, flat_map, there, held-turn_frames)
+
+  -- an event that gives the clock this turn
+  pub turn-step : (e : Event)
+      → held_in new.frames
+      ≡ held_in old.frames
+      ++ flat_map
+      (posted_by (link_ends old.links.items) c port f.origin (origin_by verdict f.origin))
+      out
+      → network_event N (running old) e ≡ Ok (takes_turn N (running old) c port f)
+      → IsStep N old new e (Ok (AtClock verdict))
+  turn-step e sent happens =
+      let s : State = (running old).clock c in
+      step_fine N old new e (takes_turn N (running old) c port f) (AtClock verdict) happens
+      (clock_change-running old new c x y (turn (N.clock c) s port f.octets).next (held_in old.frames ++ map held (turn_frames N s c port f)) change
+      (state_after (turn (N.clock c) s port f.octets) verdict out (agent_state y.agent) there)
+      (sent ∙ ap (λ (hs : List Held). held_in old.frames ++ hs) frames_after))
+      (ap AtClock there.verdict_is) (clock_change-network N old new c x y change is)
+
+-- the clock has as many ports as before
+pub ports_after : (x y : RunningClock) (port : ℕ) (octets : List ℕ) (verdict : Verdict)
+    (out : List (ℕ × List ℕ))
+    → IsTurned (turn (agent_clock x.agent) (agent_state x.agent) port octets) verdict out
+    (agent_state y.agent)
+    → length y.agent.sets.ports ≡ length x.agent.sets.ports
+ports_after x y port octets verdict out turned = ap (λ (d : DataSetsValue). length d.ports) turned.sets_are ∙ turn-ports (agent_clock x.agent) (agent_state x.agent) port octets
+
+-- ---- a frame comes in
+
+pub deliver-no_frame : (N : Network) (old new : World) (n : ℕ)
+    → IsOf N new
+    → frame_at (held_in old.frames) n ≡ None
+    → IsStep N old new (Deliver n) (Err errors.NoSuchFrame)
+unfolding network_event
+deliver-no_frame N old new n is e = step_refused N old new (Deliver n) NoSuchFrame (ap (delivers N (running old)) e) is
+
+pub deliver-too_many : (N : Network) (old new : World) (n : ℕ) (h : Held)
+    → IsOf N new
+    → frame_at (held_in old.frames) n ≡ Some h
+    → nat_lt frames_limit (length (held_in old.frames)) ≡ true
+    → IsStep N old new (Deliver n) (Err errors.FramesAtMaximum)
+unfolding network_event
+deliver-too_many N old new n h is e over = grind (arith, step_refused, stops, full)
+
+-- ---- a stranger
+
+has_port-same : (port : ℕ) (d e : DataSetsValue)
+    → length d.ports ≡ length e.ports
+    → has_port port d ≡ has_port port e
+has_port-same port d e same = ap (λ n. nat_le 1 port && nat_le port n) same
+
+-- the clock at a place has the ports of the network's
+pub port_there : (N : Network) (w : World) (c port : ℕ) (x : RunningClock)
+    → IsOf N w
+    → slice_get w.clocks.items c ≡ Some x
+    → has_port port x.agent.sets ≡ true
+    → no_port N c port ≡ None
+port_there N w c port x is at has =
+    let within : c < N.clocks = grind (arith, slice_get_within) in
+    let there = and_from (nat_lt c N.clocks) (has_port port (N.start c)) (lt-ltb c N.clocks within) (sym (has_port-same port x.agent.sets (N.start c) (is.clocks c x at).ports) ∙ has) in
+    cond-false _ _ _ (ap not there)
+
+pub stranger-no_clock : (N : Network) (w : World) (c port : ℕ) (datagram : List ℕ)
+    → IsOf N w
+    → c ≡ length w.clocks.items
+    → IsStep N w w (Stranger c port datagram) (Err errors.NoSuchName)
+unfolding network_event
+stranger-no_clock N w c port datagram is e = grind (arith, step_refused, stops, le_refl, cond-true, and_left, le-ltb)
+
+module _ (N : Network) (old new : World) (c port : ℕ) (x : RunningClock) (datagram : List ℕ) (is : IsOf N old) (is_new : IsOf N new) (at : slice_get old.clocks.items c ≡ Some x) where
+  pub stranger-no_port : has_port port x.agent.sets ≡ false
+      → IsStep N old new (Stranger c port datagram) (Err errors.NoSuchName)
+  unfolding network_event
+  stranger-no_port lacks = grind (arith, step_refused, stops, cond-true, and_right, has_port-same)
+
+  pub stranger-forges : has_port port x.agent.sets ≡ true
+      → is_forged N datagram ≡ true
+      → IsStep N old new (Stranger c port datagram) (Err errors.Forged)
+  unfolding network_event
+  stranger-forges has lies = grind (arith, step_refused, skips, port_there, stops, cond-true)
+
+  pub stranger-too_many : has_port port x.agent.sets ≡ true
+      → is_forged N datagram ≡ false
+      → nat_lt frames_limit (length (held_in old.frames)) ≡ true
+      → IsStep N old new (Stranger c port datagram) (Err errors.FramesAtMaximum)
+  unfolding network_event
+  stranger-too_many has honest over = grind (arith, step_refused, skips, port_there, cond-false, stops, full)
+
+-- ---- events at a session: what the world becomes, and what is answered
 
 -- ---- a name that no session has
 
@@ -39,8 +145,8 @@ module _ (N : Network) (old new : World) (place : ℕ) (x y : RunningSession) (i
   session_is : (running old).session place ≡ x.session
   session_is = ap session_of c.at
 
-  there : no_session N place ≡ None
-  there = session-named N place (subst (λ n. place < n) is.session_count (slice_get_within old.sessions.items place x c.at))
+  session_there : no_session N place ≡ None
+  session_there = session-named N place (subst (λ n. place < n) is.session_count (slice_get_within old.sessions.items place x c.at))
 
   changed : IsOf N new
   changed = session_change-network N old new place x y c is
@@ -58,7 +164,7 @@ module _ (N : Network) (old new : World) (place : ℕ) (x y : RunningSession) (i
   acts-fine e why change at none v r f =
       let value : SessionValue = change ((running old).session place) in
       step_fine N old new e (record { deed = Done; network = with_session_value (running old) place value }) Fine
-      (at ∙ skips (no_session N place) _ _ there (skips (why ((running old).session place)) _ _ (ap why session_is ∙ none) refl))
+      (at ∙ skips (no_session N place) _ _ session_there (skips (why ((running old).session place)) _ _ (ap why session_is ∙ none) refl))
       (session_change-quiet old new place x y value (held_in old.frames) c (v ∙ ap change (sym session_is)) r f) refl changed
 
   pub acts-refused : (e : Event) (why : SessionValue → Option Refusal) (value : SessionValue) (reason : Refusal)
@@ -66,7 +172,7 @@ module _ (N : Network) (old new : World) (place : ℕ) (x y : RunningSession) (i
       ≡ acts N (running old) place (why ((running old).session place)) value
       → why x.session ≡ Some reason
       → IsStep N old new e (Err (error_of reason))
-  acts-refused e why value reason at some = grind (arith, step_refused, skips, there, stops, session_is, changed)
+  acts-refused e why value reason at some = grind (arith, step_refused, skips, session_there, stops, session_is, changed)
 
   -- by the session's error, which is want of memory or why it refuses
   pub begin-error : (a : Ask) (e : BeginError)
@@ -86,7 +192,7 @@ module _ (N : Network) (old new : World) (place : ℕ) (x y : RunningSession) (i
       → unless_refused (option_map SendRefused o) (Ok (record { deed = Done; network = sends_in N (running old) place })) ≡ z
       → network_event N (running old) (Send place) ≡ z
   unfolding network_event
-  send-judged o z room e last = grind (arith, skips, there, roomy, option_map, session_is)
+  send-judged o z room e last = grind (arith, skips, session_there, roomy, option_map, session_is)
 
   pub send-refused : (e : SendError)
       → nat_lt frames_limit (length (held_in old.frames)) ≡ false
