@@ -141,7 +141,7 @@ happens-open N w (Stranger d port datagram) c n r i free none = grind (arith, as
 happens-open N w e c n r i free none = as-was N w (happens N w e) c refl
 
 -- what a session has said and heard is as it was
-record SameTalk (w u : NetworkState) (s : ℕ) : Type 0 where
+pub record SameTalk (w u : NetworkState) (s : ℕ) : Type 0 where
   pub begun : (u.session s).begun ≡ (w.session s).begun
   pub reports : (u.session s).reports ≡ (w.session s).reports
   pub domain : (u.session s).domain ≡ (w.session s).domain
