@@ -50,16 +50,16 @@ next a = number_of a.first (a.session.issued + 1)
 abbrev pub later : ℕ → ℕ → ℕ
 later now time = min (now + time) (2 ^ 64 - 1)
 
--- what is handed out to be sent is the session's request, or the read
-abbrev pub IsMessage : Output → AskerValue → List ℕ → Type 0
-IsMessage outputs.Nothing a octets = Unit {0}
-IsMessage (outputs.Begun tag number) a octets = Unit {0}
-IsMessage outputs.Save a octets = Unit {0}
-IsMessage (outputs.Send wake_at) a octets = (v : Message) → due_message a.session ≡ Some v → octets ≡ canonical v
-IsMessage (outputs.Read wake_at) a octets = (v : Message) → due_message a.reader ≡ Some v → octets ≡ canonical v
-IsMessage (outputs.WakeAt time) a octets = Unit {0}
-IsMessage (outputs.Told tag number outcome) a octets = Unit {0}
-IsMessage (outputs.Failed was_sent is_read_answered) a octets = Unit {0}
+-- what is handed out to be sent is the session's request, or the read; else what was handed out before stays
+abbrev pub IsMessage : Output → AskerValue → List ℕ → List ℕ → Type 0
+IsMessage outputs.Nothing a before octets = octets ≡ before
+IsMessage (outputs.Begun tag number) a before octets = octets ≡ before
+IsMessage outputs.Save a before octets = octets ≡ before
+IsMessage (outputs.Send wake_at) a before octets = (v : Message) → due_message a.session ≡ Some v → octets ≡ canonical v
+IsMessage (outputs.Read wake_at) a before octets = (v : Message) → due_message a.reader ≡ Some v → octets ≡ canonical v
+IsMessage (outputs.WakeAt time) a before octets = octets ≡ before
+IsMessage (outputs.Told tag number outcome) a before octets = octets ≡ before
+IsMessage (outputs.Failed was_sent is_read_answered) a before octets = octets ≡ before
 
 -- ---- parts of turns
 

@@ -125,7 +125,8 @@ impl Asker {
             (self.new ≡ (asks self.old now tag (ask_of action id port octets.now) domain).asker) }
         ensures output { IfOk result
             (λ o. o ≡ (asks self.old now tag (ask_of action id port octets.now) domain).output) }
-        ensures message { IfOk result (λ o. IsMessage o self.new buffer.new.items) }
+        ensures message { IfOk result (λ o. IsMessage o self.new buffer.old.items buffer.new.items) }
+        ensures untouched { OnErr result (buffer.new.items ≡ buffer.old.items) }
         ensures permitted { OnOk result
             (asks_refusal self.old (ask_of action id port octets.now) ≡ None) }
         ensures refused { (e : BeginError)
@@ -160,7 +161,8 @@ impl Asker {
     pub fn settle(&mut self, buffer: &mut Buffer, now: u64, tag: u64, domain: u8) -> Option<Output>
         ensures asker { OnSome result (self.new ≡ (settles self.old now tag domain).asker) }
         ensures output { IfSome result (λ o. o ≡ (settles self.old now tag domain).output) }
-        ensures message { IfSome result (λ o. IsMessage o self.new buffer.new.items) }
+        ensures message { IfSome result (λ o. IsMessage o self.new buffer.old.items buffer.new.items) }
+        ensures untouched { IfNone result (buffer.new.items ≡ buffer.old.items) }
         ensures permitted { IsSome result ↔ (can_settle self.old ≡ true) }
         ensures unchanged { IfNone result (self.new ≡ self.old) }
     {
@@ -222,7 +224,8 @@ impl Asker {
     pub fn wake(&mut self, buffer: &mut Buffer, now: u64) -> Result<Output, BeginError>
         ensures asker { OnOk result (self.new ≡ (wakes self.old now).asker) }
         ensures output { IfOk result (λ o. o ≡ (wakes self.old now).output) }
-        ensures message { IfOk result (λ o. IsMessage o self.new buffer.new.items) }
+        ensures message { IfOk result (λ o. IsMessage o self.new buffer.old.items buffer.new.items) }
+        ensures untouched { OnErr result (buffer.new.items ≡ buffer.old.items) }
         ensures begins { OnErr result (begins_waking self.old now ≡ true) }
         ensures memory { IfErr result (λ e. e ≡ BeginError.OutOfMemory) }
         ensures unchanged { OnErr result (self.new ≡ self.old) }
@@ -257,7 +260,7 @@ impl Asker {
     pub fn saved(&mut self, buffer: &mut Buffer, now: u64) -> Output
         ensures asker { self.new ≡ (saved self.old now).asker }
         ensures output { result ≡ (saved self.old now).output }
-        ensures message { IsMessage result self.new buffer.new.items }
+        ensures message { IsMessage result self.new buffer.old.items buffer.new.items }
     {
         match self.stage {
             Stage::Saving => self.go_on_saved(buffer, now),
@@ -323,7 +326,8 @@ impl Asker {
         requires { asked_refusal self.old.settings.ports wanted ≡ None }
         ensures asker { OnOk result (self.new ≡ (asks self.old now tag wanted domain).asker) }
         ensures output { IfOk result (λ o. o ≡ (asks self.old now tag wanted domain).output) }
-        ensures message { IfOk result (λ o. IsMessage o self.new buffer.new.items) }
+        ensures message { IfOk result (λ o. IsMessage o self.new buffer.old.items buffer.new.items) }
+        ensures untouched { OnErr result (buffer.new.items ≡ buffer.old.items) }
         ensures unchanged { OnErr result (self.new ≡ self.old) }
     {
         if self.earlier.is_left_question() {
@@ -574,7 +578,7 @@ impl Asker {
     fn send(&mut self, buffer: &mut Buffer, now: u64) -> Output
         ensures asker { self.new ≡ (sends self.old now).asker }
         ensures output { result ≡ (sends self.old now).output }
-        ensures message { IsMessage result self.new buffer.new.items }
+        ensures message { IsMessage result self.new buffer.old.items buffer.new.items }
     {
         match self.session.send(buffer) {
             Ok(()) => self.note_sent(now),
@@ -586,7 +590,7 @@ impl Asker {
     fn resume(&mut self, buffer: &mut Buffer, now: u64) -> Output
         ensures asker { self.new ≡ (resumes self.old now).asker }
         ensures output { result ≡ (resumes self.old now).output }
-        ensures message { IsMessage result self.new buffer.new.items }
+        ensures message { IsMessage result self.new buffer.old.items buffer.new.items }
     {
         match self.session.resume(self.settings.attempts) {
             Ok(()) => {
@@ -602,7 +606,8 @@ impl Asker {
     fn send_or_test(&mut self, buffer: &mut Buffer, now: u64) -> Result<Output, BeginError>
         ensures asker { OnOk result (self.new ≡ (sends_or_tests self.old now).asker) }
         ensures output { IfOk result (λ o. o ≡ (sends_or_tests self.old now).output) }
-        ensures message { IfOk result (λ o. IsMessage o self.new buffer.new.items) }
+        ensures message { IfOk result (λ o. IsMessage o self.new buffer.old.items buffer.new.items) }
+        ensures untouched { OnErr result (buffer.new.items ≡ buffer.old.items) }
         ensures begins { OnErr result (begins_asking self.old ≡ true) }
         ensures memory { IfErr result (λ e. e ≡ BeginError.OutOfMemory) }
         ensures unchanged { OnErr result (self.new ≡ self.old) }
@@ -641,7 +646,8 @@ impl Asker {
         ensures asker { OnOk result (self.new ≡ (reads_wanted self.old self.old.wanted now).asker) }
         ensures output { IfOk result
             (λ o. o ≡ (reads_wanted self.old self.old.wanted now).output) }
-        ensures message { IfOk result (λ o. IsMessage o self.new buffer.new.items) }
+        ensures message { IfOk result (λ o. IsMessage o self.new buffer.old.items buffer.new.items) }
+        ensures untouched { OnErr result (buffer.new.items ≡ buffer.old.items) }
         ensures memory { IfErr result (λ e. e ≡ BeginError.OutOfMemory) }
         ensures unchanged { OnErr result (self.new ≡ self.old) }
     {
@@ -677,7 +683,8 @@ impl Asker {
             (self.new ≡ (tests_wanted self.old first numbers_left self.old.wanted now).asker) }
         ensures output { IfOk result
             (λ o. o ≡ (tests_wanted self.old first numbers_left self.old.wanted now).output) }
-        ensures message { IfOk result (λ o. IsMessage o self.new buffer.new.items) }
+        ensures message { IfOk result (λ o. IsMessage o self.new buffer.old.items buffer.new.items) }
+        ensures untouched { OnErr result (buffer.new.items ≡ buffer.old.items) }
         ensures memory { IfErr result (λ e. e ≡ BeginError.OutOfMemory) }
         ensures unchanged { OnErr result (self.new ≡ self.old) }
     {
@@ -726,7 +733,7 @@ impl Asker {
     fn go_on_saved(&mut self, buffer: &mut Buffer, now: u64) -> Output
         ensures asker { self.new ≡ (goes_on_saved self.old now).asker }
         ensures output { result ≡ (goes_on_saved self.old now).output }
-        ensures message { IsMessage result self.new buffer.new.items }
+        ensures message { IsMessage result self.new buffer.old.items buffer.new.items }
     {
         self.is_kept = true;
         match self.session.resume(self.settings.attempts) {
