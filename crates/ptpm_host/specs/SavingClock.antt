@@ -108,6 +108,11 @@ IsCalledAt before call after = (b : ClockBatch) (count : ℕ)
     → IsAsBatch before b count
     → IsAsBatch after (called_at before b call) count
 
+-- its latest image is the same, and may be said to be saved if it might before
+pub record KeepsImage (c d : SavingClock) : Type 0 where
+  pub images : d.images ≡ c.images
+  pub imaged : d.is_imaged ≡ c.is_imaged
+
 -- ---- what it has
 
 -- how many places have no message

@@ -78,7 +78,7 @@ pub enum Saved {
 }
 
 impl SavingClock {
-    ghost use Rattle.std.specs.Prelude.{◌≢◌, ◌==◌, ◌<◌, ◌++◌, ◌∷◌, ◌||◌, ◌&&◌, if◌then◌else◌, ℕ, All, IfErr, IfOk, IsTrue, MatchResult, None, Ok, OnErr, OnOk, Some, [], drop, false, is_ok, is_some, not, take, true};
+    ghost use Rattle.std.specs.Prelude.{◌≢◌, ◌%◌, ◌^◌, ◌==◌, ◌<◌, ◌++◌, ◌∷◌, ◌↔◌, ◌||◌, ◌&&◌, if◌then◌else◌, ℕ, All, IfErr, IfNone, IfOk, IfSome, IsSome, IsTrue, MatchResult, None, Ok, OnErr, OnOk, Some, [], drop, false, is_ok, is_some, not, take, true};
     ghost use Rattle.std.specs.List.{AllZip};
     ghost use Rattle.ptpm_codec.specs.Layout.{message_octets};
     ghost use Rattle.ptpm_data.specs.Changed.{changed, no_members};
@@ -98,7 +98,7 @@ impl SavingClock {
     ghost use Rattle.ptpm_host.specs.Device.{Answers, IsGiven, said_value, say_in};
     ghost use Rattle.ptpm_host.specs.MostSent.{most_sent};
     ghost use Rattle.ptpm_host.specs.Observing.{IsObserved, clock_observation, observe_refusal, port_observations, ports_left};
-    ghost use Rattle.ptpm_host.specs.SavingClock.{IsAsBatch, IsCalled, IsCalledAt, IsNotSaving, acting_once_imaged, acts_once_saved, called_at, clock_state_in, decide_refusal, free_places, is_behind, is_for_live, is_full, is_stopped, is_unsaved, request_under_way, shown_state, state_asked, take_refusal, undertake_refusal};
+    ghost use Rattle.ptpm_host.specs.SavingClock.{IsAsBatch, IsCalled, IsCalledAt, IsNotSaving, KeepsImage, acting_once_imaged, acts_once_saved, called_at, clock_state_in, decide_refusal, free_places, is_behind, is_for_live, is_full, is_stopped, is_unsaved, request_under_way, shown_state, state_asked, take_refusal, undertake_refusal};
     ghost use Rattle.ptpm_host.specs.UnderWay.{AnswersAsked, asked_of, image_with};
     ghost use Rattle.ptpm_host.specs.Undertaking.{asked_once_saved};
 
@@ -115,6 +115,7 @@ impl SavingClock {
             (λ c. (count : ℕ) → IsAsBatch c (begun (clock_state_in clock.value)) count) }
         ensures clock { IfOk result (λ c. c.clock ≡ clock) }
         ensures begun { IfOk result (λ c. c.is_begun ≡ saved) }
+        ensures images { IfOk result (λ c. c.images ≡ 0) }
         ensures free { IfOk result (λ c. free_places c ≡ places) }
         ensures permitted { OnOk result (most_sent (state_in clock.value) ≤ places) }
         ensures refused { IfErr result (IsNotSaving clock.value places) }
@@ -260,6 +261,7 @@ impl SavingClock {
         ensures clock { clock_in self.new.clock.value ≡ clock_in self.old.clock.value }
         ensures under_way { self.new.clock.value.under_way ≡ self.old.clock.value.under_way }
         ensures begun { self.new.is_begun ≡ self.old.is_begun }
+        ensures token { KeepsImage self.old self.new }
     {
         let said = match self.clock.said(port, say, room.len()) {
             Ok(said) => said,
@@ -318,6 +320,7 @@ impl SavingClock {
         ensures agent { self.new.clock.value.agent ≡ self.old.clock.value.agent }
         ensures free { free_places self.new ≡ free_places self.old }
         ensures begun { self.new.is_begun ≡ self.old.is_begun }
+        ensures token { KeepsImage self.old self.new }
         ensures refusal { MatchResult result
             (λ _. undertake_refusal self.old port datagram.now ≡ None)
             (λ e. undertake_refusal self.old port datagram.now ≡ Some e) }
@@ -353,6 +356,7 @@ impl SavingClock {
         ensures agent { self.new.clock.value.agent ≡ self.old.clock.value.agent }
         ensures free { free_places self.new ≡ free_places self.old }
         ensures begun { self.new.is_begun ≡ self.old.is_begun }
+        ensures token { KeepsImage self.old self.new }
     {
         self.clock.under_way = Some(UnderWay::of(port, first_message(datagram)));
         self.waits = true;
@@ -390,6 +394,7 @@ impl SavingClock {
         ensures untouched { OnErr result (room.new ≡ room.old) }
         ensures clock { clock_in self.new.clock.value ≡ clock_in self.old.clock.value }
         ensures begun { self.new.is_begun ≡ self.old.is_begun }
+        ensures token { KeepsImage self.old self.new }
     {
         let Some(under_way) = self.clock.under_way else {
             return Err(DecideRefusal::NothingUnderWay);
@@ -422,6 +427,7 @@ impl SavingClock {
         ensures still { self.new.waits ≡ true }
         ensures free { free_places self.new + result.waiting ≡ free_places self.old }
         ensures begun { self.new.is_begun ≡ self.old.is_begun }
+        ensures token { KeepsImage self.old self.new }
         ensures count { result.count ≡ 0 }
         ensures blanked { AreBlanked result.waiting room.old room.new }
         ensures clock { clock_in self.new.clock.value ≡ clock_in self.old.clock.value }
@@ -476,6 +482,7 @@ impl SavingClock {
         ensures queue { self.new.queue ≡ self.old.queue }
         ensures still { self.new.waits ≡ true }
         ensures begun { self.new.is_begun ≡ self.old.is_begun }
+        ensures token { KeepsImage self.old self.new }
         ensures count { result.count ≤ length room.new }
         ensures whole { All IsWhole (take result.count room.new) }
         ensures places { drop result.count room.new ≡ drop result.count room.old }
@@ -520,6 +527,7 @@ impl SavingClock {
         ensures still { self.new.waits ≡ is_new result.verdict }
         ensures free { free_places self.new + result.waiting ≡ free_places self.old }
         ensures begun { self.new.is_begun ≡ self.old.is_begun }
+        ensures token { KeepsImage self.old self.new }
         ensures count { result.count ≤ length room.new }
         ensures whole { All IsWhole (take result.count room.new) }
         ensures places { drop (result.count + result.waiting) room.new
@@ -571,6 +579,7 @@ impl SavingClock {
         ensures still { self.new.waits ≡ true }
         ensures free { free_places self.new + result.waiting ≡ free_places self.old }
         ensures begun { self.new.is_begun ≡ self.old.is_begun }
+        ensures token { KeepsImage self.old self.new }
         ensures count { result.count ≡ 0 }
         ensures blanked { AreBlanked result.waiting room.old room.new }
         ensures same { result.waiting ≡ 0 → room.new ≡ room.old }
@@ -619,6 +628,8 @@ impl SavingClock {
         ensures waits { self.new.waits ≡ self.old.waits }
         ensures free { free_places self.new ≡ free_places self.old }
         ensures begun { self.new.is_begun ≡ self.old.is_begun }
+        ensures token { (self.new.images ≡ self.old.images)
+            × (self.new.is_imaged ≡ (self.old.is_imaged && self.old.waits)) }
         ensures unchanged { OnErr result (self.new ≡ self.old) }
     {
         if ports.len() > self.clock.sets().port_count() as usize {
@@ -661,6 +672,7 @@ impl SavingClock {
         ensures waits { OnOk result (self.new.waits ≡ true) }
         ensures free { free_places self.new ≡ free_places self.old }
         ensures begun { self.new.is_begun ≡ self.old.is_begun }
+        ensures token { KeepsImage self.old self.new }
         ensures refusal { MatchResult result
             (λ _.
             change_refusal (request_here action id port octets.now) self.old.clock.value
@@ -696,6 +708,7 @@ impl SavingClock {
         ensures waits { self.new.waits ≡ self.old.waits }
         ensures free { free_places self.new ≡ free_places self.old }
         ensures begun { self.new.is_begun ≡ self.old.is_begun }
+        ensures counted { OnOk result (λ r. r.1 ≡ (self.old.images + 1) % 2 ^ 64) }
         ensures unchanged { OnErr result (self.new ≡ self.old) }
         ensures untouched { OnErr result (octets.new ≡ octets.old) }
     {
@@ -728,6 +741,7 @@ impl SavingClock {
         ensures told { OnOk result (acts_once_saved self.new ≡ false) }
         ensures waits { OnOk result (self.new.waits ≡ self.old.is_changed) }
         ensures begun { OnOk result (self.new.is_begun ≡ true) }
+        ensures images { self.new.images ≡ self.old.images }
         ensures once { OnOk result (self.new.is_imaged ≡ false) }
         ensures clock { self.new.clock ≡ self.old.clock }
         ensures free { free_places self.new ≡ free_places self.old }
@@ -797,6 +811,7 @@ impl SavingClock {
         ensures clock { self.new.clock ≡ self.old.clock }
         ensures waits { self.new.waits ≡ self.old.waits }
         ensures begun { self.new.is_begun ≡ self.old.is_begun }
+        ensures token { KeepsImage self.old self.new }
         ensures unchanged { result ≡ false → self.new ≡ self.old }
         ensures untouched { result ≡ false → sent.new ≡ sent.old }
     {
