@@ -628,8 +628,8 @@ impl SavingClock {
         ensures waits { self.new.waits ≡ self.old.waits }
         ensures free { free_places self.new ≡ free_places self.old }
         ensures begun { self.new.is_begun ≡ self.old.is_begun }
-        ensures token { (self.new.images ≡ self.old.images)
-            × (self.new.is_imaged ≡ (self.old.is_imaged && self.old.waits)) }
+        ensures token { OnOk result ((self.new.images ≡ self.old.images)
+            × (self.new.is_imaged ≡ (self.old.is_imaged && self.old.waits))) }
         ensures unchanged { OnErr result (self.new ≡ self.old) }
     {
         if ports.len() > self.clock.sets().port_count() as usize {
