@@ -97,14 +97,19 @@ abbrev pub IsAskerAt : HostedAsker → AskerValue → Option Outcome → Type 0
 IsAskerAt u value told = (u.asker ≡ value) × (u.told ≡ told)
 
 -- the asker that was kept takes this turn, and hands this out
-pub record HasTurned (s : HostedAsker) (t : Turn) (out : Handed) (u : HostedAsker) : Type 0 where
+pub record HandsTurn (s : HostedAsker) (t : Turn) (out : Handed) (u : HostedAsker) : Type 0 where
   pub asker : IsAskerAt u t.asker (told_after s.told t.output)
   pub handed : out ≡ handed_of t.output
 
--- the same, and what is to be sent is its message
+-- the same, and what was handed out to be sent last stays
+pub record HasTurned (s : HostedAsker) (t : Turn) (out : Handed) (u : HostedAsker) : Type 0 where
+  pub turned : HandsTurn s t out u
+  pub buffer : u.buffer ≡ s.buffer
+
+-- the same; what is to be sent is its message, and else what was handed out before stays
 pub record HasTurnedWith (s : HostedAsker) (t : Turn) (out : Handed) (u : HostedAsker) : Type 0 where
-  pub turned : HasTurned s t out u
-  pub message : IsMessage t.output t.asker u.buffer.items
+  pub turned : HandsTurn s t out u
+  pub message : IsMessage t.output t.asker s.buffer.items u.buffer.items
 
 -- ---- what an earlier run left, in plain numbers
 

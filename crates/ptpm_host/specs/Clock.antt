@@ -31,10 +31,11 @@ clock_in c = clock_of owner_of_block c.agent
 abbrev pub state_in : HostedClock → State
 state_in c = state_of entries_of_block c.agent
 
--- of these settings' identity and these managers, and it has heard nothing yet
+-- of these settings' identity and these managers; it has heard nothing yet, and nothing is under way
 abbrev pub IsFreshClock : ClockSettings → List ManagerSettings → HostedClock → Type 0
 IsFreshClock clock managers c =
     IsFresh (record { 0 = clock.identity }) (settings.configured managers) (clock_in c) (state_in c).entries
+    × (c.under_way ≡ None)
 
 -- ---- why a clock does not start: its values first, then its managers, and last that its host has given it no identity
 

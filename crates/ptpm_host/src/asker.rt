@@ -108,6 +108,7 @@ impl HostedAsker {
         ensures judged { IsJudgedBy (asks_refusal self.old.asker (wanted_of action id port octets.now))
             BeginError.OutOfMemory result }
         ensures unchanged { OnErr result (IsAskerAt self.new self.old.asker self.old.told) }
+        ensures message { OnErr result (self.new.buffer.items ≡ self.old.buffer.items) }
     {
         let output = self.asker.ask(
             &mut self.buffer,
@@ -128,6 +129,7 @@ impl HostedAsker {
             (λ out. HasTurnedWith self.old (settles self.old.asker now tag domain) out self.new) }
         ensures permitted { IsSome result ↔ (can_settle self.old.asker ≡ true) }
         ensures unchanged { IfNone result (IsAskerAt self.new self.old.asker self.old.told) }
+        ensures message { IfNone result (self.new.buffer.items ≡ self.old.buffer.items) }
     {
         let output = self.asker.settle(&mut self.buffer, now, tag, domain)?;
         Some(self.hand(output))
@@ -139,6 +141,7 @@ impl HostedAsker {
         ensures refusal { MatchResult result (λ _. lets_go_refusal self.old.asker ≡ None)
             (λ e. lets_go_refusal self.old.asker ≡ Some e) }
         ensures unchanged { OnErr result (IsAskerAt self.new self.old.asker self.old.told) }
+        ensures message { OnErr result (self.new.buffer.items ≡ self.old.buffer.items) }
     {
         let output = self.asker.let_go()?;
         Ok(self.hand(output))
@@ -154,6 +157,7 @@ impl HostedAsker {
             ⊎ NeedsMemory (received_of self.old.asker.reader datagram.now)) }
         ensures asking { OnErr result (self.old.asker.stage ≡ Stage.Asking) }
         ensures unchanged { OnErr result (IsAskerAt self.new self.old.asker self.old.told) }
+        ensures message { OnErr result (self.new.buffer.items ≡ self.old.buffer.items) }
     {
         let output = self.asker.hear(datagram)?;
         Ok(self.hand(output))
@@ -166,6 +170,7 @@ impl HostedAsker {
         ensures begins { OnErr result (begins_waking self.old.asker now ≡ true) }
         ensures memory { IfErr result (λ e. e ≡ BeginError.OutOfMemory) }
         ensures unchanged { OnErr result (IsAskerAt self.new self.old.asker self.old.told) }
+        ensures message { OnErr result (self.new.buffer.items ≡ self.old.buffer.items) }
     {
         let output = self.asker.wake(&mut self.buffer, now)?;
         Ok(self.hand(output))
@@ -195,6 +200,7 @@ impl HostedAsker {
             ((self.old.asker.stage ≡ Stage.Noting) × IsSome self.old.asker.wanted) }
         ensures judged { IsJudgedBy (noted_refusal self.old.asker) BeginError.OutOfMemory result }
         ensures unchanged { OnErr result (IsAskerAt self.new self.old.asker self.old.told) }
+        ensures message { OnErr result (self.new.buffer.items ≡ self.old.buffer.items) }
     {
         let output = self.asker.noted()?;
         Ok(self.hand(output))

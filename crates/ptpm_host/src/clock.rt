@@ -66,6 +66,7 @@ impl HostedClock {
             IsFresh (record { 0 = settings.now.identity }) (configured managers.now)
             (⟦<HeapTable as ReplyTable>⟧.owner c.agent.table)
             (⟦<HeapTable as ReplyTable>⟧.entries c.agent.table)) }
+        ensures nothing { IfOk result (λ c. c.under_way ≡ None) }
         ensures permitted { OnOk result (start_refusal settings.now ports.now managers.now ≡ None) }
         ensures refused { IfErr result (λ e. e ≢ StartRefusal.OutOfMemory →
             start_refusal settings.now ports.now managers.now ≡ Some e) }
