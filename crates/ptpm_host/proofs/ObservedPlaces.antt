@@ -3,6 +3,7 @@ use Rattle.std.proofs.Common.{arith, ◌≡◌, ◌<◌, ◌≤◌, ◌+◌, ◌
 use Rattle.std.specs.Int.{from_bool}
 use Rattle.std.proofs.Math.Nat.{pow-succ'}
 use Rattle.std.proofs.Math.Pow.{pow_mono}
+use Rattle.ptpm_data.specs.declared.ports.TheConstants.{PORTS}
 use Rattle.ptpm_data.specs.Observation.{is_left, observation_refusal}
 use Rattle.ptpm_host.specs.Observing.{left_from, IsObserved, clock_observation, observe_refusal, port_observation, port_observations}
 use Rattle.std.proofs.lemmas.Bool.Decides.{nat_tests}
@@ -13,22 +14,26 @@ use Rattle.ptpm_host.specs.declared.clock.HostedClock.{HostedClock}
 use Rattle.ptpm_host.specs.declared.observing.ObservedClock.{ObservedClock}
 use Rattle.ptpm_host.specs.declared.observing.ObservedPort.{ObservedPort}
 
--- ---- a number of so many bits, with one bit before them
+-- ---- the number of the last ports, with one more before them
 
-pub left_step : (port count : ℕ) (left : List Bool)
-    → 0 < count
-    → left_from port count left ≡ from_bool (is_left port left) + 2 * left_from (port + 1) (count - 1) left
-left_step port zero left some = absurd (omega (arith, some))
-left_step port (suc n) left some =
-    let e : suc n - 1 ≡ n = omega arith in ap (λ k. from_bool (is_left port left) + 2 * left_from (port + 1) k left) (sym e)
+pub next_left : (above number : ℕ) (left : List Bool)
+    → above < PORTS
+    → number ≡ left_from (PORTS + 1 - above) above left
+    → from_bool (is_left (PORTS - above) left) + 2 * number ≡ left_from (PORTS + 1 - (above + 1)) (above + 1) left
+next_left above number left less is =
+    let port : PORTS - above ≡ PORTS + 1 - (above + 1) = omega arith in
+    let behind : PORTS + 1 - above ≡ PORTS - above + 1 = omega arith in
+    let more : suc above ≡ above + 1 = omega arith in
+    ap (λ n. from_bool (is_left (PORTS - above) left) + 2 * n) (is ∙ ap (λ p. left_from p above left) behind)
+    ∙ (λ i. left_from (port i) (more i) left)
 
-pub twice_fits : (count bit number : ℕ) → 0 < count → bit ≤ 1 → number < 2 ^ (count - 1) → bit + 2 * number < 2 ^ count
-twice_fits zero bit number some small less = absurd (omega (arith, some))
-twice_fits (suc n) bit number some small less =
-    let e : suc n - 1 ≡ n = omega arith in omega (arith, pow-succ' 2 n, ap (λ k. 2 ^ k) e, small, less)
+pub next_fits : (above bit number : ℕ) → above < PORTS → bit ≤ 1 → number < 2 ^ above → bit + 2 * number < 2 ^ (above + 1)
+next_fits above bit number less small few =
+    let e : 2 ^ (above + 1) ≡ 2 * 2 ^ above = ap (λ n. 2 ^ n) (omega arith) ∙ pow-succ' 2 above in
+    omega (arith, e, small, few)
 
-pub in_word : (count number : ℕ) → count ≤ 64 → number < 2 ^ count → number < 2 ^ 64
-in_word count number few less = omega (arith, pow_mono {i = count} {j = 64} few, less)
+pub in_word : (above number : ℕ) → above < PORTS → number < 2 ^ (above + 1) → number < 2 ^ 64
+in_word above number less few = omega (arith, pow_mono {i = above + 1} {j = 64} (omega (arith, less)), few)
 
 pub bit_small : (b : Bool) → from_bool b ≤ 1
 bit_small true = omega arith
