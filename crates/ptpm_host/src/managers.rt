@@ -35,7 +35,7 @@ pub(crate) fn managers_fault(managers: &[ManagerSettings]) -> Option<TableError>
     managers_refusal(&places[..managers.len()])
 }
 
-/// The reply table of a clock of this many ports without entries, for managers of whom none is refused. Never inlined, as `managers_fault`.
+/// The reply table of a clock of this many ports without entries, for managers of whom none is refused. Never inlined: see `managers_fault`.
 #[inline(never)]
 #[tactic(auto, using(crate::proofs::ManagerLemmas::few, crate::proofs::ManagerLemmas::none_twice))]
 pub(crate) fn judged_table(

@@ -608,7 +608,7 @@ impl SavingClock {
 
     /// What `HostedClock::observe` does, to the clock as it is. What it shows moves by the same observation, and so does the
     /// latest image of it, each if its own data sets permit that. Nothing is saved for it. If nothing waits, an image that was
-    /// made before is of another state then. Takes no memory. Never inlined, as `HostedClock::observe`.
+    /// made before is of another state then. Takes no memory. Never inlined: see `HostedClock::observe`.
     #[inline(never)]
     #[tactic(auto, using(crate::proofs::ObservedPlaces::no_port, crate::proofs::ObservedPlaces::same_clock))]
     pub fn observe(
