@@ -1,9 +1,9 @@
 //! What becomes of the datagrams that come in at a clock's ports.
 
-ghost use Rattle.std.specs.Prelude.{◌≡◌, ◌≢◌, ◌<◌, ◌≤◌, ◌+◌, ◌++◌, ◌∷◌, [], false, true, ℕ, List, All, IsTrue, Ok, Some, IfOk, OnOk, OnErr, length, map};
+ghost use Rattle.std.specs.Prelude.{◌≡◌, ◌≢◌, ◌≤◌, ◌+◌, ◌++◌, ◌∷◌, [], false, true, ℕ, List, All, IsTrue, Ok, Some, IfOk, OnOk, OnErr, length, map};
 ghost use Rattle.std.specs.FinMap as fin;
 ghost use Rattle.ptpm_codec.specs.declared.identity.PortIdentity.{PortIdentity};
-ghost use Rattle.ptpm_codec.specs.Layout.{boundary_hops, message_octets};
+ghost use Rattle.ptpm_codec.specs.Layout.{message_octets};
 ghost use Rattle.ptpm_codec.specs.Message.{IsDataField, IsRequestAction, IsValid};
 ghost use Rattle.ptpm_codec.specs.Reading.{IsWellFormed, reading};
 ghost use Rattle.ptpm_codec.specs.Spelling.{Spells};
@@ -498,7 +498,7 @@ impl<T: SureTable + Drop> Agent<T> {
             (clock_of T.owner self.old) (state_of T.entries self.old) ingress datagram.now)
             result.0 (copies_if result.1 ingress self.old.sets datagram.now ++ O.sent out.new)
             (state_of T.entries self.new) }
-        ensures passed { IsTrue result.1 → IsWellFormed datagram.now × (0 < boundary_hops datagram.now) }
+        ensures well_formed { IsTrue result.1 → IsWellFormed datagram.now }
         ensures sets { IsTrue result.1 → self.new.sets ≡ self.old.sets }
         ensures grown { O.grown out.old out.new }
         ensures clock { clock_of T.owner self.new ≡ clock_of T.owner self.old }

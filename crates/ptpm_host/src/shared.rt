@@ -1,7 +1,6 @@
 //! A turn that needs little room. What the clock passes on is the datagram itself, and only answers have places.
 
-ghost use Rattle.std.specs.Prelude.{◌≡◌, ◌<◌, ◌≤◌, ◌+◌, ◌^◌, IfOk, IsTrue, MatchResult, None, OnErr, Some, All, length, take};
-ghost use Rattle.ptpm_codec.specs.Layout.{boundary_hops};
+ghost use Rattle.std.specs.Prelude.{◌≡◌, ◌<◌, ◌≤◌, ◌+◌, ◌^◌, IfOk, IsTrue, MatchResult, None, OnErr, Some, All, length, take, true};
 ghost use Rattle.ptpm_codec.specs.Reading.{IsWellFormed};
 ghost use Rattle.ptpm_data.specs.Members.{has_port};
 ghost use Rattle.ptpm_data.specs.declared.ports.TheConstants.{PORTS};
@@ -75,7 +74,7 @@ impl HostedClock {
 
 /// Makes the datagram its own copy, if it is passed on. Answers at which ports it goes on, and how many octets.
 fn pass_on(sets: &DataSets, ingress: u16, datagram: &mut [u8], passed: bool) -> (u64, usize)
-    requires { IsTrue passed → IsWellFormed datagram.old × (0 < boundary_hops datagram.old) }
+    requires { IsTrue passed → IsWellFormed datagram.old }
     ensures ports { result.0 ≡ egress_if passed ingress sets.now }
     ensures copy { IsCopy passed result.1 datagram.old datagram.new }
 {
@@ -89,13 +88,13 @@ fn pass_on(sets: &DataSets, ingress: u16, datagram: &mut [u8], passed: bool) -> 
 
 /// Lowers boundaryHops of a datagram. Answers how many octets its message has.
 fn lower_hop(datagram: &mut [u8]) -> usize
-    requires well_formed { IsWellFormed datagram.old }
-    requires hops { 0 < boundary_hops datagram.old }
+    requires { IsWellFormed datagram.old }
     ensures { IsCopy true result datagram.old datagram.new }
 {
     let size = message_size(datagram);
+    let hops = datagram[45].saturating_sub(1);
     let message = &mut datagram[..size];
-    message[45] -= 1;
+    message[45] = hops;
     size
 }
 
