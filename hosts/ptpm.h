@@ -229,8 +229,8 @@ struct ptpm_answer {
 
 /* What is sent for a datagram that is its own copy (ptpm_clock_handle_shared). */
 struct ptpm_shared {
-    PTPM_AT_EIGHT uint64_t ports;       /* where it goes on: 1 for port 1, 2 for port 2, 4 for port 3, and so on, summed up */
-    uint64_t size;                      /* how many of its octets go on; 0 if it does not */
+    PTPM_AT_EIGHT uint64_t ports;       /* the ports at which it is forwarded: 1 for port 1, 2 for port 2, and so on, summed up */
+    uint64_t size;                      /* how many of its octets are forwarded; 0 if none */
     uint64_t count;                     /* how many answers were written */
 };
 
@@ -1058,10 +1058,10 @@ static inline enum ptpm_started ptpm_clock_start_sized(struct ptpm_clock *handle
 enum ptpm_handled ptpm_clock_handle(struct ptpm_clock *clock, uint16_t port, const uint8_t *datagram, size_t size,
                                     struct ptpm_sent *sent, size_t room, size_t *count);
 
-/* Does what ptpm_clock_handle does, in less room. What goes on at other ports is the datagram itself, with one hop less. So there are places
-   for answers alone, which have 188 octets each in place of 1,476. It is for a clock of many ports, or a host of little memory.
-   Takes:   the port, counted from 1; size octets; and room places: as many as the clock has ports. It is more only after a restore from
-            an image of another hand, of which a kept reply has more answers.
+/* Does what ptpm_clock_handle does, in less room. What is forwarded is the datagram itself, with boundaryHops decremented. So only answers
+   have places, of 188 octets each. It is for a clock of many ports, or a host of little memory.
+   Takes:   the port, counted from 1; size octets; and room places: as many as the clock has ports. More are needed only after a restore
+            from an image of another hand, in which a kept reply has more answers.
    Returns: what ptpm_clock_handle returns.
    Writes:  *shared, and the first shared->count places of answers. If shared->size is not 0, octet 45 of the datagram is less by one.
    Caller:  sends the first shared->size octets of the datagram at each of shared->ports, and then the answers in their order, each at its

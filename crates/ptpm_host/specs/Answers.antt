@@ -25,7 +25,7 @@ IsWholeAnswer s = s.size ≤ 184
 abbrev pub most_replied : State → ℕ
 most_replied s = max (length s.sets.ports) (most_answers (entries s.entries))
 
--- the egress ports among this number of ports from one on: 1 for the first, 2 for the second, 4 for the third, and so on, summed up
+-- the egress ports as a number: 1 for the first port of so many, 2 for the second, 4 for the third, and so on, summed up
 abbrev pub egress_from : ℕ → ℕ → ℕ → DataSetsValue → ℕ
 egress_from port zero ingress d = 0
 egress_from port (suc n) ingress d =

@@ -125,8 +125,8 @@ static void check_again(const struct ptpm_clock *other, const struct turn *again
     if (!is_same_turn(&turn, again) || !is_same_clock(other)) say("the clock that was restored does something else\n");
 }
 
-/* Hands a datagram in at all three clocks. It comes in only at the first if that is unsaved, since the others are saved, and not at the
-   third if ptpm_clock_handle does not take it. */
+/* Hands a datagram in at all three clocks. It comes in only at the first if that is unsaved, since the others are saved. At the third it
+   comes in only if ptpm_clock_handle takes it. */
 static void handle(const struct coming *in, size_t places) {
     static struct turn again;
     struct ptpm_clock second = { 0 }, third = { 0 };
