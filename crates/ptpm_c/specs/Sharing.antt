@@ -1,12 +1,13 @@
 -- What a call of C does to a clock that a handle holds: one turn. What it passes on is the datagram itself, and the answers are written into
 -- places of the host.
-use Rattle.std.specs.Prelude.{◌≡◌, ℕ, IsSomeAnd, List, None, Option, Some, length, take}
+use Rattle.std.specs.Prelude.{◌≡◌, ◌<◌, ◌++◌, ℕ, IsSomeAnd, List, None, Option, Some, length, nat_lt, take}
 use Rattle.ptpm_data.specs.Members.{has_port}
-use Rattle.ptpm_agent.specs.declared.verdict.Verdict.{Verdict}
+use Rattle.ptpm_agent.specs.Forwarding.{copies_if, with_less_hop}
+use Rattle.ptpm_agent.specs.Turn.{outbox_of}
 use Rattle.ptpm_host.specs.declared.clock.HostedClock.{HostedClock}
 use Rattle.ptpm_host.specs.declared.refusal.HandleRefusal.{HandleRefusal}
 use Rattle.ptpm_host.specs.declared.answer_places.SentAnswer.{SentAnswer}
-use Rattle.ptpm_host.specs.Answers.{IsShared, answers_in, most_replied}
+use Rattle.ptpm_host.specs.Answers.{answers_in, egress_if, most_replied}
 use Rattle.ptpm_host.specs.Clock.{clock_in, handle_refusal, state_in}
 use Rattle.ptpm_host.specs.Numbers.{handle_number, no_clock, verdict_number}
 use Rattle.ptpm_c.specs.declared.keeping.Keeping.{Keeping}
@@ -17,12 +18,17 @@ use Rattle.ptpm_c.specs.Turned.{turn_of}
 abbrev pub nothing_shared : Shared
 nothing_shared = record { ports = 0; size = 0; count = 0 }
 
--- the number of its verdict is answered, what goes on and the answers are what the turn sends, and the clock is where it leads
+-- The number of its verdict is answered. What goes on is the first octets of the datagram, if their size is not 0. With a copy at each
+-- egress port, the answers are what the turn sends. The clock is where it leads.
 pub record IsSharedTo (c : HostedClock) (port : ℕ) (before after : List ℕ) (number : ℕ) (out : Shared) (answers : List (ℕ × List ℕ))
     (d : HostedClock) : Type 0 where
-  pub verdict : Verdict
-  pub number_is : number ≡ verdict_number verdict
-  pub shared : IsShared (turn_of c port before) c.agent.sets port before after verdict out.ports out.size answers (state_in d)
+  pub number_is : number ≡ verdict_number (turn_of c port before).verdict
+  pub messages_are : copies_if (nat_lt 0 out.size) port c.agent.sets before ++ answers ≡ outbox_of (turn_of c port before)
+  pub ports_are : out.ports ≡ egress_if (nat_lt 0 out.size) port c.agent.sets
+  pub copy_is : 0 < out.size → take out.size after ≡ with_less_hop before
+  pub stays : out.size ≡ 0 → after ≡ before
+  pub sets_are : (state_in d).sets ≡ (turn_of c port before).next.sets
+  pub entries_are : (state_in d).entries ≡ (turn_of c port before).next.entries
   pub clock_is : clock_in d ≡ clock_in c
 
 -- why a datagram at a port is not handed to the clock, by that port and by the places for answers that there are

@@ -1,11 +1,10 @@
 -- Answers in the places of a host, and the datagram that goes on at other ports.
-use Rattle.std.specs.Prelude.{◌≡◌, ◌≤◌, ◌==◌, ◌&&◌, ◌+◌, ◌*◌, ◌++◌, ℕ, zero, suc, not, Bool, true, false, List, length, map, max, take, if◌then◌else◌}
+use Rattle.std.specs.Prelude.{◌≡◌, ◌≤◌, ◌<◌, ◌==◌, ◌&&◌, ◌+◌, ◌*◌, ◌++◌, ℕ, zero, suc, not, nat_lt, Bool, List, length, map, max, take, if◌then◌else◌}
 use Rattle.std.specs.FinMap.{entries}
 use Rattle.std.specs.Int.{from_bool}
 use Rattle.ptpm_data.specs.Members.{DataSetsValue, may_forward}
-use Rattle.ptpm_agent.specs.Agent.{IsTurned}
 use Rattle.ptpm_agent.specs.Forwarding.{copies_if, with_less_hop}
-use Rattle.ptpm_agent.specs.Turn.{State, Turned}
+use Rattle.ptpm_agent.specs.Turn.{State, Turned, outbox_of}
 use Rattle.ptpm_agent.specs.declared.verdict.Verdict.{Verdict}
 use Rattle.ptpm_host.specs.MostSent.{most_answers}
 use Rattle.ptpm_host.specs.declared.answer_places.SentAnswer.{SentAnswer}
@@ -35,16 +34,13 @@ egress_from port (suc n) ingress d =
 abbrev pub egress_if : Bool → ℕ → DataSetsValue → ℕ
 egress_if passed ingress d = if passed then egress_from 1 (length d.ports) ingress d else 0
 
--- the first octets are the copy that is passed on, or the datagram is as it was
-abbrev pub IsCopy : Bool → ℕ → List ℕ → List ℕ → Type 0
-IsCopy true size before after = take size after ≡ with_less_hop before
-IsCopy false size before after = (size ≡ 0) × (after ≡ before)
-
--- The first `size` octets of the datagram are the copy, if it is passed on. With a copy at each of the ports of this number, the answers
--- are what the turn sends.
+-- What goes on is the first octets of the datagram, if `size` is not 0. With a copy at each egress port, the answers are what the turn sends.
 pub record IsShared (t : Turned) (d : DataSetsValue) (ingress : ℕ) (before after : List ℕ) (verdict : Verdict) (ports size : ℕ)
     (answers : List (ℕ × List ℕ)) (next : State) : Type 0 where
-  pub passed : Bool
-  pub turned : IsTurned t verdict (copies_if passed ingress d before ++ answers) next
-  pub ports_are : ports ≡ egress_if passed ingress d
-  pub copy_is : IsCopy passed size before after
+  pub verdict_is : verdict ≡ t.verdict
+  pub messages_are : copies_if (nat_lt 0 size) ingress d before ++ answers ≡ outbox_of t
+  pub ports_are : ports ≡ egress_if (nat_lt 0 size) ingress d
+  pub copy_is : 0 < size → take size after ≡ with_less_hop before
+  pub stays : size ≡ 0 → after ≡ before
+  pub sets_are : next.sets ≡ t.next.sets
+  pub entries_are : next.entries ≡ t.next.entries

@@ -1,11 +1,12 @@
 //! A turn that needs little room. What the clock passes on is the datagram itself, and only answers have places.
 
-ghost use Rattle.std.specs.Prelude.{◌≡◌, ◌<◌, ◌≤◌, ◌+◌, ◌^◌, IfOk, IsTrue, MatchResult, None, OnErr, Some, All, length, take, true};
+ghost use Rattle.std.specs.Prelude.{◌≡◌, ◌<◌, ◌≤◌, ◌+◌, ◌^◌, IfOk, IsTrue, MatchResult, None, OnErr, Some, All, length, nat_lt, take};
 ghost use Rattle.ptpm_codec.specs.Reading.{IsWellFormed};
 ghost use Rattle.ptpm_data.specs.Members.{has_port};
 ghost use Rattle.ptpm_data.specs.declared.ports.TheConstants.{PORTS};
+ghost use Rattle.ptpm_agent.specs.Forwarding.{with_less_hop};
 ghost use Rattle.ptpm_agent.specs.Turn.{turn};
-ghost use Rattle.ptpm_host.specs.Answers.{IsCopy, IsShared, IsWholeAnswer, answers_in, egress_from, egress_if, most_replied};
+ghost use Rattle.ptpm_host.specs.Answers.{IsShared, IsWholeAnswer, answers_in, egress_from, egress_if, most_replied};
 ghost use Rattle.ptpm_host.specs.Clock.{clock_in, handle_refusal, state_in};
 
 use crate::answer_places::{AnswerPlaces, SentAnswer};
@@ -73,23 +74,28 @@ impl HostedClock {
 }
 
 /// Makes the datagram its own copy, if it is passed on. Answers at which ports it goes on, and how many octets.
+#[tactic(auto, using(std::proofs::lemmas::Bool::Decides::nat_tests))]
 fn pass_on(sets: &DataSets, ingress: u16, datagram: &mut [u8], passed: bool) -> (u64, usize)
     requires { IsTrue passed → IsWellFormed datagram.old }
     ensures ports { result.0 ≡ egress_if passed ingress sets.now }
-    ensures copy { IsCopy passed result.1 datagram.old datagram.new }
+    ensures passed { nat_lt 0 result.1 ≡ passed }
+    ensures copy { 0 < result.1 → take result.1 datagram.new ≡ with_less_hop datagram.old }
+    ensures stays { result.1 ≡ 0 → datagram.new ≡ datagram.old }
 {
     if !passed {
         return (0, 0);
     }
     data_sets_law(sets);
+    let ports = egress_from(sets, ingress, 1, sets.port_count() as usize);
     let size = lower_hop(datagram);
-    (egress_from(sets, ingress, 1, sets.port_count() as usize), size)
+    (ports, size)
 }
 
 /// Lowers boundaryHops of a datagram. Answers how many octets its message has.
 fn lower_hop(datagram: &mut [u8]) -> usize
     requires { IsWellFormed datagram.old }
-    ensures { IsCopy true result datagram.old datagram.new }
+    ensures copy { take result datagram.new ≡ with_less_hop datagram.old }
+    ensures some { 0 < result }
 {
     let size = message_size(datagram);
     let hops = datagram[45].saturating_sub(1);

@@ -377,7 +377,9 @@ pub filled_after : (of_port : Bool) (e : Envelope) (answers : List PortAnswer)
     → IsEncoded of_port e (answer_of item) v
     → sizes' ≡ sizes ++ length (canonical v) ∷ [] → octets' ≡ octets ++ canonical v
     → IsFilled of_port e answers sizes' octets' (i + 1)
-filled_after of_port e answers sizes octets sizes' octets' i item v filled is inside made s o = grind (arith, pieces_more, answers_more, length-append, filled_more, sizes_more, each_more, most_of_all)
+filled_after of_port e answers sizes octets sizes' octets' i item v filled is inside made s o =
+    let small : length (canonical v) ≤ 184 = omega (arith, made.small, most_of_all of_port) in
+    grind (arith, pieces_more, answers_more, length-append, filled_more, sizes_more, each_more)
 
 -- ---- how many messages
 
