@@ -24,8 +24,7 @@ IsWholeAnswer s = s.size ≤ 184
 abbrev pub most_replied : State → ℕ
 most_replied s = max (length s.sets.ports) (most_answers (entries s.entries))
 
--- Egress ports as a number, of the ports from one on: 1 for that one, 2 for the next, 4 for the third, and so on, summed up. `n` ports
--- are looked at.
+-- The egress ports among so many, as a number: 1 for the first of these, 2 for the next, 4 for the third, and so on.
 abbrev pub egress_from : ℕ → ℕ → ℕ → DataSetsValue → ℕ
 egress_from port zero ingress d = 0
 egress_from port (suc n) ingress d =
