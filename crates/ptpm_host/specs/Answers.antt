@@ -24,7 +24,7 @@ IsWholeAnswer s = s.size ≤ 184
 abbrev pub most_replied : State → ℕ
 most_replied s = max (length s.sets.ports) (most_answers (entries s.entries))
 
--- The egress ports among so many, as a number: 1 for the first of these, 2 for the next, 4 for the third, and so on.
+-- the egress ports among these, as a number: 1 for the first of these ports, 2 for the second, 4 for the third, summed up
 abbrev pub egress_from : ℕ → ℕ → ℕ → DataSetsValue → ℕ
 egress_from port zero ingress d = 0
 egress_from port (suc n) ingress d =
