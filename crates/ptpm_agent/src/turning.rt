@@ -482,7 +482,6 @@ impl<T: SureTable + Drop> Agent<T> {
 
     /// Does what `handle_into` does, but leaves the copies to its caller: only the replies are written to `out`, which must be empty and
     /// take these. Answers also whether the datagram is passed on, and then no data set has changed.
-    #[inline(always)]
     pub fn reply_into<O: Outgoing>(
         &mut self,
         ingress: u16,

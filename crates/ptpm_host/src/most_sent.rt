@@ -25,8 +25,8 @@ impl HostedClock {
         alone.max(self.most_answers())
     }
 
-    /// The most answers that it sends for a datagram: one of each port, or as many as a kept reply has. Takes no memory.
-    pub fn most_replied(&self) -> usize
+    /// The most answers that it sends for a datagram: one of each port, or as many as a kept reply has.
+    fn most_replied(&self) -> usize
         ensures { result ≡ most_replied (state_in self.now) }
     {
         let ports = self.agent.sets().port_count() as usize;

@@ -78,7 +78,7 @@ impl HostedClock {
 fn pass_on(sets: &DataSets, ingress: u16, datagram: &mut [u8], passed: bool) -> (u64, usize)
     requires { IsTrue passed → IsWellFormed datagram.old }
     ensures ports { result.0 ≡ egress_if passed ingress sets.now }
-    ensures passed { nat_lt 0 result.1 ≡ passed }
+    ensures told { nat_lt 0 result.1 ≡ passed }
     ensures copy { 0 < result.1 → take result.1 datagram.new ≡ with_less_hop datagram.old }
     ensures stays { result.1 ≡ 0 → datagram.new ≡ datagram.old }
 {

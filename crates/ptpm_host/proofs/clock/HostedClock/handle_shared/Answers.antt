@@ -32,8 +32,8 @@ returns-clause-turned c =
     ) in
     record {
       verdict_is = call.ensures.turned.verdict_is;
-      messages_are = (λ i. copies_if (sent.passed i) c.args.port sets c.args.datagram.now ++ answers_in (take (counted i) p.room.now)) ∙ call.ensures.turned.outbox_is;
-      ports_are = sent.ports ∙ egress_same call.result.1 c.args.port sets call.new.self.sets call.ensures.sets ∙ sym (ap (λ (b : Bool). egress_if b c.args.port sets) sent.passed);
+      messages_are = (λ i. copies_if (sent.told i) c.args.port sets c.args.datagram.now ++ answers_in (take (counted i) p.room.now)) ∙ call.ensures.turned.outbox_is;
+      ports_are = sent.ports ∙ egress_same call.result.1 c.args.port sets call.new.self.sets call.ensures.sets ∙ sym (ap (λ (b : Bool). egress_if b c.args.port sets) sent.told);
       copy_is = sent.copy;
       stays = sent.stays;
       sets_are = call.ensures.turned.sets_are;
