@@ -1,9 +1,11 @@
 -- The places of an observation: one with more of them than the clock has ports is refused; numbers of so many bits.
-use Rattle.std.proofs.Common.{arith, ◌≡◌, ◌<◌, ◌≤◌, ◌+◌, ◌*◌, ◌^◌, ◌-◌, ℕ, zero, suc, Bool, true, false, List, ap, sym, nat_lt, Some, length, refl}
+use Rattle.std.proofs.Common.{arith, ◌≡◌, ◌<◌, ◌≤◌, ◌+◌, ◌*◌, ◌^◌, ◌-◌, ◌==◌, ◌&&◌, not, ℕ, zero, suc, Bool, true, false, List, ap, sym, nat_lt, Some, length, refl}
 use Rattle.std.specs.Int.{from_bool}
 use Rattle.std.proofs.Math.Nat.{pow-succ'}
 use Rattle.std.proofs.Math.Pow.{pow_mono}
+use Rattle.ptpm_data.specs.Members.{DataSetsValue, may_forward}
 use Rattle.ptpm_data.specs.Observation.{is_left, observation_refusal}
+use Rattle.ptpm_host.specs.Answers.{egress_from}
 use Rattle.ptpm_host.specs.Observing.{left_from, IsObserved, clock_observation, observe_refusal, port_observation, port_observations}
 use Rattle.std.proofs.lemmas.Bool.Decides.{nat_tests}
 use Rattle.std.proofs.lemmas.List.{length-map}
@@ -21,6 +23,14 @@ pub left_step : (port count : ℕ) (left : List Bool)
 left_step port zero left some = absurd (omega (arith, some))
 left_step port (suc n) left some =
     let e : suc n - 1 ≡ n = omega arith in ap (λ k. from_bool (is_left port left) + 2 * left_from (port + 1) k left) (sym e)
+
+pub egress_step : (port count ingress : ℕ) (d : DataSetsValue)
+    → 0 < count
+    → egress_from port count ingress d ≡ from_bool (not (port == ingress) && may_forward port d) + 2 * egress_from (port + 1) (count - 1) ingress d
+egress_step port zero ingress d some = absurd (omega (arith, some))
+egress_step port (suc n) ingress d some =
+    let e : suc n - 1 ≡ n = omega arith in
+    ap (λ k. from_bool (not (port == ingress) && may_forward port d) + 2 * egress_from (port + 1) k ingress d) (sym e)
 
 pub twice_fits : (count bit number : ℕ) → 0 < count → bit ≤ 1 → number < 2 ^ (count - 1) → bit + 2 * number < 2 ^ count
 twice_fits zero bit number some small less = absurd (omega (arith, some))
