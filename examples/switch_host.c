@@ -1,6 +1,6 @@
-/* An agent of a switch: its clock has a port at each interface that its words name, 1 to 64 of them (UDP over IPv4, annex C). Its places
-   for messages are twice as many as its ports, less one. What a manager changes is not acted on here, and nothing is kept across a
-   restart. It is C, and C++ too:
+/* An agent of a switch: its clock has a port at each interface that its words name, 1 to 64 of them (UDP over IPv4, annex C). It has a
+   place for an answer of each port. What a manager changes is not acted on here, and nothing is kept across a restart. It is C, and C++
+   too:
        cc switch_host.c $(pkg-config --cflags --libs ptpm) && sudo ./a.out swp1 swp2 swp3 */
 #define _DEFAULT_SOURCE
 #include <arpa/inet.h>
@@ -21,8 +21,8 @@ static const struct ptpm_manager_settings manager = {
     { 0x02, 0x00, 0x00, 0xff, 0xfe, 0x00, 0x00, 0x10 }, 1, PTPM_CLOCK_SET | PTPM_PORT_SET | PTPM_PORT_COMMAND
 };
 static struct ptpm_clock device;                    /* all zeros: no clock is held yet */
-static size_t port_count, places;
-static struct ptpm_sent *sent;                      /* as many places: they are used again for each datagram */
+static size_t port_count;
+static struct ptpm_answer *answers;                 /* as many places: they are used again for each datagram */
 static int sockets[PTPM_MOST_PORTS];
 static struct ptpm_rate rates[PTPM_MOST_PORTS];     /* what each port still forwards */
 static struct ptpm_passed_on passed_on;             /* what was forwarded last */
@@ -48,12 +48,11 @@ static int open_port(const char *interface) {
 static bool start(void) {
     struct ptpm_clock_settings settings;
     struct ptpm_port_settings ports[PTPM_MOST_PORTS];
-    places = PTPM_MOST_SENT_OF(port_count);
-    sent = (struct ptpm_sent *)calloc(places, sizeof *sent);
+    answers = (struct ptpm_answer *)calloc(port_count, sizeof *answers);
     ptpm_clock_defaults(&settings);
     memcpy(settings.identity, identity, sizeof identity);
     for (size_t i = 0; i < port_count; i++) ptpm_port_defaults(&ports[i]);
-    return sent != NULL && ptpm_clock_start_sized(&device, &settings, ports, port_count, &manager, 1) == PTPM_STARTED;
+    return answers != NULL && ptpm_clock_start_sized(&device, &settings, ports, port_count, &manager, 1) == PTPM_STARTED;
 }
 
 /* Milliseconds, of a clock that nobody sets. */
@@ -63,28 +62,27 @@ static uint64_t time_now(void) {
     return (uint64_t)now.tv_sec * 1000 + (uint64_t)now.tv_nsec / 1000000;
 }
 
-/* Sends what the clock made of a datagram, each message at the socket of its port. What is for the port that it came in at answers it,
-   and all else forwards it: once in a while, and not too much. */
-static void send_messages(uint16_t port, size_t size, size_t count) {
-    bool is_asked = false, is_first = false;
+static void send_at(size_t place, const uint8_t *octets, size_t size) {
+    sendto(sockets[place], octets, size, MSG_DONTWAIT, (const struct sockaddr *)&group, sizeof group);
+}
+
+/* Sends what the clock made of a datagram, each message at the socket of its port. The datagram itself is forwarded: once in a while, and
+   not too much. */
+static void send_messages(const struct ptpm_shared *shared) {
     uint64_t now = time_now();
-    for (size_t i = 0; i < count; i++) {
-        int at = sent[i].port - 1;
-        if (sent[i].port != port) {
-            if (!is_asked) is_first = ptpm_passed_on_is_first(&passed_on, datagram, size, now, NOTED);
-            is_asked = true;
-            if (!is_first || !ptpm_rate_take(&rates[at], now)) continue;
-        }
-        sendto(sockets[at], sent[i].octets, sent[i].size, MSG_DONTWAIT, (const struct sockaddr *)&group, sizeof group);
+    bool is_first = shared->size > 0 && ptpm_passed_on_is_first(&passed_on, datagram, (size_t)shared->size, now, NOTED);
+    for (size_t i = 0; is_first && i < port_count; i++) {
+        if ((shared->ports >> i & 1) && ptpm_rate_take(&rates[i], now)) send_at(i, datagram, (size_t)shared->size);
     }
+    for (size_t i = 0; i < shared->count; i++) send_at(answers[i].port - 1u, answers[i].octets, answers[i].size);
 }
 
 static void come_in(uint16_t port) {
-    size_t count;
+    struct ptpm_shared shared;
     ssize_t size = recv(sockets[port - 1], datagram, sizeof datagram, MSG_DONTWAIT);
     if (size < 0) return;
-    ptpm_clock_handle(&device, port, datagram, (size_t)size, sent, places, &count);
-    send_messages(port, (size_t)size, count);
+    ptpm_clock_handle_shared(&device, port, datagram, (size_t)size, answers, port_count, &shared);
+    send_messages(&shared);
 }
 
 int main(int count_of_words, char **words) {

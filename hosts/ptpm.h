@@ -223,6 +223,20 @@ struct ptpm_sent {
     uint8_t octets[1472];
 };
 
+/* An answer, and the port that it is to be sent at (ptpm_clock_handle_shared). The octets past size are any. */
+struct ptpm_answer {
+    uint16_t port;
+    uint16_t size;
+    uint8_t octets[184];
+};
+
+/* What is sent for a datagram that is its own copy (ptpm_clock_handle_shared). */
+struct ptpm_shared {
+    PTPM_AT_EIGHT uint64_t ports;       /* the ports at which it is forwarded: 1 for port 1, 2 for port 2, and so on, summed up */
+    uint64_t size;                      /* how many of its octets are forwarded; 0 if none */
+    uint64_t count;                     /* how many answers were written */
+};
+
 /* Which members have another value after a datagram than before it: of the clock, and of port 1, port 2 and so on. */
 struct ptpm_changed {
     uint32_t clock;                     /* PTPM_CHANGED_IDENTITY to PTPM_CHANGED_TIME_SOURCE, summed up */
@@ -527,6 +541,8 @@ PTPM_HAS_SIZE(ptpm_observed_clock, 88);
 PTPM_HAS_SIZE(ptpm_observed_port, 16);
 PTPM_HAS_SIZE(ptpm_manager_settings, 12);
 PTPM_HAS_SIZE(ptpm_sent, 1476);
+PTPM_HAS_SIZE(ptpm_answer, 188);
+PTPM_HAS_SIZE(ptpm_shared, 24);
 PTPM_HAS_SIZE(ptpm_changed, 68);
 PTPM_HAS_SIZE(ptpm_taken, 88);
 PTPM_HAS_SIZE(ptpm_question, 150);
@@ -995,8 +1011,8 @@ static inline enum ptpm_started ptpm_header_agrees(void) {
     static const size_t sizes[] = {
         sizeof(struct ptpm_clock), sizeof(struct ptpm_clock_settings), sizeof(struct ptpm_port_settings),
         sizeof(struct ptpm_observed_clock), sizeof(struct ptpm_observed_port), sizeof(struct ptpm_manager_settings),
-        sizeof(struct ptpm_sent), sizeof(struct ptpm_changed), sizeof(struct ptpm_session), sizeof(struct ptpm_session_settings),
-        sizeof(struct ptpm_survey), sizeof(struct ptpm_survey_settings), sizeof(struct ptpm_source), sizeof(struct ptpm_passed_on),
+        sizeof(struct ptpm_sent), sizeof(struct ptpm_answer), sizeof(struct ptpm_shared), sizeof(struct ptpm_changed),
+        sizeof(struct ptpm_session), sizeof(struct ptpm_session_settings), sizeof(struct ptpm_survey), sizeof(struct ptpm_survey_settings), sizeof(struct ptpm_source), sizeof(struct ptpm_passed_on),
         sizeof(struct ptpm_rate), sizeof(struct ptpm_asker), sizeof(struct ptpm_asker_settings), sizeof(struct ptpm_handed),
         sizeof(struct ptpm_question), sizeof(struct ptpm_say), sizeof(struct ptpm_limit), sizeof(struct ptpm_taken),
         sizeof(struct ptpm_journal), sizeof(struct ptpm_journal_record), sizeof(struct ptpm_rollout), sizeof(struct ptpm_rollout_event),
@@ -1045,6 +1061,17 @@ static inline enum ptpm_started ptpm_clock_start_sized(struct ptpm_clock *handle
             calls. */
 enum ptpm_handled ptpm_clock_handle(struct ptpm_clock *clock, uint16_t port, const uint8_t *datagram, size_t size,
                                     struct ptpm_sent *sent, size_t room, size_t *count);
+
+/* Does what ptpm_clock_handle does, in less room. What is forwarded is the datagram itself, with boundaryHops decremented. So only answers
+   have places, of 188 octets each. It is for a clock of many ports, or a host of little memory.
+   Takes:   the port, counted from 1; size octets; and room places: as many as the clock has ports. More are needed only after a restore
+            from an image of another hand, in which a kept reply has more answers.
+   Returns: what ptpm_clock_handle returns.
+   Writes:  *shared, and the first shared->count places of answers. If shared->size is not 0, octet 45 of the datagram is less by one.
+   Caller:  sends the first shared->size octets of the datagram at each of shared->ports, and then the answers in their order, each at its
+            port. After PTPM_ANSWERED_NEW it does what it does after ptpm_clock_handle. */
+enum ptpm_handled ptpm_clock_handle_shared(struct ptpm_clock *clock, uint16_t port, uint8_t *datagram, size_t size,
+                                           struct ptpm_answer *answers, size_t room, struct ptpm_shared *shared);
 
 /* Says what a datagram would have the device do, if it came in now at this port. Nothing changes. Between this call and
    ptpm_clock_take anything may happen: that call judges the datagram again.

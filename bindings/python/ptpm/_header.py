@@ -247,6 +247,14 @@ class ptpm_sent(Structure):
     _fields_ = [("port", c_uint16), ("size", c_uint16), ("octets", c_uint8 * 1472)]
 
 
+class ptpm_answer(Structure):
+    _fields_ = [("port", c_uint16), ("size", c_uint16), ("octets", c_uint8 * 184)]
+
+
+class ptpm_shared(Structure):
+    _fields_ = [("ports", c_uint64), ("size", c_uint64), ("count", c_uint64)]
+
+
 class ptpm_changed(Structure):
     _fields_ = [("clock", c_uint32), ("ports", c_uint8 * 64)]
 
@@ -344,6 +352,8 @@ CALLS: Dict[str, Tuple[Any, List[Any]]] = {
         POINTER(ptpm_manager_settings), c_size_t]),
     "ptpm_clock_handle": (c_uint32, [POINTER(ptpm_clock), c_uint16, c_char_p, c_size_t, POINTER(ptpm_sent), c_size_t,
         POINTER(c_size_t)]),
+    "ptpm_clock_handle_shared": (c_uint32, [POINTER(ptpm_clock), c_uint16, POINTER(c_uint8), c_size_t, POINTER(ptpm_answer),
+        c_size_t, POINTER(ptpm_shared)]),
     "ptpm_clock_ask": (c_uint32, [POINTER(ptpm_clock), c_uint16, c_char_p, c_size_t, POINTER(ptpm_question)]),
     "ptpm_clock_take": (c_uint32, [POINTER(ptpm_clock), c_uint16, c_char_p, c_size_t, POINTER(ptpm_say), c_uint8,
         POINTER(ptpm_sent), c_size_t, POINTER(ptpm_taken)]),
@@ -445,7 +455,7 @@ CALLS: Dict[str, Tuple[Any, List[Any]]] = {
 
 STRUCTS: List[Type[Structure]] = [
     ptpm_clock, ptpm_clock_settings, ptpm_port_settings, ptpm_observed_clock, ptpm_observed_port, ptpm_manager_settings,
-    ptpm_sent, ptpm_changed, ptpm_session, ptpm_session_settings, ptpm_survey, ptpm_survey_settings, ptpm_source, ptpm_passed_on,
-    ptpm_rate, ptpm_asker, ptpm_asker_settings, ptpm_handed, ptpm_question, ptpm_say, ptpm_limit, ptpm_taken, ptpm_journal,
-    ptpm_journal_record, ptpm_rollout, ptpm_rollout_event, ptpm_rollout_action
+    ptpm_sent, ptpm_answer, ptpm_shared, ptpm_changed, ptpm_session, ptpm_session_settings, ptpm_survey, ptpm_survey_settings,
+    ptpm_source, ptpm_passed_on, ptpm_rate, ptpm_asker, ptpm_asker_settings, ptpm_handed, ptpm_question, ptpm_say, ptpm_limit,
+    ptpm_taken, ptpm_journal, ptpm_journal_record, ptpm_rollout, ptpm_rollout_event, ptpm_rollout_action
 ]

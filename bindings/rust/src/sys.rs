@@ -263,6 +263,10 @@ pub struct ptpm_manager_settings { pub clock: [u8; 8], pub port: u16, pub rights
 #[repr(C)] #[derive(Clone, Copy)]
 pub struct ptpm_sent { pub port: u16, pub size: u16, pub octets: [u8; 1472] }
 #[repr(C)] #[derive(Clone, Copy)]
+pub struct ptpm_answer { pub port: u16, pub size: u16, pub octets: [u8; 184] }
+#[repr(C)] #[derive(Clone, Copy)]
+pub struct ptpm_shared { pub ports: u64, pub size: u64, pub count: u64 }
+#[repr(C)] #[derive(Clone, Copy)]
 pub struct ptpm_changed { pub clock: u32, pub ports: [u8; 64] }
 #[repr(C)] #[derive(Clone, Copy)]
 pub struct ptpm_taken { pub count: u64, pub waiting: u64, pub changed: ptpm_changed }
@@ -354,6 +358,8 @@ extern "C" {
         port_count: usize, managers: *const ptpm_manager_settings, manager_count: usize) -> ptpm_started;
     pub fn ptpm_clock_handle(clock: *mut ptpm_clock, port: u16, datagram: *const u8, size: usize, sent: *mut ptpm_sent,
         room: usize, count: *mut usize) -> ptpm_handled;
+    pub fn ptpm_clock_handle_shared(clock: *mut ptpm_clock, port: u16, datagram: *mut u8, size: usize, answers: *mut ptpm_answer,
+        room: usize, shared: *mut ptpm_shared) -> ptpm_handled;
     pub fn ptpm_clock_ask(clock: *const ptpm_clock, port: u16, datagram: *const u8, size: usize,
         asked: *mut ptpm_question) -> ptpm_asking;
     pub fn ptpm_clock_take(clock: *mut ptpm_clock, port: u16, datagram: *const u8, size: usize, say: *const ptpm_say,
@@ -470,12 +476,13 @@ extern "C" {
     pub fn ptpm_field_takes(id: u16, place: usize, text: *mut c_char, room: usize) -> usize;
 }
 
-const SIZES: [usize; 27] = [
+const SIZES: [usize; 29] = [
     size_of::<ptpm_clock>(), size_of::<ptpm_clock_settings>(), size_of::<ptpm_port_settings>(), size_of::<ptpm_observed_clock>(),
-    size_of::<ptpm_observed_port>(), size_of::<ptpm_manager_settings>(), size_of::<ptpm_sent>(), size_of::<ptpm_changed>(),
-    size_of::<ptpm_session>(), size_of::<ptpm_session_settings>(), size_of::<ptpm_survey>(), size_of::<ptpm_survey_settings>(),
-    size_of::<ptpm_source>(), size_of::<ptpm_passed_on>(), size_of::<ptpm_rate>(), size_of::<ptpm_asker>(),
-    size_of::<ptpm_asker_settings>(), size_of::<ptpm_handed>(), size_of::<ptpm_question>(), size_of::<ptpm_say>(),
-    size_of::<ptpm_limit>(), size_of::<ptpm_taken>(), size_of::<ptpm_journal>(), size_of::<ptpm_journal_record>(),
-    size_of::<ptpm_rollout>(), size_of::<ptpm_rollout_event>(), size_of::<ptpm_rollout_action>()
+    size_of::<ptpm_observed_port>(), size_of::<ptpm_manager_settings>(), size_of::<ptpm_sent>(), size_of::<ptpm_answer>(),
+    size_of::<ptpm_shared>(), size_of::<ptpm_changed>(), size_of::<ptpm_session>(), size_of::<ptpm_session_settings>(),
+    size_of::<ptpm_survey>(), size_of::<ptpm_survey_settings>(), size_of::<ptpm_source>(), size_of::<ptpm_passed_on>(),
+    size_of::<ptpm_rate>(), size_of::<ptpm_asker>(), size_of::<ptpm_asker_settings>(), size_of::<ptpm_handed>(),
+    size_of::<ptpm_question>(), size_of::<ptpm_say>(), size_of::<ptpm_limit>(), size_of::<ptpm_taken>(),
+    size_of::<ptpm_journal>(), size_of::<ptpm_journal_record>(), size_of::<ptpm_rollout>(), size_of::<ptpm_rollout_event>(),
+    size_of::<ptpm_rollout_action>()
 ];

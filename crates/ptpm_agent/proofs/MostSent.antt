@@ -72,6 +72,28 @@ passed_none : (me : ClockIdentity) (ingress : ℕ) (d : DataSetsValue) (datagram
 unfolding forwarded message_of
 passed_none me ingress d datagram cause read = grind arith
 
+module _ (c : Clock) (s : State) (ingress : ℕ) (datagram : List ℕ) (most : ℕ) (sized : IsSized s.sets) (ports : length s.sets.ports ≤ most) (kept : HaveAnswers most (entries s.entries)) where
+  answers_few : (v : Message) (r : ReplyValue)
+      → length r.answers ≤ length s.sets.ports
+      → length (rendered c.identity (heard_of v) r ingress) ≤ most
+  answers_few v r few = omega (arith, few, ports, rendered_count c.identity (heard_of v) r ingress)
+
+  replies_by : (v : Message) (w : Verdict) → length (reply_messages c ingress (heard_of v) (reply_by w c s v)) ≤ most
+  replies_by v verdicts.AnsweredNew =
+      answers_few v (reply_to (request_of v) (c.rights v.source) s.sets) (new_few (request_of v) (c.rights v.source) s.sets sized)
+  replies_by v verdicts.AnsweredUnnumbered = answers_few v (read_reply_to (request_of v) s.sets) (read_few (request_of v) s.sets sized)
+  replies_by v verdicts.AnsweredRepeat = kept_few c s ingress (heard_of v) v.source most kept
+  replies_by v _ = omega arith
+
+  replies_at : (r : Result Message DecodeError) → length (turn_by c s ingress datagram r).replies ≤ most
+  replies_at (Err cause) = omega arith
+  replies_at (Ok v) = replies_by v (judged c s v)
+
+  -- the replies alone, without copies
+  pub replies_few : length (turn c s ingress datagram).replies ≤ most
+  unfolding turn
+  replies_few = replies_at (reading datagram)
+
 module _ (c : Clock) (s : State) (ingress : ℕ) (datagram : List ℕ) (most : ℕ) (sized : IsSized s.sets) (port : HasPort ingress s.sets) (ports : 2 * length s.sets.ports - 1 ≤ most) where
   -- copies, and a reply of no more answers than the clock has ports
   pub both_few : (v : Message) (r : ReplyValue)

@@ -16,7 +16,8 @@ use Rattle.ptpm_table.specs.Numbering.{look_at}
 use Rattle.ptpm_table.specs.Rendering.{rendered}
 use Rattle.ptpm_agent.specs.Agent.{IsTurned}
 use Rattle.ptpm_agent.specs.declared.verdict.Verdict.{Verdict}
-use Rattle.ptpm_agent.specs.Forwarding.{egress_ports, forwarded, forwarded_by, is_forwarded, with_less_hop}
+use Rattle.ptpm_agent.specs.declared.verdict.Verdict.TheVariants as verdicts
+use Rattle.ptpm_agent.specs.Forwarding.{copies_if, egress_ports, forwarded, forwarded_by, is_forwarded, with_less_hop}
 use Rattle.ptpm_agent.specs.Addressing.{heard_of, is_addressed, is_for_this_clock, is_numbered, is_own, is_request, names_port, request_of}
 use Rattle.ptpm_agent.specs.Turn.{Clock, State, carried_out, is_accepted_repeat, is_in_domain, is_repeat, judged, kept_reply_of, look, new_reply, next_by, reply_by, reply_messages, turn, turn_by, verdict_at, verdict_of}
 use Rattle.ptpm_agent.specs.Once.{is_copy}
@@ -191,6 +192,14 @@ pub forwarded-not : (me : ClockIdentity) (ingress : ℕ) (d : DataSetsValue) (da
 unfolding forwarded
 forwarded-not me ingress d datagram v e n = ap (forwarded_by me ingress d datagram) (message_of-reading datagram v e) ∙ cond-false _ _ _ n
 
+pub copies_are : (me : ClockIdentity) (ingress : ℕ) (d : DataSetsValue) (datagram : List ℕ) (v : Message) (passed : Bool)
+    → reading datagram ≡ Ok v
+    → passed ≡ is_forwarded me ingress d v
+    → copies_if passed ingress d datagram ≡ forwarded me ingress d datagram
+unfolding forwarded
+copies_are me ingress d datagram v passed e is =
+    ap (λ (b : Bool). copies_if b ingress d datagram) is ∙ sym (ap (forwarded_by me ingress d datagram) (message_of-reading datagram v e))
+
 -- ---- any other message changes nothing
 
 -- a numbered request in the clock's domain, or a repeat, is a copy
@@ -316,6 +325,16 @@ got_nothing c s t v is get =
     subst (λ (d : DataSetsValue). no_members ≡ changed s.sets d) (sym same) (nothing_changed s.sets)
 
 -- ---- a call, against the turn
+
+-- the replies to a message whose verdict is w
+pub turn_replies : (c : Clock) (s : State) (ingress : ℕ) (datagram : List ℕ) (v : Message) (w : Verdict)
+    → reading datagram ≡ Ok v
+    → w ≡ judged c s v
+    → (turn c s ingress datagram).replies ≡ reply_messages c ingress (heard_of v) (reply_by w c s v)
+unfolding turn
+turn_replies c s ingress datagram v w e verdict =
+    ap (λ (r : Result Message DecodeError). (turn_by c s ingress datagram r).replies) e
+    ∙ ap (λ (u : Verdict). reply_messages c ingress (heard_of v) (reply_by u c s v)) (sym verdict)
 
 pub turned_refused : (c : Clock) (s : State) (ingress : ℕ) (datagram : List ℕ) (cause : DecodeError)
     (out : List (ℕ × List ℕ)) (next : State)

@@ -36,3 +36,8 @@ forwarded_by me ingress d datagram (Some v) =
 -- the copies of a datagram that a clock passes on, each with its port, by the states as the datagram comes in
 unfoldable pub forwarded : ClockIdentity → ℕ → DataSetsValue → List ℕ → List (ℕ × List ℕ)
 forwarded me ingress d datagram = forwarded_by me ingress d datagram (message_of datagram)
+
+-- what is passed on, by whether it is passed on
+abbrev pub copies_if : Bool → ℕ → DataSetsValue → List ℕ → List (ℕ × List ℕ)
+copies_if passed ingress d datagram =
+    if passed then map (λ port. (port, with_less_hop datagram)) (egress_ports ingress d) else []

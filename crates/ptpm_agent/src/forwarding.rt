@@ -9,11 +9,11 @@ ghost use Rattle.ptpm_agent.specs.Forwarding.{egress_ports, forwarded, is_forwar
 
 use ptpm_codec::{ClockIdentity, View};
 use ptpm_data::{DataSets, data_sets_law};
-use ptpm_table::Outgoing;
+use ptpm_table::LongOutgoing;
 
 /// Sends the copies of a datagram that the clock passes on, before anything else was sent. Takes no memory.
 #[inline(always)]
-pub(crate) fn forward<O: Outgoing>(
+pub(crate) fn forward<O: LongOutgoing>(
     me: &ClockIdentity,
     sets: &DataSets,
     ingress: u16,
@@ -35,7 +35,12 @@ pub(crate) fn forward<O: Outgoing>(
 }
 
 /// Whether a message is passed on at all.
-fn is_forwarded(me: &ClockIdentity, sets: &DataSets, ingress: u16, message: &View<'_>) -> bool
+pub(crate) fn is_forwarded(
+    me: &ClockIdentity,
+    sets: &DataSets,
+    ingress: u16,
+    message: &View<'_>,
+) -> bool
     ensures { result ≡ is_forwarded me.now ingress sets.now message.now }
 {
     message.target().clock != *me
@@ -48,7 +53,7 @@ fn is_forwarded(me: &ClockIdentity, sets: &DataSets, ingress: u16, message: &Vie
 
 /// Sends a copy at each egress port. It is never inlined, so that its loop keeps what it reads in registers.
 #[inline(never)]
-fn send_on<O: Outgoing>(sets: &DataSets, ingress: u16, datagram: &[u8], out: &mut O)
+fn send_on<O: LongOutgoing>(sets: &DataSets, ingress: u16, datagram: &[u8], out: &mut O)
     requires empty { O.sent out.old ≡ [] }
     requires port { HasPort ingress sets.now }
     requires well_formed { IsWellFormed datagram.now }

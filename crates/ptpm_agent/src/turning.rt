@@ -5,7 +5,7 @@ ghost use Rattle.std.specs.FinMap as fin;
 ghost use Rattle.ptpm_codec.specs.declared.identity.PortIdentity.{PortIdentity};
 ghost use Rattle.ptpm_codec.specs.Layout.{message_octets};
 ghost use Rattle.ptpm_codec.specs.Message.{IsDataField, IsRequestAction, IsValid};
-ghost use Rattle.ptpm_codec.specs.Reading.{reading};
+ghost use Rattle.ptpm_codec.specs.Reading.{IsWellFormed, reading};
 ghost use Rattle.ptpm_codec.specs.Spelling.{Spells};
 ghost use Rattle.ptpm_data.specs.Changed.{changed};
 ghost use Rattle.ptpm_data.specs.Changes.{IsTargetPort, changed_by};
@@ -20,7 +20,7 @@ ghost use Rattle.ptpm_table.specs.Managers.{IsFresh, has_twice, identities, most
 ghost use Rattle.ptpm_table.specs.Rendering.{IsSendable, rendered};
 ghost use Rattle.ptpm_table.specs.Sending.{IsSentReply};
 ghost use Rattle.ptpm_agent.specs.Agent.{IsTurned, clock_of, state_of};
-ghost use Rattle.ptpm_agent.specs.Forwarding.{forwarded};
+ghost use Rattle.ptpm_agent.specs.Forwarding.{copies_if, forwarded};
 ghost use Rattle.ptpm_agent.specs.Laws.{StandsAt, after_each, datagrams_of, due_messages, last_sent};
 ghost use Rattle.ptpm_agent.specs.Observing.{moved_state};
 ghost use Rattle.ptpm_agent.specs.Once.{Delivery, History, RequestCopy, applied_once, copies, copy_of, due_reply};
@@ -29,14 +29,16 @@ ghost use Rattle.ptpm_agent.specs.Addressing.{heard_of, is_addressed, request_of
 ghost use Rattle.ptpm_agent.specs.Turn.{carried_out, is_accepted_repeat, judged, look, new_reply, outbox_of, reply_by, reply_messages, turn, verdict_of};
 
 use crate::agent::Agent;
-use crate::forwarding::forward;
+use crate::forwarding::{forward, is_forwarded};
 use crate::verdict::Verdict;
 use ptpm_codec::{Action, ClockIdentity, ErrorId, Octets, OutOfMemory, PortIdentity, View, view};
 use ptpm_data::{
     ChangedMembers, ClockObservation, DataSets, INLINE_PORTS, ObservationError, PortAnswer,
     PortObservation, PortsLeftDisabled, Reply, Request, Rights, data_sets_law,
 };
-use ptpm_table::{Heard, Look, Outbox, Outgoing, ReplyTable, Sender, SlotTable, SureTable, render};
+use ptpm_table::{
+    Heard, LongOutgoing, Look, Outbox, Outgoing, ReplyTable, Sender, SlotTable, SureTable, render,
+};
 use std::mem;
 
 impl<T: ReplyTable + Drop> Agent<T> {
@@ -242,7 +244,7 @@ impl<T: ReplyTable + Drop> Agent<T> {
     }
 
     /// Sends what is sent for a message that is neither carried out nor a repeat.
-    fn answer<O: Outgoing>(
+    fn answer<O: LongOutgoing>(
         &self,
         verdict: Verdict,
         ingress: u16,
@@ -457,7 +459,7 @@ impl<T: SureTable + Drop> Agent<T> {
 
     /// Like `handle`, but writes each message directly to `out`, which must be empty and take what the turn sends.
     #[inline(always)]
-    pub fn handle_into<O: Outgoing>(
+    pub fn handle_into<O: LongOutgoing>(
         &mut self,
         ingress: u16,
         datagram: &[u8],
@@ -478,10 +480,50 @@ impl<T: SureTable + Drop> Agent<T> {
         self.turn_into::<O, false>(ingress, datagram, out).0
     }
 
+    /// Does what `handle_into` does, but leaves the copies to its caller: only the replies are written to `out`, which must be empty and
+    /// take these. Answers also whether the datagram is passed on, and then no data set has changed.
+    pub fn reply_into<O: Outgoing>(
+        &mut self,
+        ingress: u16,
+        datagram: &[u8],
+        out: &mut O,
+    ) -> (Verdict, bool)
+        requires port { HasPort ingress self.old.sets }
+        requires empty { O.sent out.old ≡ [] }
+        requires room { length (turn
+            (clock_of T.owner self.old) (state_of T.entries self.old) ingress datagram.now).replies
+            ≤ O.most out.old }
+        ensures turned { IsTurned (turn
+            (clock_of T.owner self.old) (state_of T.entries self.old) ingress datagram.now)
+            result.0 (copies_if result.1 ingress self.old.sets datagram.now ++ O.sent out.new)
+            (state_of T.entries self.new) }
+        ensures well_formed { IsTrue result.1 → IsWellFormed datagram.now }
+        ensures sets { IsTrue result.1 → self.new.sets ≡ self.old.sets }
+        ensures grown { O.grown out.old out.new }
+        ensures clock { clock_of T.owner self.new ≡ clock_of T.owner self.old }
+        ensures most { T.most self.new.table ≡ T.most self.old.table }
+    {
+        let message = match view(datagram) {
+            Ok(message) => message,
+            Err(cause) => return (Verdict::Malformed(cause), false),
+        };
+        let (verdict, rights) = self.judge(&message);
+        match verdict {
+            Verdict::AnsweredNew => self.accept(ingress, &message, rights, out),
+            Verdict::AnsweredRepeat => self.table.send_again(&heard_of(&message), ingress, out),
+            _ => {
+                self.reply(verdict, ingress, &message, out);
+                let passed = is_forwarded(&self.table.clock(), &self.sets, ingress, &message);
+                return (verdict, passed);
+            }
+        }
+        (verdict, false)
+    }
+
     /// Does what `handle_into` does, and answers which members have another value after it. Only a manager's new SET or COMMAND may
     /// change one. So for any other message none is compared, and the data sets are not copied.
     #[inline(always)]
-    pub fn change_into<O: Outgoing>(
+    pub fn change_into<O: LongOutgoing>(
         &mut self,
         ingress: u16,
         datagram: &[u8],
@@ -505,7 +547,7 @@ impl<T: SureTable + Drop> Agent<T> {
 
     /// One turn. It answers what has changed if its caller `ASKS` that; otherwise nothing is compared.
     #[inline(always)]
-    fn turn_into<O: Outgoing, const ASKS: bool>(
+    fn turn_into<O: LongOutgoing, const ASKS: bool>(
         &mut self,
         ingress: u16,
         datagram: &[u8],

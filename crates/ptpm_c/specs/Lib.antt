@@ -14,3 +14,4 @@ pub mod Batching
 pub mod Changing
 pub mod JournalHeld
 pub mod RolloutHeld
+pub mod Sharing

@@ -6,16 +6,17 @@ ghost use Rattle.ptpm_c.specs.Sizes.{header_sizes};
 
 use crate::device::Taken;
 use crate::handle::Handle;
+use crate::sharing::Shared;
 use ptpm_data::ChangedMembers;
 use ptpm_host::{
     AskerSettings, ClockSettings, Handed, Limit, ManagerSettings, OTHER_SIZES, ObservedClock,
     ObservedPort, PassedOn, PortSettings, Question, Rate, RolloutAction, RolloutEvent, Say, Sent,
-    SessionSettings, Source, SurveySettings, VERSION_NUMBER,
+    SentAnswer, SessionSettings, Source, SurveySettings, VERSION_NUMBER,
 };
 use ptpm_journal::PlainRecord;
 
 /// The sizes of the structs of the header, in its order.
-const SIZES: [usize; 27] = [
+const SIZES: [usize; 29] = [
     size_of::<Handle>(),
     size_of::<ClockSettings>(),
     size_of::<PortSettings>(),
@@ -23,6 +24,8 @@ const SIZES: [usize; 27] = [
     size_of::<ObservedPort>(),
     size_of::<ManagerSettings>(),
     size_of::<Sent>(),
+    size_of::<SentAnswer>(),
+    size_of::<Shared>(),
     size_of::<ChangedMembers>(),
     size_of::<Handle>(),
     size_of::<SessionSettings>(),

@@ -40,6 +40,7 @@ mod saving;
 mod saving_clock;
 mod sealing;
 mod session;
+mod sharing;
 mod survey;
 mod transit;
 

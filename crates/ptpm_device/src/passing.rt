@@ -11,10 +11,10 @@ ghost use Rattle.ptpm_agent.specs.Forwarding.{egress_ports, forwarded, is_forwar
 use ptpm_agent::Agent;
 use ptpm_codec::View;
 use ptpm_data::{DataSets, data_sets_law};
-use ptpm_table::{Outgoing, ReplyTable};
+use ptpm_table::{LongOutgoing, ReplyTable};
 
 /// Sends the copies of a datagram that the clock passes on, as its own turn does. Takes no memory.
-pub(crate) fn pass_on<T: ReplyTable + Drop, O: Outgoing>(
+pub(crate) fn pass_on<T: ReplyTable + Drop, O: LongOutgoing>(
     agent: &Agent<T>,
     ingress: u16,
     datagram: &[u8],
@@ -52,7 +52,7 @@ fn is_passed_on<T: ReplyTable + Drop>(agent: &Agent<T>, ingress: u16, message: &
 }
 
 /// Sends a copy at each other port that may pass it on.
-fn copy_to_others<O: Outgoing>(sets: &DataSets, ingress: u16, datagram: &[u8], out: &mut O)
+fn copy_to_others<O: LongOutgoing>(sets: &DataSets, ingress: u16, datagram: &[u8], out: &mut O)
     requires empty { O.sent out.old ≡ [] }
     requires port { HasPort ingress sets.now }
     requires well_formed { IsWellFormed datagram.now }

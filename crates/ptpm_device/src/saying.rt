@@ -20,7 +20,7 @@ use crate::refusing::Refusing;
 use ptpm_agent::{Agent, Verdict};
 use ptpm_codec::{Action, Draft, DraftBody, Envelope, ErrorId, PortIdentity, View, view};
 use ptpm_data::{Answers, Reply, Request, data_sets_law};
-use ptpm_table::{Heard, Look, Outgoing, ReplyTable, Sender, SureTable};
+use ptpm_table::{Heard, LongOutgoing, Look, Outgoing, ReplyTable, Sender, SureTable};
 
 /// The most octets of a value that the clock keeps as its answer to a manager.
 const MOST_KEPT: usize = 130;
@@ -95,7 +95,7 @@ pub fn keep_value<T: SureTable + Drop>(agent: &mut Agent<T>, datagram: &[u8], oc
 
 /// Answers a GET without a number, of an id that the clock lacks, with the value that the device gives. The copies of it that the clock passes on are sent first. Answers whether that was so.
 /// Otherwise nothing is sent. No clock is changed by such a GET. Takes no memory.
-pub fn answer_value<T: ReplyTable + Drop, O: Outgoing>(
+pub fn answer_value<T: ReplyTable + Drop, O: LongOutgoing>(
     agent: &Agent<T>,
     ingress: u16,
     datagram: &[u8],
@@ -131,7 +131,7 @@ pub fn answer_value<T: ReplyTable + Drop, O: Outgoing>(
 }
 
 /// Sends a value as the answer to a GET that came in at this port. Takes no memory.
-fn send_value<T: ReplyTable + Drop, O: Outgoing>(
+fn send_value<T: ReplyTable + Drop, O: LongOutgoing>(
     agent: &Agent<T>,
     ingress: u16,
     get: &View<'_>,
@@ -167,7 +167,7 @@ fn send_value<T: ReplyTable + Drop, O: Outgoing>(
     };
     let mut envelope = Envelope::blank();
     envelope.address(&draft, id);
-    out.push_answer(ingress, &envelope, ingress, octets);
+    out.push_value(ingress, &envelope, ingress, octets);
 }
 
 /// Whether it is a GET of an id that the clock lacks, without a number.

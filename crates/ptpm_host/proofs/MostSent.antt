@@ -20,11 +20,12 @@ use Rattle.ptpm_agent.specs.declared.verdict.Verdict.{Verdict}
 use Rattle.ptpm_agent.specs.declared.verdict.Verdict.TheVariants as verdicts
 use Rattle.ptpm_agent.specs.Addressing.{heard_of, request_of}
 use Rattle.ptpm_agent.specs.Turn.{Clock, State, judged, outbox_of, turn}
-use Rattle.ptpm_agent.proofs.MostSent.{both_few, rendered_count, turn_few}
+use Rattle.ptpm_agent.proofs.MostSent.{both_few, rendered_count, replies_few, turn_few}
 use Rattle.ptpm_agent.proofs.Turns.{reading-message_of}
 use Rattle.ptpm_device.specs.Asking.{is_lacked, is_permitted}
 use Rattle.ptpm_device.specs.Saying as says
 use Rattle.ptpm_device.specs.Saying.{Say, new_said, reply_given, reply_said, reply_told, said_at, said_by, turn_said, unnumbered_said}
+use Rattle.ptpm_host.specs.Answers.{most_replied}
 use Rattle.ptpm_host.specs.Changing.{owner_clock}
 use Rattle.ptpm_host.specs.MostSent.{SendsNoMore, SendsNoMoreAlone, SendsNoMoreHere, most_answers, most_sent}
 use Rattle.ptpm_host.proofs.ComingLaws.{owner_turn-each}
@@ -161,3 +162,10 @@ pub sends_no_more_here : SendsNoMoreHere
 sends_no_more_here c s port datagram sized has =
     owner_turn-each (λ t. length (outbox_of t) ≤ most_sent s) c s port datagram (sends_no_more_alone c s port datagram sized has)
     (λ v read. sends_no_more_owned (owner_clock c.identity v.source) s port datagram sized has)
+
+-- the replies alone
+pub replies_no_more : (c : Clock) (s : State) (port : ℕ) (datagram : List ℕ)
+    → IsSized s.sets
+    → length (turn c s port datagram).replies ≤ most_replied s
+replies_no_more c s port datagram sized =
+    replies_few c s port datagram (most_replied s) sized (omega arith) (most_kept (entries s.entries) (most_replied s) (omega arith))

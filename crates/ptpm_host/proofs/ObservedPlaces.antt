@@ -1,10 +1,12 @@
 -- The places of an observation: one with more of them than the clock has ports is refused; numbers of so many bits.
-use Rattle.std.proofs.Common.{arith, ◌≡◌, ◌<◌, ◌≤◌, ◌+◌, ◌*◌, ◌^◌, ◌-◌, ℕ, zero, suc, Bool, true, false, List, ap, sym, nat_lt, Some, length, refl}
+use Rattle.std.proofs.Common.{arith, ◌≡◌, ◌<◌, ◌≤◌, ◌+◌, ◌*◌, ◌^◌, ◌-◌, ◌==◌, ◌&&◌, not, ℕ, zero, suc, Bool, true, false, List, ap, sym, nat_lt, Some, length, refl}
 use Rattle.std.specs.Int.{from_bool}
 use Rattle.std.proofs.Math.Nat.{pow-succ'}
 use Rattle.std.proofs.Math.Pow.{pow_mono}
 use Rattle.ptpm_data.specs.declared.ports.TheConstants.{PORTS}
+use Rattle.ptpm_data.specs.Members.{DataSetsValue, may_forward}
 use Rattle.ptpm_data.specs.Observation.{is_left, observation_refusal}
+use Rattle.ptpm_host.specs.Answers.{egress_from}
 use Rattle.ptpm_host.specs.Observing.{left_from, IsObserved, clock_observation, observe_refusal, port_observation, port_observations}
 use Rattle.std.proofs.lemmas.Bool.Decides.{nat_tests}
 use Rattle.std.proofs.lemmas.List.{length-map}
@@ -27,12 +29,24 @@ next_left above number left less is =
     ap (λ n. from_bool (is_left (PORTS - above) left) + 2 * n) (is ∙ ap (λ p. left_from p above left) behind)
     ∙ (λ i. left_from (port i) (more i) left)
 
-pub next_fits : (above bit number : ℕ) → above < PORTS → bit ≤ 1 → number < 2 ^ above → bit + 2 * number < 2 ^ (above + 1)
-next_fits above bit number less small few =
+pub next_egress : (count above number ingress : ℕ) (d : DataSetsValue)
+    → above < count
+    → number ≡ egress_from (count + 1 - above) above ingress d
+    → from_bool (not (count - above == ingress) && may_forward (count - above) d) + 2 * number
+    ≡ egress_from (count + 1 - (above + 1)) (above + 1) ingress d
+next_egress count above number ingress d less is =
+    let port : count - above ≡ count + 1 - (above + 1) = omega arith in
+    let behind : count + 1 - above ≡ count - above + 1 = omega (arith, less) in
+    let more : suc above ≡ above + 1 = omega arith in
+    ap (λ n. from_bool (not (count - above == ingress) && may_forward (count - above) d) + 2 * n) (is ∙ ap (λ p. egress_from p above ingress d) behind)
+    ∙ (λ i. egress_from (port i) (more i) ingress d)
+
+pub next_fits : (above bit number : ℕ) → bit ≤ 1 → number < 2 ^ above → bit + 2 * number < 2 ^ (above + 1)
+next_fits above bit number small few =
     let e : 2 ^ (above + 1) ≡ 2 * 2 ^ above = ap (λ n. 2 ^ n) (omega arith) ∙ pow-succ' 2 above in
     omega (arith, e, small, few)
 
-pub in_word : (above number : ℕ) → above < PORTS → number < 2 ^ (above + 1) → number < 2 ^ 64
+pub in_word : (above number : ℕ) → above < 64 → number < 2 ^ (above + 1) → number < 2 ^ 64
 in_word above number less few = omega (arith, pow_mono {i = above + 1} {j = 64} (omega (arith, less)), few)
 
 pub bit_small : (b : Bool) → from_bool b ≤ 1

@@ -3,6 +3,7 @@ pub mod Numbers
 pub mod Clock
 pub mod Outbox
 pub mod OutboxLaws
+pub mod AnswerPlaces
 pub mod DataSetReading
 pub mod ReportedOutcome
 pub mod SessionSettings
@@ -30,6 +31,7 @@ pub mod UnderWay
 pub mod KeptBatch
 pub mod SavingClock
 pub mod MostSent
+pub mod Answers
 pub mod Device
 pub mod Changing
 pub mod Limits

@@ -3,6 +3,7 @@
 #![tactic(auto)]
 
 mod answer_names;
+mod answer_places;
 mod asker;
 mod asker_settings;
 mod blanks;
@@ -41,6 +42,7 @@ mod sent;
 mod session;
 mod session_settings;
 mod settings;
+mod shared;
 mod survey;
 mod survey_settings;
 mod taken;
@@ -51,6 +53,8 @@ mod version;
 mod words;
 
 pub use answer_names::answer_name;
+pub use answer_places::ANSWER_OCTETS;
+pub use answer_places::SentAnswer;
 pub use asker::HostedAsker;
 pub use asker_settings::AskerSettings;
 pub use clock::Handled;
@@ -149,6 +153,7 @@ pub use session_settings::SessionSettings;
 pub use settings::ClockSettings;
 pub use settings::ManagerSettings;
 pub use settings::PortSettings;
+pub use shared::Shared;
 pub use survey::HostedSurvey;
 pub use survey::Source;
 pub use survey::SurveyAnswer;

@@ -5,7 +5,8 @@ ghost use Rattle.std.specs.FinMap as fin;
 ghost use Rattle.ptpm_data.specs.RequestLaws.{IsSized};
 ghost use Rattle.ptpm_table.specs.Entries.{HaveAnswers};
 ghost use Rattle.ptpm_host.specs.Clock.{state_in};
-ghost use Rattle.ptpm_host.specs.MostSent.{most_sent};
+ghost use Rattle.ptpm_host.specs.Answers.{most_replied};
+ghost use Rattle.ptpm_host.specs.MostSent.{most_answers, most_sent};
 
 use crate::clock::HostedClock;
 use ptpm_data::data_sets_law;
@@ -20,8 +21,24 @@ impl HostedClock {
     {
         let sets = self.agent.sets();
         data_sets_law(sets);
+        let alone = 2 * sets.port_count() as usize - 1;
+        alone.max(self.most_answers())
+    }
+
+    /// The most answers that it sends for a datagram: one of each port, or as many as a kept reply has.
+    fn most_replied(&self) -> usize
+        ensures { result ≡ most_replied (state_in self.now) }
+    {
+        let ports = self.agent.sets().port_count() as usize;
+        ports.max(self.most_answers())
+    }
+
+    /// The most answers that one of its kept replies has.
+    fn most_answers(&self) -> usize
+        ensures { result ≡ most_answers (fin.entries (state_in self.now).entries) }
+    {
         let entries = self.agent.table().in_order();
-        let mut most = 2 * sets.port_count() as usize - 1;
+        let mut most = 0;
         for place in 0..entries.count() {
             let answers = entries.entry(place).answer_count();
             if answers > most {
@@ -40,6 +57,16 @@ impl HostedClock {
     {
         self.sent_law();
         places >= self.most_kept() || places >= self.most_sent()
+    }
+
+    /// Whether this many places are enough for the answers to a datagram.
+    #[tactic(auto, using(crate::proofs::MostSent::kept_most, std::proofs::lemmas::Bool::Decides::nat_tests))]
+    pub(crate) fn has_answer_room(&self, places: usize) -> bool
+        ensures { result ≡ nat_le (most_replied (state_in self.now)) places }
+    {
+        self.sent_law();
+        let ports = self.agent.sets().port_count() as usize;
+        places >= ports.max(self.agent.table().answers_kept()) || places >= self.most_replied()
     }
 
     /// The most messages that a clock with these ports and this table sends.

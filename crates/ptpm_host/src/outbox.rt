@@ -5,7 +5,7 @@ ghost use Rattle.ptpm_host.specs.Clock.{IsWhole};
 
 use crate::sent::Sent;
 use ptpm_codec::Envelope;
-use ptpm_table::{Outgoing, Renewal};
+use ptpm_table::{LongOutgoing, Outgoing, Renewal};
 
 /// A host's places. The first of them have messages.
 #[derive(Drop)]
@@ -80,9 +80,7 @@ impl Outgoing for Outbox<'_> {
 
     #[inline(always)]
     fn push_answer(&mut self, port: u16, envelope: &Envelope, source: u16, octets: &[u8]) {
-        let room = &mut *self.room;
-        room[self.count].put_answer(port, envelope, source, octets);
-        self.count += 1;
+        self.push_value(port, envelope, source, octets);
     }
 
     fn push_refusal(&mut self, port: u16, envelope: &Envelope, source: u16, error: u16, id: u16) {
@@ -91,15 +89,24 @@ impl Outgoing for Outbox<'_> {
         self.count += 1;
     }
 
-    fn push_less_hop(&mut self, port: u16, datagram: &[u8]) {
-        let room = &mut *self.room;
-        room[self.count].put_less_hop(port, datagram);
-        self.count += 1;
-    }
-
     fn push_renewed(&mut self, port: u16, message: &[u8], renewal: &Renewal) {
         let room = &mut *self.room;
         room[self.count].put_renewed(port, message, renewal);
+        self.count += 1;
+    }
+}
+
+impl LongOutgoing for Outbox<'_> {
+    #[inline(always)]
+    fn push_value(&mut self, port: u16, envelope: &Envelope, source: u16, octets: &[u8]) {
+        let room = &mut *self.room;
+        room[self.count].put_answer(port, envelope, source, octets);
+        self.count += 1;
+    }
+
+    fn push_less_hop(&mut self, port: u16, datagram: &[u8]) {
+        let room = &mut *self.room;
+        room[self.count].put_less_hop(port, datagram);
         self.count += 1;
     }
 }

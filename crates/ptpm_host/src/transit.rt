@@ -107,7 +107,7 @@ fn send_on(sets: &DataSets, ingress: u16, datagram: &[u8], size: usize, room: &m
 }
 
 /// Whether a copy goes out at this port.
-fn is_egress(sets: &DataSets, ingress: u16, port: u16) -> bool
+pub(crate) fn is_egress(sets: &DataSets, ingress: u16, port: u16) -> bool
     ensures { result ≡ (not (port == ingress) && may_forward port sets.now) }
 {
     port != ingress && sets.may_forward(port)

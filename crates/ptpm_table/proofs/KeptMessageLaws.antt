@@ -203,12 +203,13 @@ kept_back of_port e first at request a action asks suits valid fits own =
 pub sizes_more : (sizes : List ℕ) (n k : ℕ)
     → AreSizes sizes n
     → 54 ≤ k
+    → k ≤ 184
     → AreSizes (sizes ++ k ∷ []) (n + k)
-sizes_more [] n k cut least = (least, omega arith, omega (arith, cut))
-sizes_more (s ∷ ss) n k cut least =
+sizes_more [] n k cut least small = ((least, small), omega arith, omega (arith, cut))
+sizes_more (s ∷ ss) n k cut least small =
     let room : s ≤ n = cut.1 in
     let rest : n - s + k ≡ n + k - s = omega arith in
-    (cut.0, omega arith, subst (AreSizes (ss ++ k ∷ [])) rest (sizes_more ss (n - s) k cut.2 least))
+    (cut.0, omega arith, subst (AreSizes (ss ++ k ∷ [])) rest (sizes_more ss (n - s) k cut.2 least small))
 
 pub pieces_more : (sizes octets m : List ℕ) → AreSizes sizes (length octets)
     → pieces (sizes ++ length m ∷ []) (octets ++ m) ≡ pieces sizes octets ++ m ∷ []
@@ -384,7 +385,9 @@ pub filled_after : (of_port : Bool) (e : Envelope) (answers : List PortAnswer)
     → IsEncoded of_port e (answer_of item) v
     → sizes' ≡ sizes ++ length (canonical v) ∷ [] → octets' ≡ octets ++ canonical v
     → IsFilled of_port e answers sizes' octets' (i + 1)
-filled_after of_port e answers sizes octets sizes' octets' i item v filled is inside made s o = grind (arith, pieces_more, answers_more, length-append, filled_more, sizes_more, each_more)
+filled_after of_port e answers sizes octets sizes' octets' i item v filled is inside made s o =
+    let small : length (canonical v) ≤ 184 = omega (arith, made.small, most_of_all of_port) in
+    grind (arith, pieces_more, answers_more, length-append, filled_more, sizes_more, each_more)
 
 -- ---- how many messages
 

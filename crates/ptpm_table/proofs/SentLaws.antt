@@ -125,7 +125,7 @@ each_cut of_port e first at (a ∷ xs) each =
     let rest = all_octets (map (message_at e first at) xs) in
     let both = length-append m rest in
     let left : length rest ≡ length (m ++ rest) - length m = omega (arith, both) in (
-      each.0.least,
+      (each.0.least, omega (arith, each.0.small, most_of_all of_port)),
       omega (arith, both),
       subst (λ n. AreSizes (map length (map (message_at e first at) xs)) n) left (each_cut of_port e first at xs each.1),
     )

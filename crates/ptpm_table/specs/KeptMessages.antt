@@ -33,7 +33,7 @@ pieces (s ∷ ss) octets = take s octets ∷ pieces ss (drop s octets)
 -- the sizes are those of messages, and fill n octets
 abbrev pub AreSizes : List ℕ → ℕ → Type 0
 AreSizes [] n = n ≡ 0
-AreSizes (s ∷ ss) n = (54 ≤ s) × (s ≤ n) × AreSizes ss (n - s)
+AreSizes (s ∷ ss) n = ((54 ≤ s) × (s ≤ 184)) × (s ≤ n) × AreSizes ss (n - s)
 
 -- ---- reading
 

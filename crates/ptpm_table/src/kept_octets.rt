@@ -185,16 +185,45 @@ impl KeptOctets {
     }
 }
 
-/// Appends octets to a block that has room for them.
+/// Appends a message to a block that has room for it. Most messages have one of a few sizes, at which LLVM makes a few moves of the
+/// copy.
 #[inline(never)]
-#[tactic(auto, using(std::proofs::lemmas::List::take_all, std::proofs::lemmas::List::take_more))]
-fn put_reserved(block: &mut Vec<u8>, octets: &[u8])
+fn put_reserved(block: &mut Vec<u8>, message: &[u8])
+    requires { length block.old.items + length message.now ≤ vec_capacity block.old }
+    ensures octets { block.new.items ≡ block.old.items ++ message.now }
+    ensures capacity { vec_capacity block.old ≤ vec_capacity block.new }
+{
+    match message.len() {
+        54 => put_array::<54>(block, message),
+        56 => put_array::<56>(block, message),
+        80 => put_array::<80>(block, message),
+        _ => extend_reserved(block, message),
+    }
+}
+
+/// The same for a size given as a constant.
+#[inline(always)]
+fn put_array<const M: usize>(block: &mut Vec<u8>, message: &[u8])
+    requires size { length message.now ≡ M }
+    requires room { length block.old.items + M ≤ vec_capacity block.old }
+    ensures octets { block.new.items ≡ block.old.items ++ message.now }
+    ensures capacity { vec_capacity block.old ≤ vec_capacity block.new }
+{
+    let Some(octets) = message.as_array::<M>() else {
+        unreachable!()
+    };
+    extend_reserved(block, octets);
+}
+
+/// The same of any size.
+#[inline(always)]
+fn extend_reserved(block: &mut Vec<u8>, octets: &[u8])
     requires { length block.old.items + length octets.now ≤ vec_capacity block.old }
     ensures octets { block.new.items ≡ block.old.items ++ octets.now }
-    ensures capacity { vec_capacity block.new ≡ vec_capacity block.old }
+    ensures capacity { vec_capacity block.old ≤ vec_capacity block.new }
 {
-    for octet in octets {
-        block.push_reserved(*octet);
+    if block.extend_from_slice(octets).is_err() {
+        unreachable!();
     }
 }
 
@@ -209,7 +238,7 @@ fn encode_reserved(draft: &Draft<'_>, block: &mut Vec<u8>) -> usize
     ensures octets { block.new.items ≡ block.old.items ++ canonical draft.now }
     ensures size { result ≡ length (canonical draft.now) }
     ensures fits { Fits draft.now }
-    ensures capacity { vec_capacity block.new ≡ vec_capacity block.old }
+    ensures capacity { vec_capacity block.old ≤ vec_capacity block.new }
 {
     let mut message: ArrayVec<u8, MESSAGE_OCTETS> = ArrayVec::new();
     let size = encode_behind(draft, &mut message);

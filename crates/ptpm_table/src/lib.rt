@@ -31,7 +31,7 @@ pub use in_order::LentEntries;
 pub use lending::{LendingTable, LentAnswer, LentAnswers, LentEntry, LentWhat};
 pub use managers::{MOST_MANAGERS, managers_refusal};
 pub use outbox::{OUTBOX_MESSAGES, Outbox};
-pub use outgoing::Outgoing;
+pub use outgoing::{LongOutgoing, Outgoing};
 pub use plain_table::PlainTable;
 pub use rendering::{Sender, render};
 pub use renewal::{Renewal, renew};

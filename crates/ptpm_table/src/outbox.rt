@@ -5,7 +5,7 @@ ghost use Rattle.ptpm_codec.specs.Canonical.{canonical};
 ghost use Rattle.ptpm_codec.specs.Message.{IsValid};
 ghost use Rattle.ptpm_table.specs.Outbox.{sent};
 
-use crate::outgoing::Outgoing;
+use crate::outgoing::{LongOutgoing, Outgoing};
 use crate::renewal::{Renewal, renew};
 use ptpm_codec::{Buffer, Draft, Envelope, encode, less_hop, overwrite_message};
 use ptpm_data::INLINE_PORTS;
@@ -104,10 +104,7 @@ impl Outgoing for Outbox {
 
     #[inline(always)]
     fn push_answer(&mut self, port: u16, envelope: &Envelope, source: u16, octets: &[u8]) {
-        let place = &mut self.places[self.count];
-        place.0 = port;
-        envelope.answer(source, octets, &mut place.1);
-        self.count += 1;
+        self.push_value(port, envelope, source, octets);
     }
 
     fn push_refusal(&mut self, port: u16, envelope: &Envelope, source: u16, error: u16, id: u16) {
@@ -117,18 +114,28 @@ impl Outgoing for Outbox {
         self.count += 1;
     }
 
-    fn push_less_hop(&mut self, port: u16, datagram: &[u8]) {
-        let place = &mut self.places[self.count];
-        place.0 = port;
-        less_hop(datagram, &mut place.1);
-        self.count += 1;
-    }
-
     fn push_renewed(&mut self, port: u16, message: &[u8], renewal: &Renewal) {
         let place = &mut self.places[self.count];
         place.0 = port;
         overwrite_message(&mut place.1, message);
         renew(place.1.as_mut_slice(), renewal);
+        self.count += 1;
+    }
+}
+
+impl LongOutgoing for Outbox {
+    #[inline(always)]
+    fn push_value(&mut self, port: u16, envelope: &Envelope, source: u16, octets: &[u8]) {
+        let place = &mut self.places[self.count];
+        place.0 = port;
+        envelope.answer(source, octets, &mut place.1);
+        self.count += 1;
+    }
+
+    fn push_less_hop(&mut self, port: u16, datagram: &[u8]) {
+        let place = &mut self.places[self.count];
+        place.0 = port;
+        less_hop(datagram, &mut place.1);
         self.count += 1;
     }
 }

@@ -1,5 +1,5 @@
-/* Commands of a clock. Each datagram comes in at a second clock too, which is restored from the image of the first. Both have to
-   answer, send and become the same. */
+/* Commands of a clock. Each datagram comes in at a second and a third clock too, which are restored from the image of the first. All have
+   to answer, send and become the same. */
 #include "commands.h"
 #include "refusing.h"
 #include "words.h"
@@ -84,11 +84,15 @@ static uint32_t take(struct ptpm_clock *clock, const struct coming *in, struct t
     return ptpm_clock_take(clock, in->port, in->datagram.at, in->datagram.size, &in->said, in->is_of_owner, into->sent, places, &into->taken);
 }
 
-/* Hands a datagram in at the second clock. One that sends at once gets it by ptpm_clock_handle, if it says no more than that takes. */
+/* Whether ptpm_clock_handle takes a datagram like that, at a clock that sends at once. */
+static bool is_simple(const struct coming *in) {
+    return places_to_wait == 0 && in->said.kind == PTPM_AGREES && !in->is_of_owner && !in->is_under_way;
+}
+
+/* Hands a datagram in at the second clock: by ptpm_clock_handle if that takes it. */
 static void take_again(struct ptpm_clock *second, const struct coming *in, struct turn *into, size_t places) {
-    bool is_simple = places_to_wait == 0 && in->said.kind == PTPM_AGREES && !in->is_of_owner && !in->is_under_way;
     size_t count = 1;
-    if (!is_simple) {
+    if (!is_simple(in)) {
         into->answer = take(second, in, into, places);
         return;
     }
@@ -96,20 +100,52 @@ static void take_again(struct ptpm_clock *second, const struct coming *in, struc
     into->taken = (struct ptpm_taken){ .count = count };
 }
 
-/* Hands a datagram in at both clocks; only at the first if that is unsaved, since the second is saved. */
+static void put_message(struct ptpm_sent *sent, size_t port, const uint8_t *octets, size_t size) {
+    sent->port = (uint16_t)port;
+    sent->size = (uint16_t)size;
+    memcpy(sent->octets, octets, size);
+}
+
+/* Hands a datagram in by ptpm_clock_handle_shared. The messages are those that its host sends then. */
+static void take_shared(struct ptpm_clock *clock, const struct coming *in, struct turn *into, size_t places) {
+    static struct ptpm_answer answers[PTPM_MOST_PORTS];
+    static struct octets datagram;
+    struct ptpm_shared shared;
+    size_t count = 0;
+    datagram = in->datagram;
+    into->answer = ptpm_clock_handle_shared(clock, in->port, datagram.at, datagram.size, answers, places, &shared);
+    for (size_t place = 0; place < PTPM_MOST_PORTS; place++) {
+        if (shared.ports >> place & 1) put_message(&into->sent[count++], place + 1, datagram.at, (size_t)shared.size);
+    }
+    for (size_t i = 0; i < shared.count; i++) put_message(&into->sent[count++], answers[i].port, answers[i].octets, answers[i].size);
+    into->taken = (struct ptpm_taken){ .count = count };
+}
+
+static void check_again(const struct ptpm_clock *other, const struct turn *again) {
+    if (!is_same_turn(&turn, again) || !is_same_clock(other)) say("the clock that was restored does something else\n");
+}
+
+/* Hands a datagram in at all three clocks. It comes in only at the first if that is unsaved, since the others are saved. At the third it
+   comes in only if ptpm_clock_handle takes it. */
 static void handle(const struct coming *in, size_t places) {
     static struct turn again;
-    struct ptpm_clock second = { 0 };
+    struct ptpm_clock second = { 0 }, third = { 0 };
     bool is_twice = restores_second(&second) && !ptpm_clock_unsaved(&clock_of_page);
+    bool is_shared = is_twice && is_simple(in) && places == PLACES && restores_second(&third);
     memset(&turn, 0xee, sizeof turn);
     turn.answer = take(&clock_of_page, in, &turn, places);
     changed = turn.taken.changed;
     check_places((size_t)turn.taken.count, (size_t)turn.taken.waiting);
     if (is_twice && turn.answer != PTPM_UNSAVED) {
         take_again(&second, in, &again, places);
-        if (!is_same_turn(&turn, &again) || !is_same_clock(&second)) say("the clock that was restored does something else\n");
+        check_again(&second, &again);
+    }
+    if (is_shared) {
+        take_shared(&third, in, &again, PTPM_MOST_PORTS);
+        check_again(&third, &again);
     }
     ptpm_clock_stop(&second);
+    ptpm_clock_stop(&third);
 }
 
 static void say_sent(const struct ptpm_sent *sent) {
@@ -178,6 +214,16 @@ static void run_in(char *words) {
     size_t places = next_room(&words, PLACES);
     in.port = (uint16_t)next_number(&words, 0);
     run_datagram(words, &in, places);
+}
+
+/* `in-shared PORT OCTETS`: what ptpm_clock_handle_shared has its host send. */
+static void run_in_shared(char *words) {
+    static struct coming in;
+    size_t places = next_room(&words, PTPM_MOST_PORTS);
+    in.port = (uint16_t)next_number(&words, 0);
+    read_octets(&words, &in.datagram);
+    take_shared(&clock_of_page, &in, &turn, places);
+    say_turn();
 }
 
 /* `transit PORT OCTETS`: the copies that are passed on of what the library does not read, or `nothing`. */
@@ -421,7 +467,7 @@ static void run_stop(char *words) {
 }
 
 const struct command clock_commands[] = {
-    { "clock", run_start }, { "in", run_in }, { "transit", run_transit }, { "in-owner", run_in_owner }, { "in-said", run_in_said }, { "in-given", run_in_given }, { "decide", run_decide }, { "decide-given", run_decide_given }, { "changed", run_changed }, { "observe", run_observe },
+    { "clock", run_start }, { "in", run_in }, { "in-shared", run_in_shared }, { "transit", run_transit }, { "in-owner", run_in_owner }, { "in-said", run_in_said }, { "in-given", run_in_given }, { "decide", run_decide }, { "decide-given", run_decide_given }, { "changed", run_changed }, { "observe", run_observe },
     { "set-here", run_set_here }, { "read", run_read }, { "image", run_image }, { "image-is", run_image_is }, { "restore", run_restore }, { "saving", run_saving }, { "image-of", run_image_of },
     { "saved", run_saved }, { "next", run_next }, { "free", run_free }, { "unsaved", run_unsaved }, { "most-sent", run_most_sent }, { "stop", run_stop }, { NULL, NULL },
 };

@@ -38,6 +38,6 @@ returns-clause-sent g c =
       hops = passed i;
       body = bodies.Answer actions.Response (c.id-id.ensures i) [];
     } in
-    c.push_answer.ensures.messages draft actions.Response c.id-id.result c.address.ensures.fits c.address.ensures.octets
+    c.push_value.ensures.messages draft actions.Response c.id-id.result c.address.ensures.fits c.address.ensures.octets
     ∙ ap (λ (xs : List (ℕ × List ℕ)). g.O.Outgoing.sent c.args.out.now ++ xs)
     (rendered_given me v draft c.id-id.result c.args.octets.now ingress c.requires.lacked c.requires.octets c.id-id.ensures same)

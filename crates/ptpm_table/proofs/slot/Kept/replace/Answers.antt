@@ -1,4 +1,4 @@
-use Rattle.std.proofs.Common.{arith, All, Bool, ◌≡◌, ap, length, map, refl, subst, sym}
+use Rattle.std.proofs.Common.{All, Bool, ◌≡◌, ap, length, map, refl, subst, sym}
 use Rattle.ptpm_codec.specs.declared.message.Action.{Action}
 use Rattle.ptpm_data.specs.Reply.{answer_of}
 use Rattle.ptpm_data.specs.Request.{RequestValue}

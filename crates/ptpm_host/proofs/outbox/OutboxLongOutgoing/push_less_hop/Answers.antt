@@ -1,7 +1,7 @@
 use Rattle.std.proofs.Common.{◌<◌, arith, length, refl}
 use Rattle.std.proofs.lemmas.Grind.{common_steps}
 use Rattle.ptpm_host.proofs.Places.{grown_at_write, whole_at_write}
-use Rattle.ptpm_host.proofs.outbox.OutboxOutgoing.push_less_hop.Goals as goal
+use Rattle.ptpm_host.proofs.outbox.OutboxLongOutgoing.push_less_hop.Goals as goal
 
 pub invariant_of-self-clause-whole : goal.invariant_of-self-clause-whole
 invariant_of-self-clause-whole c =

@@ -1,7 +1,7 @@
 use Rattle.std.proofs.Common.{arith}
 use Rattle.ptpm_host.proofs.MostSent.{most_at}
-use Rattle.ptpm_host.proofs.clock.HostedClock.most_sent.Goals as goal
-use Rattle.ptpm_host.proofs.clock.HostedClock.most_sent.Goals.{then-answers-most, else-answers-most}
+use Rattle.ptpm_host.proofs.clock.HostedClock.most_answers.Goals as goal
+use Rattle.ptpm_host.proofs.clock.HostedClock.most_answers.Goals.{then-answers-most, else-answers-most}
 
 pub loop-place-preserved : goal.loop-place-preserved
 loop-place-preserved c =

@@ -1,7 +1,0 @@
-use Rattle.std.proofs.Common.{◌≡◌, ◌*◌, ◌-◌, length, max, take}
-use Rattle.ptpm_host.specs.MostSent.{most_answers}
-use Rattle.ptpm_host.proofs.clock.HostedClock.most_sent.Given as goal
-
--- it is the number for the entries so far
-abbrev pub invariant-loop-place : goal.invariant-loop-place
-invariant-loop-place l = l.most ≡ max (2 * length l.self.agent.sets.ports - 1) (most_answers (take l.place l.entries))
