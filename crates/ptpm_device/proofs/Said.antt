@@ -16,7 +16,6 @@ use Rattle.ptpm_codec.specs.Canonical.{canonical}
 use Rattle.ptpm_codec.specs.Envelope.{sent_with}
 use Rattle.ptpm_codec.specs.Message.{IsDataField, IsRequestAction, action_of, id_of, reply_action}
 use Rattle.ptpm_codec.specs.Reading.{message_of}
-use Rattle.ptpm_data.specs.Changes.{IsTargetPort}
 use Rattle.ptpm_data.specs.ManagementId.{is_of_port, row_of}
 use Rattle.ptpm_data.specs.Replies.{is_get, reply_of}
 use Rattle.ptpm_data.specs.Reply.{ReplyValue, Value}
@@ -33,12 +32,11 @@ use Rattle.ptpm_agent.specs.Agent.{IsTurned}
 use Rattle.ptpm_agent.specs.Forwarding.{forwarded}
 use Rattle.ptpm_agent.specs.Turn.{Clock, NumberedRequest, State, Turned, judged, kept_reply_of, next_by, numbered_from, reply_by, reply_messages, turn, turn_by}
 use Rattle.ptpm_agent.proofs.Entries.{get-insert_same}
-use Rattle.ptpm_agent.proofs.SentReplies.{may_judge_action, may_judge_port}
 use Rattle.ptpm_agent.proofs.Turns.{CopyParts, forwarded-copy, judged-copy, new_parts, turn-message}
 use Rattle.ptpm_device.specs.Asking.{is_asked, is_lacked, is_new, is_permitted, is_unnumbered, is_wanted_once, wanted_new, wanted_once}
 use Rattle.ptpm_device.specs.Saying.{Gives, Objects, Say, after_reply, given, given_by, reply_given, reply_said, turn_said}
-use Rattle.ptpm_device.proofs.WhenAsked.{AskedParts, WantedParts, asked_parts, not_wanted_new, wanted_once-read, wanted_parts}
-use Rattle.ptpm_device.proofs.Judged.{asked-parts, given_told, is_get-true, judged-asked, lacked_row, objection_not_asked}
+use Rattle.ptpm_device.proofs.WhenAsked.{WantedParts, not_wanted_new, wanted_once-read, wanted_parts}
+use Rattle.ptpm_device.proofs.Judged.{asked-parts, given_told, is_get-true, lacked_row}
 use Rattle.ptpm_device.proofs.New.{look_at-kept}
 use Rattle.ptpm_device.proofs.Steps.{turn_said-each, turn_said-new}
 

@@ -400,9 +400,9 @@ turn_can_be : (c : Clock) (s : State) (ingress : ℕ) (datagram : List ℕ) (r :
 turn_can_be c s ingress datagram (Err cause) can = can
 turn_can_be c s ingress datagram (Ok v) can = next_can_be (judged c s v) c s v can
 
-after_can_be : (c : Clock) (s : State) (x : Datagram) → CanBe s → CanBe (turn c s x.0 x.1).next
+turned_can_be : (c : Clock) (s : State) (x : Datagram) → CanBe s → CanBe (turn c s x.0 x.1).next
 unfolding turn
-after_can_be c s x can = turn_can_be c s x.0 x.1 (reading x.1) can
+turned_can_be c s x can = turn_can_be c s x.0 x.1 (reading x.1) can
 
 -- ---- observations
 
@@ -422,7 +422,7 @@ pub clock_sound : (c : Clock) → IsSound (clock_process c) CanBe
 clock_sound c = record {
   unchanged = unchanged c;
   goes_back = goes_back c;
-  after_can_be = after_can_be c;
+  after_can_be = turned_can_be c;
   noted_can_be = λ s o can. observed-consistent o.clock o.ports s.sets can;
 }
 

@@ -1,5 +1,4 @@
-use Rattle.std.proofs.Common.{arith, ◌≡◌, ◌∙◌, List, ap, length, map, refl, true, sym, subst}
-use Rattle.ptpm_data.specs.Members.{DataSetsValue}
+use Rattle.std.proofs.Common.{◌≡◌, ◌∙◌, List, ap, map, true, sym, subst}
 use Rattle.ptpm_data.specs.Reply.{Answer, ReplyValue, answer_of}
 use Rattle.ptpm_agent.specs.Turn.{NumberedRequest}
 use Rattle.ptpm_device.specs.Asking.{is_lacked}

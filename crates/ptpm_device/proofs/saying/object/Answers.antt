@@ -1,4 +1,4 @@
-use Rattle.std.proofs.Common.{arith, ◌≡◌, Some, None, true, false, length, refl, sym, ◌∙◌, ap, List, ℕ}
+use Rattle.std.proofs.Common.{arith, ◌≡◌, Some, true, false, length, refl, sym, ◌∙◌, ap, List, ℕ}
 use Rattle.std.specs.Prelude.{is_some}
 use Rattle.std.proofs.lemmas.Bool.{cond-false, cond-true}
 use Rattle.ptpm_codec.specs.Reading.{message_of}
@@ -6,10 +6,10 @@ use Rattle.ptpm_data.specs.Replies.{reply_of}
 use Rattle.ptpm_table.specs.Rendering.{rendered}
 use Rattle.ptpm_agent.specs.Addressing.{heard_of, request_of}
 use Rattle.ptpm_agent.specs.Agent.{clock_of, state_of}
-use Rattle.ptpm_agent.specs.Turn.{NumberedRequest, numbered_from}
+use Rattle.ptpm_agent.specs.Turn.{numbered_from}
 use Rattle.ptpm_agent.proofs.MostSent.{rendered_count}
 use Rattle.ptpm_agent.proofs.Turns.{message_of-reading}
-use Rattle.ptpm_device.specs.Asking.{asked, is_asked}
+use Rattle.ptpm_device.specs.Asking.{is_asked}
 use Rattle.ptpm_device.specs.Saying.{after_reply}
 use Rattle.ptpm_device.proofs.Judged.{judged-asked, objection_not_asked}
 use Rattle.ptpm_device.proofs.Said.{turned_objected}

@@ -1,37 +1,30 @@
 -- The reply to a refused request, answer by answer.
 use Rattle.std.proofs.Common.{arith, ◌≡◌, ℕ, ◌≤◌, map, List, [], ◌∷◌, Option, Some, None, Bool, true, false, length, refl, sym, ◌∙◌, ap, subst, rules}
 use Rattle.std.proofs.lemmas.List.{length-map}
-use Rattle.std.proofs.lemmas.List.Elements.{All-cons, All-get_or, All-map, All-nil}
+use Rattle.std.proofs.lemmas.List.Elements.{All-cons, All-map, All-nil}
 use Rattle.std.specs.List.{All}
 use Rattle.ptpm_codec.specs.declared.error.ErrorId.{ErrorId}
-use Rattle.ptpm_codec.specs.declared.message.Action.{Action}
 use Rattle.ptpm_codec.specs.Message.{reply_action}
 use Rattle.ptpm_data.specs.declared.ports.TheConstants.{PORTS}
-use Rattle.ptpm_data.specs.declared.rights.Rights.{Rights}
-use Rattle.ptpm_data.specs.AnswerLaws.{answered_more}
-use Rattle.ptpm_data.specs.Changes.{IsTargetPort, changed_by}
+use Rattle.ptpm_data.specs.Changes.{IsTargetPort}
 use Rattle.ptpm_data.specs.ManagementId.{is_of_port}
 use Rattle.ptpm_data.specs.Members.{DataSetsValue}
-use Rattle.ptpm_data.specs.Refusals.{refusal_of}
-use Rattle.ptpm_data.specs.Replies.{answer, answerers, named_ports, outcome, read_refusal, read_reply_to, reply_of, reply_to}
+use Rattle.ptpm_data.specs.Replies.{answer, answerers, named_ports, read_refusal, read_reply_to, reply_of}
 use Rattle.ptpm_data.specs.Reply.{Answer, ReplyValue}
 use Rattle.ptpm_data.specs.Request.{RequestValue}
 use Rattle.ptpm_data.specs.RequestLaws.{IsSized}
-use Rattle.ptpm_data.proofs.Keeping.{changed_by-ports, changed_by-sized}
-use Rattle.ptpm_data.proofs.ReplyLemmas.{answers_of, reply_of-all, reply_of-count}
+use Rattle.ptpm_data.proofs.ReplyLemmas.{answers_of, reply_of-count}
 use Rattle.ptpm_table.specs.Entries.{FitsAnswer, FitsCount, FitsRequest}
 use Rattle.ptpm_table.specs.declared.rendering.Sender.{Sender}
 use Rattle.ptpm_table.specs.Sending.{HasSent}
 use Rattle.ptpm_device.specs.Refusing.{TakesAsRefused, refused_answer}
 use Rattle.std.specs.FinMap.{insert}
-use Rattle.ptpm_codec.specs.declared.identity.ClockIdentity.{ClockIdentity}
 use Rattle.ptpm_data.proofs.Answering.{reply_few}
 use Rattle.ptpm_table.specs.Rendering.{rendered}
 use Rattle.ptpm_agent.specs.Addressing.{heard_of, names_port, request_of}
 use Rattle.ptpm_agent.proofs.SentReplies.{may_judge_port, IsSenderOf, sender_as_made, sent_rendered, sent_reply}
 use Rattle.ptpm_agent.proofs.MostSent.{rendered_count}
 use Rattle.ptpm_agent.proofs.Turns.{new_parts}
-use Rattle.ptpm_codec.specs.declared.message.Action.TheVariants as actions
 use Rattle.ptpm_device.proofs.saying.refuse.Goals as goal
 
 -- ---- its answers, made of those of another reply
