@@ -9,6 +9,7 @@ use std::alloc::Global;
 
 /// An equal one. Takes memory for more than `INLINE_PORTS` ports alone: the block that it keeps, and one for the call. What it calls is
 /// never inlined: so the stack has what one of them takes at a time.
+#[inline(always)]
 pub(crate) fn copied(alloc: Global, sets: &DataSets) -> Result<DataSets, OutOfMemory>
     ensures copy { IfOk result (λ copy. copy ≡ sets.now) }
     ensures few { length sets.now.ports ≤ INLINE_PORTS → IsOk result }
