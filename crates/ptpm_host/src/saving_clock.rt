@@ -713,7 +713,7 @@ impl SavingClock {
         ensures waits { self.new.waits ≡ self.old.waits }
         ensures free { free_places self.new ≡ free_places self.old }
         ensures begun { self.new.is_begun ≡ self.old.is_begun }
-        ensures counted { OnOk result (λ r. r.1 ≡ (self.old.images + 1) % 2 ^ 64) }
+        ensures counted { IfOk result (λ r. r.1 ≡ (self.old.images + 1) % 2 ^ 64) }
         ensures unchanged { OnErr result (self.new ≡ self.old) }
         ensures untouched { OnErr result (octets.new ≡ octets.old) }
     {
