@@ -1,4 +1,4 @@
-use Rattle.std.proofs.Common.{◌≡◌, ◌∙◌, ◌-◌, ap, slice_set}
+use Rattle.std.proofs.Common.{◌∙◌, ◌-◌, ap, slice_set}
 use Rattle.ptpm_codec.specs.Layout.{boundary_hops}
 use Rattle.ptpm_host.proofs.UnderWay.{message_front}
 use Rattle.ptpm_host.proofs.sent.Sent.put_less_hop.Goals as goal
