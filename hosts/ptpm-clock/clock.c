@@ -161,7 +161,7 @@ static void run(int64_t end) {
 static void open_all(void) {
     signals = open_signals();
     transport = options.transport;
-    diverted_port = options.ptp4l != NULL ? options.diverted_port : 0;
+    if (options.ptp4l != NULL && transport != ETHERNET) diverted_port = options.diverted_port;
     links = open_netlink();
     timer = open_timer();
     for (size_t i = 0; i < options.interface_count; i++) open_port(options.interfaces[i]);

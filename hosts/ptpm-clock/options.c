@@ -323,7 +323,9 @@ static void judge_ptp4l(const struct options *options) {
     if (options->ptp4l == NULL && options->diverted_port != DIVERTED_AT_FIRST) refuse_command_line("--diverted: --ptp4l PATH is missing");
     if (options->ptp4l == NULL) return;
     if (other != NULL) refuse_command_line("--ptp4l and %s exclude each other", other);
-    if (options->transport == ETHERNET) refuse_command_line("--ptp4l and -2 exclude each other: no rule diverts frames");
+    if (options->transport == ETHERNET && options->diverted_port != DIVERTED_AT_FIRST) {
+        refuse_command_line("--diverted and -2 exclude each other: no rule diverts frames");
+    }
     if (options->interface_count == 0) refuse_command_line("--ptp4l: the interfaces of the ptp4l are missing");
 }
 
