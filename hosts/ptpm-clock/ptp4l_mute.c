@@ -71,7 +71,8 @@ static size_t port_that_heard(const uint64_t now[PORTS]) {
 }
 
 static const char *advice(void) {
-    return diverted_port != 0 ? "nft list table inet ptpm shows whether they are diverted" : "it was started without libptpm_mute.so";
+    return diverted_port != 0 ? "nft list table inet ptpm shows whether they are diverted"
+           : transport == ETHERNET ? "it was started without libptpm_mute.so" : "network_management of its configuration is not 0";
 }
 
 /* Compares what each port has heard by now with what it had heard before. If nothing is diverted that is nothing, in all its life: a message
