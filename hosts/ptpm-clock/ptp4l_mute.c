@@ -122,7 +122,10 @@ static void end_probe(int64_t now) {
     is_mute = compare_counts() == ARE_SAME;
     is_sent = false;
     due = now + (is_mute ? WHILE_MUTE : WHILE_HEARD);
-    if (is_mute && is_told) say("the ptp4l hears no management messages any more, and changes are taken");
+    if (is_mute && is_told) {
+        say("the ptp4l %s, and changes are taken",
+            diverted_port != 0 ? "hears no management messages any more" : "was started again, and has heard no management message since then");
+    }
     if (is_mute) is_told = false;
 }
 
