@@ -29,7 +29,6 @@ pi_integral_const 0.3
 first_step_threshold 0.0
 uds_address {socket}
 clockIdentity {identity}
-userDescription {name}
 priority1 {priority}
 """
 WITHOUT_CLOCK = "setpriv --bounding-set=-sys_time --inh-caps=-sys_time"
@@ -152,8 +151,9 @@ class Scene:
         for host, interfaces, identity, name, priority in SITE if is_site else NEIGHBOUR + BESIDE_AGENTS.get(page, []):
             socket = "/run/ptp4l" if host == "neighbour" else f"/run/ptp4l.{host}"
             with open(f"/run/{host}.conf", "w", encoding="utf-8") as file:
-                file.write(PTP4L.format(socket=socket, identity=identity, name=name or "clock", priority=priority))
-                file.write(SERVER if host == "receiver" else "")
+                file.write(PTP4L.format(socket=socket, identity=identity, priority=priority))
+                file.write(f"userDescription {name}\n" if name else "")
+                file.write(SERVER if is_site and host == "receiver" else "")
             ports = [f"-i {interface}" for interface in interfaces]
             self.start(host, " ".join([WITHOUT_CLOCK, "ptp4l", "-m", "-f", f"/run/{host}.conf", *ports]))
             if page in BESIDE_AGENTS and not is_site:
