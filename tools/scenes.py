@@ -29,7 +29,6 @@ pi_integral_const 0.3
 first_step_threshold 0.0
 uds_address {socket}
 clockIdentity {identity}
-userDescription {name}
 priority1 {priority}
 """
 WITHOUT_CLOCK = "setpriv --bounding-set=-sys_time --inh-caps=-sys_time"
@@ -40,6 +39,8 @@ SITE = [("receiver", ["eth0"], "020000.fffe.000010", "time server", 100),
         ("hall", ["eth0", "eth1"], "020000.fffe.000021", "switch, hall 2", 120),
         ("left", ["eth0"], "020000.fffe.000031", "camera 7", 128), ("right", ["eth0"], "020000.fffe.000032", "camera 8", 128)]
 NEIGHBOUR = [("neighbour", ["eth0"], "020000.fffe.000020", "", 128)]
+# Of pages whose ptp4l have agents beside them: those beyond the neighbour.
+BESIDE_AGENTS = {"README.md": [("receiver", ["eth0"], "020000.fffe.000050", "", 128)]}
 
 LAB = "docs/tutorial.md"    # whose network is that of examples/lab
 BESIDE = "docs/ptp4l.md"    # whose agent is the neighbour's, beside its ptp4l
@@ -52,8 +53,7 @@ OTHER_SDO = ("printf '[global]\\ntransportSpecific 0x1\\nclockIdentity 020000.ff
 AGENTS = {"docs/ptpm-manage.md": [f"{AGENT} aabbccfffeddee01 eth0 eth1", f"{AGENT} -d 4 aabbccfffeddee01 eth0",
                                   f"{AGENT} -2 aabbccfffeddee01 eth0", OTHER_SDO],
           "docs/bindings.md": [f"{AGENT} aabbccfffeddee01 eth0"],
-          "docs/changing-a-site.md": [f"{AGENT} aabbccfffeddee01 eth0", f"{AGENT} aabbccfffeddee02 eth0"],
-          "README.md": [f"{AGENT} aabbccfffeddee02 eth0"]}
+          "docs/changing-a-site.md": [f"{AGENT} aabbccfffeddee01 eth0", f"{AGENT} aabbccfffeddee02 eth0"]}
 
 
 def shell(text, host=None, **words):
@@ -134,7 +134,7 @@ class Scene:
     def end(self):
         """Ends what runs, so that the next page finds none of it."""
         self.stop(self.running)
-        for host in ("manager", "neighbour"):
+        for host in ("manager", "neighbour", "receiver"):
             shell("nft flush ruleset", host)
         shell("rm -rf /var/lib/ptpm /run/ptp4l*")
         self.clocks, self.running, self.programs = None, [], []
@@ -148,13 +148,17 @@ class Scene:
         if page == LAB:
             self.place = "lab-manager"
             return
-        for host, interfaces, identity, name, priority in SITE if is_site else NEIGHBOUR:
-            socket = f"/run/ptp4l.{host}" if is_site else "/run/ptp4l"
+        for host, interfaces, identity, name, priority in SITE if is_site else NEIGHBOUR + BESIDE_AGENTS.get(page, []):
+            socket = "/run/ptp4l" if host == "neighbour" else f"/run/ptp4l.{host}"
             with open(f"/run/{host}.conf", "w", encoding="utf-8") as file:
-                file.write(PTP4L.format(socket=socket, identity=identity, name=name or "clock", priority=priority))
-                file.write(SERVER if host == "receiver" else "")
+                file.write(PTP4L.format(socket=socket, identity=identity, priority=priority))
+                file.write(f"userDescription {name}\n" if name else "")
+                file.write(SERVER if is_site and host == "receiver" else "")
             ports = [f"-i {interface}" for interface in interfaces]
             self.start(host, " ".join([WITHOUT_CLOCK, "ptp4l", "-m", "-f", f"/run/{host}.conf", *ports]))
+            if page in BESIDE_AGENTS and not is_site:
+                shell("ptpm-clock --ptp4l-rules | nft -f -", host)
+                self.start(host, f"{AGENT} --ptp4l {socket} {identity} {' '.join(interfaces)}")
         for text in [] if is_site else AGENTS.get(page, []):
             self.start("device", text)
         if page == BESIDE:

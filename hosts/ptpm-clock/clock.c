@@ -24,6 +24,7 @@
 #include "saving.h"
 #include "service.h"
 #include "source.h"
+#include "udp.h"
 #include "unicast.h"
 #include "values.h"
 #include "waking.h"
@@ -161,7 +162,7 @@ static void run(int64_t end) {
 static void open_all(void) {
     signals = open_signals();
     transport = options.transport;
-    diverted_port = options.ptp4l != NULL ? options.diverted_port : 0;
+    if (options.ptp4l != NULL && transport != ETHERNET && options.diverted_port != GENERAL_PORT) diverted_port = options.diverted_port;
     links = open_netlink();
     timer = open_timer();
     for (size_t i = 0; i < options.interface_count; i++) open_port(options.interfaces[i]);

@@ -158,7 +158,7 @@ bool may_ask(const struct ptpm_question *asked) {
     case MAY_BE_ASKED: return true;
     case IS_SAID: take_word(say); break;
     case IS_TOO_EARLY: break;
-    case IS_LOST: drop_change("could not be asked");
+    case IS_LOST: drop_change("was not asked");
     }
     return false;
 }

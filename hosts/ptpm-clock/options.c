@@ -4,6 +4,7 @@
 #include "names.h"
 #include "output.h"
 #include "ptp4l_rules.h"
+#include "udp.h"
 #include "words.h"
 #include <getopt.h>
 #include <grp.h>
@@ -86,7 +87,8 @@ static const char help[] =
     "  --give ID FILE      the octets of FILE answer a GET of ID, which the clock itself lacks. ID is for example\n"
     "                      CLOCK_DESCRIPTION, or 2014/2 for port 2. FILE is read at each GET\n"
     "  --ptp4l PATH        it answers for the ptp4l whose Unix socket is PATH, and asks it for each change once at most\n"
-    "  --diverted PORT     the UDP port to which a firewall diverts management messages from the ptp4l (10320)\n"
+    "  --diverted PORT     the UDP port to which a firewall diverts management messages from the ptp4l (10320); or 320\n"
+    "                      if the ptp4l itself ignores them\n"
     "  --ptp4l-rules       prints the rules of nftables that do that\n"
     "  -n SECONDS          ends by itself after this time\n"
     "  -v                  a line for each datagram that it hears, and one for what it changed\n"
@@ -158,6 +160,15 @@ static void leave_root(struct options *options) {
     if (!privileges->is_by_default) say("it stays root: there is no user ptpm or nobody");
     bool has_socket = options->meeting.path != NULL || options->owner != NULL || options->ptp4l != NULL;
     if (has_socket && options->meeting.group == (gid_t)-1) options->meeting.group = group;
+}
+
+/* UDP port 320 is for a ptp4l that ignores what comes in there. */
+static uint16_t port_diverted_to(void) {
+    long port = number("--diverted", GENERAL_PORT, UINT16_MAX);
+    if (port != GENERAL_PORT && port < LEAST_DIVERTED) {
+        refuse_command_line("--diverted %s: it takes 320, or a number from %d to %d", optarg, LEAST_DIVERTED, UINT16_MAX);
+    }
+    return (uint16_t)port;
 }
 
 static const char *socket_path(const char *option) {
@@ -233,7 +244,7 @@ static void take_limit(struct options *options, int option) {
     case LIMITS: options->limits_file = optarg; break;
     case ASK: options->device_program = program_path(); break;
     case PTP4L: options->ptp4l = socket_path("--ptp4l"); break;
-    case DIVERTED: options->diverted_port = (uint16_t)number("--diverted", LEAST_DIVERTED, UINT16_MAX); break;
+    case DIVERTED: options->diverted_port = port_diverted_to(); break;
     case PTP4L_RULES: options->is_asked_for_rules = true; break;
     case ASK_TIME: options->device_seconds = number("--ask-time", 1, MOST_ASK_TIME); break;
     default: usage();
@@ -323,7 +334,9 @@ static void judge_ptp4l(const struct options *options) {
     if (options->ptp4l == NULL && options->diverted_port != DIVERTED_AT_FIRST) refuse_command_line("--diverted: --ptp4l PATH is missing");
     if (options->ptp4l == NULL) return;
     if (other != NULL) refuse_command_line("--ptp4l and %s exclude each other", other);
-    if (options->transport == ETHERNET) refuse_command_line("--ptp4l and -2 exclude each other: no rule diverts frames");
+    if (options->transport == ETHERNET && options->diverted_port != DIVERTED_AT_FIRST) {
+        refuse_command_line("--diverted and -2 exclude each other: no rule diverts frames");
+    }
     if (options->interface_count == 0) refuse_command_line("--ptp4l: the interfaces of the ptp4l are missing");
 }
 
@@ -349,6 +362,7 @@ void read_options(struct options *options, int argc, char **argv) {
     options->diverted_port = DIVERTED_AT_FIRST;
     options->meeting = (struct meeting){ .mode = MODE_AT_FIRST, .group = (gid_t)-1 };
     for (int option; (option = getopt_long(argc, argv, "26fu:m:d:s:o:n:vh", names, NULL)) != -1;) take_option(options, option, argv);
+    if (options->is_asked_for_rules && options->diverted_port == GENERAL_PORT) refuse_command_line("--ptp4l-rules: none diverts to UDP port 320");
     if (options->is_asked_for_rules) exit(!print_rules(options->diverted_port));
     if (optind == argc) refuse_command_line("the clock's identity is missing");
     if (!ptpm_identity_parse(argv[optind], strlen(argv[optind]), options->settings.identity)) {

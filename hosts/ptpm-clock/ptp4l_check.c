@@ -7,13 +7,15 @@
 #include <errno.h>
 #include <string.h>
 
-/* The members of DEFAULT_DATA_SET and PORT_PROPERTIES_NP that are compared: a number or an identity, and a text. */
+/* The members of DEFAULT_DATA_SET and PORT_PROPERTIES_NP that are compared: a number or an identity, and a text. In CLOCK_DESCRIPTION it is the
+   networkProtocol of the protocolAddress, after clockType, a text and an address. */
 enum { NUMBER_PORTS_AT = 2, IDENTITY_AT = 10, DEFAULT_OCTETS = 20, PORT_PROPERTIES_NP = 0xc004, NAME_SIZE_AT = 12, NAME_AT = 13 };
+enum { CLOCK_DESCRIPTION = 0x0001, LAYER_SIZE_AT = 2, LAYER_AT = 3 };
 
 static const struct options *options;
 static unsigned life;                   /* the one that the verdict is about */
 static enum found verdict;
-static bool is_told_closed, is_told_silent;
+static bool is_told_closed, is_told_silent, is_told_missing;
 
 void start_check(const struct options *given) { options = given; }
 
@@ -64,6 +66,30 @@ static enum found judge_ports(void) {
     return found;
 }
 
+/* The networkProtocol of a port (IEEE 1588-2019, 7.4.1), or 0. */
+static unsigned protocol_of(const struct ptp4l_answer *answer) {
+    size_t at = LAYER_AT;
+    if (answer->size > LAYER_SIZE_AT) at += answer->field[LAYER_SIZE_AT];
+    if (answer->size >= at + 2) at += 2 + ((size_t)answer->field[at] << 8 | answer->field[at + 1]);
+    return answer->size >= at + 2 ? (unsigned)answer->field[at] << 8 | answer->field[at + 1] : 0;
+}
+
+/* Says where a port is over another transport than this program, which hears other managers then. */
+static void compare_transports(void) {
+    static const char *const names[] = { [UDP_IPV4] = "UDP with IPv4", [UDP_IPV6] = "UDP with IPv6", [ETHERNET] = "Ethernet" };
+    struct ptp4l_answer answer;
+    int64_t end = milliseconds() + PTP4L_PATIENCE;
+    uint16_t number;
+    if (!ask_any(CLOCK_DESCRIPTION, &number)) return;
+    for (size_t i = 0; i < ports_of(options) && hear_ptp4l(number, end, &answer); i++) {
+        unsigned protocol = protocol_of(&answer);
+        if (answer.port == 0 || answer.port > ports_of(options) || protocol == 0 || protocol > sizeof names / sizeof *names) continue;
+        if (protocol - 1 == (unsigned)options->transport) continue;
+        say("the ptp4l is over %s at %s, and this program over %s: -2 and -6 say over what it is", names[protocol - 1],
+            options->interfaces[answer.port - 1], names[options->transport]);
+    }
+}
+
 /* A reason that may last is said once. */
 static void tell(bool *is_told, bool is_so, const char *what, const char *why) {
     if (is_so && !*is_told) say("%s: %s%s", options->ptp4l, what, why);
@@ -73,12 +99,15 @@ static void tell(bool *is_told, bool is_so, const char *what, const char *why) {
 enum found find_ptp4l(void) {
     bool is_connected = connect_ptp4l(), is_closed = !is_connected && is_ptp4l_closed();
     tell(&is_told_closed, is_closed, strerror(errno), ": --unix-group names the group of this socket");
+    if (is_connected && is_told_missing) say("%s: a ptp4l is there now", options->ptp4l);
+    tell(&is_told_missing, !is_connected && !is_closed, "no ptp4l is there, and nothing is answered", "");
     if (!is_connected) return is_closed ? IS_CLOSED : IS_NOT_THERE;
     if (ptp4l_life() != life) verdict = IS_SILENT;
     life = ptp4l_life();
     if (verdict != IS_SILENT) return verdict;
     verdict = judge_clock();
     if (verdict == IS_OURS) verdict = judge_ports();
+    if (verdict == IS_OURS) compare_transports();
     tell(&is_told_silent, verdict == IS_SILENT, "the ptp4l does not answer: ", "is -d its domainNumber?");
     return verdict;
 }

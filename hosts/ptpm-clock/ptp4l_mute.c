@@ -13,7 +13,9 @@
 enum { SETTLING = 100, WHILE_MUTE = 60000, WHILE_HEARD = 2000 };
 
 /* The dataField of PORT_STATS_NP is a portIdentity and 64-bit counts of what was received, of each messageType, the least octet first. */
-enum { PORT_STATS_NP = 0xc005, COUNT_AT = PORT_IDENTITY + 8 * MANAGEMENT_TYPE, COUNT = 8 };
+enum { PORT_STATS_NP = 0xc005, COUNTS_AT = PORT_IDENTITY, COUNT = 8, TYPES = 16 };
+
+enum { MOST_READS = 8 };                /* until what waited at the ports of the ptp4l is taken */
 
 static const struct options *options;
 static uint8_t domain;
@@ -27,24 +29,38 @@ void start_mute(const struct options *given, uint8_t of_clock) {
     domain = of_clock;
 }
 
-static uint64_t count_in(const struct ptp4l_answer *answer) {
+static uint64_t count_in(const struct ptp4l_answer *answer, int type) {
     uint64_t count = 0;
-    for (int i = COUNT - 1; i >= 0; i--) count = count << 8 | answer->field[COUNT_AT + i];
+    for (int i = COUNT - 1; i >= 0; i--) count = count << 8 | answer->field[COUNTS_AT + COUNT * type + i];
     return count;
 }
 
-/* How many management messages each port of the ptp4l has heard; whether it says that. */
-static bool read_counts(uint64_t heard[PORTS]) {
+/* How many management messages each port of the ptp4l has heard, and how many of all types all have; whether it says that. */
+static bool read_counts(uint64_t heard[PORTS], uint64_t *all) {
     struct ptp4l_answer answer;
     int64_t end = milliseconds() + PTP4L_PATIENCE;
     uint16_t number;
+    *all = 0;
     if (!get_from_ptp4l(PORT_STATS_NP, EVERY_PORT, &number)) return false;
     for (size_t i = 0; i < ports_of(options); i++) {
         if (!hear_ptp4l(number, end, &answer)) return false;
-        if (answer.size < COUNT_AT + COUNT || answer.port == 0 || answer.port > ports_of(options)) return false;
-        heard[answer.port - 1] = count_in(&answer);
+        if (answer.size < COUNTS_AT + TYPES * COUNT || answer.port == 0 || answer.port > ports_of(options)) return false;
+        heard[answer.port - 1] = count_in(&answer, MANAGEMENT_TYPE);
+        for (int type = 0; type < TYPES; type++) *all += count_in(&answer, type);
     }
     return true;
+}
+
+/* The same, once nothing waits at the ports of the ptp4l. It takes one message of each before it answers, so two counts are the same then. */
+static bool read_all_counts(uint64_t heard[PORTS]) {
+    uint64_t before, all;
+    if (!read_counts(heard, &before)) return false;
+    for (int reads = 1; reads < MOST_READS; reads++) {
+        if (!read_counts(heard, &all)) return false;
+        if (all == before) return true;
+        before = all;
+    }
+    return false;
 }
 
 /* Which port has heard something since its count was read; how many ports there are if none has. */
@@ -54,18 +70,22 @@ static size_t port_that_heard(const uint64_t now[PORTS]) {
     return port;
 }
 
-/* Compares what each port has heard by now with what it had heard before. */
+static const char *advice(void) {
+    return diverted_port != 0 ? "nft list table inet ptpm shows whether they are diverted"
+           : transport == ETHERNET ? "it was started without libptpm_mute.so" : "network_management of its configuration is not 0";
+}
+
+/* Compares what each port has heard by now with what it had heard before. If nothing is diverted that is nothing, in all its life: a message
+   that it hears comes here too. */
 enum compared { NOT_KNOWN, ARE_SAME, HAVE_RISEN };
 static enum compared compare_counts(void) {
-    uint64_t now[PORTS];
-    if (!read_counts(now) || ptp4l_life() != probed_life) return NOT_KNOWN;
+    uint64_t now[PORTS], all;
+    bool is_read = diverted_port == 0 ? read_all_counts(now) : read_counts(now, &all);
+    if (!is_read || ptp4l_life() != probed_life) return NOT_KNOWN;
     size_t port = port_that_heard(now);
-    memcpy(counts, now, sizeof counts);
+    if (diverted_port != 0) memcpy(counts, now, sizeof counts);
     if (port == ports_of(options)) return ARE_SAME;
-    if (!is_told) {
-        say("the ptp4l still hears management messages at %s, and no change is taken: nft list table inet ptpm shows whether they are diverted",
-            options->interfaces[port]);
-    }
+    if (!is_told) say("the ptp4l still hears management messages at %s, and no change is taken: %s", options->interfaces[port], advice());
     is_told = true;
     return HAVE_RISEN;
 }
@@ -92,7 +112,8 @@ static void send_probe_at(const struct port *port) {
 }
 
 static void begin_probe(int64_t now) {
-    is_sent = read_counts(counts);
+    uint64_t all;
+    is_sent = read_counts(counts, &all);
     due = now + (is_sent ? SETTLING : WHILE_HEARD);
     for (size_t i = 0; i < port_count && is_sent; i++) send_probe_at(&ports[i]);
 }
@@ -101,7 +122,10 @@ static void end_probe(int64_t now) {
     is_mute = compare_counts() == ARE_SAME;
     is_sent = false;
     due = now + (is_mute ? WHILE_MUTE : WHILE_HEARD);
-    if (is_mute && is_told) say("the ptp4l hears no management messages any more, and changes are taken");
+    if (is_mute && is_told) {
+        say("the ptp4l %s, and changes are taken",
+            diverted_port != 0 ? "hears no management messages any more" : "was started again, and has heard no management message since then");
+    }
     if (is_mute) is_told = false;
 }
 
@@ -116,7 +140,7 @@ void watch_mute(int64_t now) {
         due = now;
     }
     if (now < due) return;
-    if (is_sent) end_probe(now);
+    if (is_sent || diverted_port == 0) end_probe(now);
     else begin_probe(now);
 }
 

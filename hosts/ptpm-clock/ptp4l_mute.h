@@ -1,5 +1,6 @@
 /* Whether the ptp4l is mute: it hears no management messages from the network, so that only this agent answers them. A rule of the
-   firewall diverts them (ptp4l_rules.h). Whether it does is found by what the ptp4l counts (PORT_STATS_NP). */
+   firewall diverts them (ptp4l_rules.h). Or it ignores them itself: over Ethernet libptpm_mute.so sees to that. Whether it is mute is found by
+   what it counts (PORT_STATS_NP). */
 #ifndef PTP4L_MUTE_H
 #define PTP4L_MUTE_H
 
@@ -10,7 +11,7 @@
 void start_mute(const struct options *given, uint8_t domain);
 
 /* Probes it: at each of its starts, each minute, and every two seconds while it is not mute. A probe is a message to the group that does
-   not leave this host. */
+   not leave this host. None is sent if nothing is diverted. */
 void watch_mute(int64_t now);
 
 /* When it is to be called again, in milliseconds of the monotonic clock. */

@@ -186,7 +186,8 @@ def places_without_rights():
     check("a disk that can't be written", is_refused(2, f"{inner}.lock: Read-only file system", *own) and os.listdir(folder) == [])
     run("umount", folder)
     run("mount", "-t", "tmpfs", "-o", "size=16k", "tmpfs", folder)
-    check("a disk without room for a state", is_refused(2, f"{inner}.new: No space left on device", *own) and os.listdir(folder) == [])
+    filler = fill_disk(folder)
+    check("a disk without room for a state", is_refused(2, f"{inner}.new: No space left on device", *own) and os.listdir(folder) == [os.path.basename(filler)])
     run("umount", folder)
 
 

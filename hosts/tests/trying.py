@@ -52,14 +52,16 @@ def bring_up(name, device, station, address):
 
 
 class Link:
-    """The link of link.c with these options, near0 and far0, between two namespaces that are there."""
+    """The link of link.c with these options, near0 and far0 if it is the first, between two namespaces that are there."""
 
-    def __init__(self, near, far, *options):
-        self.process = subprocess.Popen([os.path.join(HOME, "link"), *options, near + "/near0", far + "/far0"], stdout=subprocess.PIPE, text=True)
-        for name, device, end in ((near, "near0", "10"), (far, "far0", "20")):
+    def __init__(self, near, far, *options, number=0):
+        ends = [(near, f"near{number}", f"1{number}"), (far, f"far{number}", f"2{number}")]
+        self.process = subprocess.Popen([os.path.join(HOME, "link"), *options, *(f"{name}/{device}" for name, device, _ in ends)],
+                                        stdout=subprocess.PIPE, text=True)
+        for name, device, end in ends:
             while run("ip", "-n", name, "link", "show", device).returncode != 0 and self.process.poll() is None:
                 time.sleep(0.05)
-            bring_up(name, device, f"02:00:00:00:00:{end}", f"10.9.9.{end}")
+            bring_up(name, device, f"02:00:00:00:00:{end}", f"10.9.{9 - number}.{end}")
 
     def end(self):
         """What it has counted."""
