@@ -10,6 +10,7 @@ use Rattle.ptpm_commands.specs.declared.faults.Fault.{Fault}
 use Rattle.ptpm_commands.specs.Taken.{HasNumbers, line_datagram, taken}
 use Rattle.ptpm_text.specs.Lines.{whole_lines}
 use Rattle.ptpm_plan.specs.Answers.{answer_in}
+use Rattle.ptpm_plan.specs.Digest.{digest_of}
 use Rattle.ptpm_plan.specs.FileText.{file_of, file_value}
 use Rattle.ptpm_plan.specs.Order.{group_of}
 use Rattle.ptpm_plan.specs.Outcome.{or_changes, status_of}
@@ -19,6 +20,9 @@ use Rattle.ptpm_plan.specs.declared.answer.Answer.{Answer}
 use Rattle.ptpm_plan.specs.declared.answers.Answers.{Answers}
 use Rattle.ptpm_plan.specs.declared.change.Change.{Change}
 use Rattle.ptpm_plan.specs.declared.plan.Plan.{Plan}
+use Rattle.ptpm_plan.specs.declared.planning.PlanForm.{PlanForm}
+use Rattle.ptpm_plan.specs.declared.planning.PlanForm.TheVariants as forms
+use Rattle.ptpm_plan.specs.declared.planning.PlanOptions.{PlanOptions}
 use Rattle.ptpm_plan.specs.declared.surveyed.Surveyed.{Surveyed}
 use Rattle.ptpm_plan.specs.declared.wish.PlanFile.{PlanFile}
 
@@ -66,6 +70,31 @@ pub record Writes (Is : List ℕ → Type 0) (old new : Option (List ℕ)) : Typ
   pub is : Is text
   pub written : Appends old new text
 
+-- ---- the report
+
+-- it begins with the plan's name, by which `apply --expect` knows it
+unfoldable pub name_text : List Change → List ℕ
+name_text changes = (codes "plan " ++ encode_lower (digest_of changes)) ++ codes ":"
+
+pub record IsNamed (changes : List Change) (text : List ℕ) : Type 0 where
+  pub words : List ℕ
+  pub is : text ≡ name_text changes ++ words
+
+pub record ComeAfterLine (Are : List ℕ → Type 0) (text : List ℕ) : Type 0 where
+  pub further : List ℕ
+  pub is : text ≡ 10 ∷ further
+  pub are : Are further
+
+-- the text, an empty line, and a line for each step of the plan
+abbrev pub IsWithSteps : Plan → List ℕ → Type 0
+IsWithSteps p text = Begins (IsNamed p.changes.items) (ComeAfterLine (AreSteps p.surveyed 1 p.changes.items)) text
+
+-- what is written of a plan; of its object in JSON nothing is said here
+abbrev pub IsReport : PlanForm → Plan → Option (List ℕ) → Option (List ℕ) → Type 0
+IsReport forms.Text p old new = Writes (IsNamed p.changes.items) old new
+IsReport forms.Json p old new = Unit {0}
+IsReport forms.Steps p old new = Writes (IsWithSteps p) old new
+
 -- ---- the answers among lines
 
 -- the answers that the datagrams of lines have
@@ -89,8 +118,8 @@ abbrev pub status_by : Bool → Plan → ℕ
 status_by false p = status_of p.rows.items p.unnamed.items p.found.items p.left_out
 status_by true p = or_changes p.changes.items (status_of p.rows.items p.unnamed.items p.found.items p.left_out)
 
--- the status is that of the plan which a file and answers make
-pub record IsStatus (text : List ℕ) (known : Option (List ℕ)) (tells : Bool) (status : ℕ) : Type 0 where
+-- what is printed, and the status, are of the plan which a file and answers make
+pub record IsPrinted (text : List ℕ) (known : Option (List ℕ)) (options : PlanOptions) (old new : Option (List ℕ)) (status : ℕ) : Type 0 where
   pub file : PlanFile
   pub answers : Answers
   pub plan : Plan
@@ -98,4 +127,5 @@ pub record IsStatus (text : List ℕ) (known : Option (List ℕ)) (tells : Bool)
   pub answered : AreAnswersOf known answers.list.items
   pub plans : IsPlanOf file answers.list.items plan
   pub left_out : plan.left_out ≡ answers.left_out
-  pub is : status ≡ status_by tells plan
+  pub report : IsReport options.form plan old new
+  pub is : status ≡ status_by options.tells_changes plan

@@ -10,17 +10,15 @@ ghost use Rattle.ptpm_plan.specs.FileText.{clock_in, clock_value, has_alias, if_
 ghost use Rattle.ptpm_plan.specs.Naming.{is_of_one_clock};
 
 use crate::file_fault::{FileFault, Place, TableFault};
+use crate::table_keys::TableKind;
 use crate::table_values::{domain_at, number_in, shaped, tables_at, text_at, value_at};
 use crate::text::Text;
 use crate::wish::{ClockWishes, PortWishes, Target};
-use crate::wishes_table::{Owner, read_wishes};
+use crate::wishes_table::read_wishes;
 use ptpm_codec::ClockIdentity;
 use ptpm_members::clock_identity_of;
 use std::alloc::Global;
 use toml::{Table, Value};
-
-/// The keys of a clock that are no managementId.
-const CLOCK_KEYS: [&str; 5] = ["identity", "description", "alias", "domain", "port"];
 
 /// What a clock has until its host gives it an identity.
 const NO_IDENTITY: ClockIdentity = ClockIdentity([0; 8]);
@@ -40,7 +38,7 @@ pub(crate) fn read_clock(
     let target = read_target(alloc, table, place)?;
     let alias = read_alias(alloc, table, place, earlier)?;
     let domain = domain_at(table, place)?;
-    let wishes = read_wishes(alloc, table, Owner::Clock, &CLOCK_KEYS, place)?;
+    let wishes = read_wishes(alloc, table, TableKind::Clock, place)?;
     let ports = read_ports(alloc, table, number)?;
     Ok(ClockWishes {
         place: number,
@@ -153,7 +151,7 @@ fn read_port(
     let table = shaped(value, "port", place)?;
     let number = number_of(table, place)?;
     let place = Place::NumberedPort(clock, number);
-    let wishes = read_wishes(alloc, table, Owner::Port, &["number"], place)?;
+    let wishes = read_wishes(alloc, table, TableKind::Port, place)?;
     Ok(PortWishes { number, wishes })
 }
 
