@@ -1,6 +1,7 @@
 -- What `ptpm plan` prints and how it ends, by what it reads (this project's profile).
-use Rattle.std.specs.Prelude.{◌≡◌, ℕ, ◌+◌, ◌==◌, Bool, true, false, codes, decimal, List, [], ◌∷◌, ◌++◌, Option, Some, None, IfSome, Result, Ok, Err}
+use Rattle.std.specs.Prelude.{◌≡◌, ℕ, ◌+◌, ◌==◌, Bool, true, false, codes, decimal, List, [], ◌∷◌, ◌++◌, map, Option, Some, None, IfSome, Result, Ok, Err}
 use Rattle.std.specs.List.{filter_map, list_any}
+use Rattle.std.specs.List.Sorted.{IsSortedByKey}
 use Rattle.std.specs.Int.{to_be_bytes, w16}
 use Rattle.std.specs.Option.{option_to_list}
 use Rattle.std.specs.Io.KnownBytes.{Appends}
@@ -10,12 +11,16 @@ use Rattle.ptpm_commands.specs.declared.faults.Fault.{Fault}
 use Rattle.ptpm_commands.specs.Taken.{HasNumbers, line_datagram, taken}
 use Rattle.ptpm_text.specs.Lines.{whole_lines}
 use Rattle.ptpm_plan.specs.Answers.{answer_in}
+use Rattle.ptpm_plan.specs.BestClock.{best_clocks, ranks_of, shown}
 use Rattle.ptpm_plan.specs.Digest.{digest_of}
 use Rattle.ptpm_plan.specs.FileText.{file_of, file_value}
-use Rattle.ptpm_plan.specs.Order.{group_of}
+use Rattle.ptpm_plan.specs.Order.{group_of, order_key}
 use Rattle.ptpm_plan.specs.Outcome.{or_changes, status_of}
 use Rattle.ptpm_plan.specs.Planned.{IsPlanOf}
 use Rattle.ptpm_plan.specs.PlannedId.{number_of}
+use Rattle.ptpm_plan.specs.Plans.{change_of}
+use Rattle.ptpm_plan.specs.Warnings.{AreWarnings}
+use Rattle.ptpm_plan.specs.contracts.order.OrderKeyOrd.TheImpl as key_order
 use Rattle.ptpm_plan.specs.declared.answer.Answer.{Answer}
 use Rattle.ptpm_plan.specs.declared.answers.Answers.{Answers}
 use Rattle.ptpm_plan.specs.declared.change.Change.{Change}
@@ -118,7 +123,7 @@ abbrev pub status_by : Bool → Plan → ℕ
 status_by false p = status_of p.rows.items p.unnamed.items p.found.items p.left_out
 status_by true p = or_changes p.changes.items (status_of p.rows.items p.unnamed.items p.found.items p.left_out)
 
--- what is printed, and the status, are of the plan which a file and answers make
+-- what is printed, and the status, are of the plan which a file and answers make: its changes in their order, with their warnings
 pub record IsPrinted (text : List ℕ) (known : Option (List ℕ)) (options : PlanOptions) (old new : Option (List ℕ)) (status : ℕ) : Type 0 where
   pub file : PlanFile
   pub answers : Answers
@@ -127,5 +132,8 @@ pub record IsPrinted (text : List ℕ) (known : Option (List ℕ)) (options : Pl
   pub answered : AreAnswersOf known answers.list.items
   pub plans : IsPlanOf file answers.list.items plan
   pub left_out : plan.left_out ≡ answers.left_out
+  pub sorted : IsSortedByKey (order_key plan.surveyed (filter_map change_of plan.rows.items)) (key_order.ghosts).cmp plan.changes.items
+  pub best : map shown plan.best.items ≡ best_clocks plan.changes.items (ranks_of plan.surveyed) 256
+  pub warnings : AreWarnings plan.changes.items plan.best.items plan.surveyed plan.warnings.items
   pub report : IsReport options.form plan old new
   pub is : status ≡ status_by options.tells_changes plan

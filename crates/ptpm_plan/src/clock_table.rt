@@ -1,6 +1,6 @@
 //! The table of a clock in a plan file.
 
-ghost use Rattle.std.specs.Prelude.{◌≡◌, IfOk, Some, codes, length, map, option_and_then};
+ghost use Rattle.std.specs.Prelude.{◌≡◌, IfOk, None, OnErr, Some, codes, length, map, option_and_then};
 ghost use Rattle.std.specs.List.{find};
 ghost use Rattle.std.specs.Option.{option_copied};
 ghost use Rattle.toml.specs.Data.{get_member};
@@ -157,8 +157,10 @@ fn read_port(
 
 /// The portNumber of a port's table. 0 and 0xFFFF are of no port (7.5.2.3).
 fn number_of(table: &Table, place: Place) -> Result<u16, FileFault>
-    ensures { IfOk result
+    ensures number { IfOk result
         (λ n. option_and_then (number_in 1 65534) (get_member (codes "number") (table_view table.now)) ≡ Some n) }
+    ensures refused { OnErr result
+        (option_and_then (number_in 1 65534) (get_member (codes "number") (table_view table.now)) ≡ None) }
 {
     match value_at(table, "number").and_then(|value| number_in(value, 1, 0xfffe)) {
         Some(number) => Ok(number),
