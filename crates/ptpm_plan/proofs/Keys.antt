@@ -7,7 +7,7 @@ use Rattle.std.specs.Prelude.{String, string_bytes}
 use Rattle.std.specs.declared.alloc.Global.{Global}
 use Rattle.toml.specs.View.{members_view, view}
 use Rattle.toml.specs.declared.value.Value.{Value}
-use Rattle.std_collections.specs.Map.{keys_of}
+use Rattle.std.specs.Map.{keys_of}
 
 names_there : (es : List (String Global × Value)) → names_of (members_view es) ≡ map (λ e. string_bytes e.0) es
 names_there [] = refl

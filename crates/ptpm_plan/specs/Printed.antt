@@ -16,9 +16,8 @@ use Rattle.ptpm_plan.specs.Digest.{digest_of}
 use Rattle.ptpm_plan.specs.FileText.{file_of, file_value}
 use Rattle.ptpm_plan.specs.Order.{group_of, order_key}
 use Rattle.ptpm_plan.specs.Outcome.{or_changes, status_of}
-use Rattle.ptpm_plan.specs.Planned.{IsPlanOf}
 use Rattle.ptpm_plan.specs.PlannedId.{number_of}
-use Rattle.ptpm_plan.specs.Plans.{change_of}
+use Rattle.ptpm_plan.specs.Planned.{IsPlanOf, change_of}
 use Rattle.ptpm_plan.specs.Warnings.{AreWarnings}
 use Rattle.ptpm_plan.specs.contracts.order.OrderKeyOrd.TheImpl as key_order
 use Rattle.ptpm_plan.specs.declared.answer.Answer.{Answer}

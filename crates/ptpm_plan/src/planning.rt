@@ -78,17 +78,17 @@ pub fn print_plan<R: Read + Drop, O: Write>(
         file: &file,
         answers: &answers,
     };
-    print_report(alloc, options.form, report, out)?;
+    print_report(alloc, options.form, &report, out)?;
     Ok(status_by(options.tells_changes, &plan))
 }
 
 fn print_report<O: Write>(
     alloc: Global,
     form: PlanForm,
-    report: Report<'_>,
+    report: &Report<'_>,
     out: &mut O,
 ) -> Result<(), Fault>
-    ensures { OnOk result (IsReport form report.plan.now (O.contents out.old) (O.contents out.new)) }
+    ensures { OnOk result (IsReport form report.now.plan.now (O.contents out.old) (O.contents out.new)) }
 {
     match form {
         PlanForm::Text => report.print(alloc, out),

@@ -37,7 +37,7 @@ impl Report<'_> {
         ensures { OnOk result (Writes (IsWithSteps self.now.plan.now) (O.contents out.old) (O.contents out.new)) }
     {
         self.print(alloc, out)?;
-        writeln!(out)?;
+        out.write_all(b"\n")?;
         let plan = self.plan;
         print_steps(alloc, &plan.surveyed, plan.changes.as_slice(), out)
     }
