@@ -1,6 +1,6 @@
 -- Of what a plan warns (this project's profile).
-use Rattle.std.specs.Prelude.{◌≡◌, ℕ, ◌+◌, ◌^◌, ◌==◌, nat_lt, ℤ, pos, negsuc, Bool, true, false, length, List, [], ◌∷◌, ◌++◌, flat_map, Option, None, Some, if◌then◌else◌}
-use Rattle.std.specs.List.{filter_map, list_all}
+use Rattle.std.specs.Prelude.{◌≡◌, ℕ, ◌+◌, ◌^◌, ◌==◌, nat_lt, ℤ, pos, negsuc, Bool, true, false, not, ◌&&◌, is_some, length, List, [], ◌∷◌, ◌++◌, flat_map, Option, None, Some, if◌then◌else◌}
+use Rattle.std.specs.List.{filter_map, list_all, list_any}
 use Rattle.std.specs.Option.{option_to_list}
 use Rattle.ptpm_codec.specs.Layout.{octet}
 use Rattle.ptpm_data.specs.ManagementId.{set_of}
@@ -9,7 +9,7 @@ use Rattle.ptpm_data.specs.Ranges.{is_in_range}
 use Rattle.ptpm_data.specs.Refusals.{is_set_value}
 use Rattle.ptpm_data.specs.declared.management_id.Layout.TheVariants as layouts
 use Rattle.ptpm_data.specs.declared.port_setting.PortSetting.{PortSetting}
-use Rattle.ptpm_plan.specs.BestClock.{is_worse_time}
+use Rattle.ptpm_plan.specs.BestClock.{is_rank_change_in, is_worse_time}
 use Rattle.ptpm_plan.specs.PlannedId.{setting_of}
 use Rattle.ptpm_plan.specs.Reach.{is_out_of_reach}
 use Rattle.ptpm_plan.specs.declared.best_clock.BestClocks.{BestClocks}
@@ -19,7 +19,7 @@ use Rattle.ptpm_plan.specs.declared.change.PlannedId.TheVariants as ids
 use Rattle.ptpm_plan.specs.declared.surveyed.Surveyed.{Surveyed}
 use Rattle.ptpm_plan.specs.declared.surveyed.SurveyedClock.{SurveyedClock}
 use Rattle.ptpm_plan.specs.declared.warning.Warning.{Warning}
-use Rattle.ptpm_plan.specs.declared.warning.Warning.TheVariants.{BestClock, Impatient, Mechanism, OutOfReach, Refused, Twice, WorseTime}
+use Rattle.ptpm_plan.specs.declared.warning.Warning.TheVariants.{BestClock, Impatient, Mechanism, OutOfReach, Refused, Twice, Unjudged, WorseTime}
 
 -- whether a clock with this agent takes a dataField of an id of the clock. It takes each octet of the others, and a text is in
 -- its range once it is read
@@ -41,6 +41,14 @@ refusal c =
 -- the warning of two clocks of one identity
 abbrev pub twice : SurveyedClock → Option Warning
 twice c = if c.is_twice then Some (Twice c.domain c.identity) else None
+
+-- the warning of a clock whose rank is not known, if ranks change in its domain
+abbrev pub unjudged : List Change → SurveyedClock → Option Warning
+unjudged changes c =
+    if not (is_some c.precedence) && list_any (is_rank_change_in c.domain) changes then Some (Unjudged c.domain c.identity) else None
+
+abbrev pub of_clock : List Change → SurveyedClock → List Warning
+of_clock changes c = option_to_list (twice c) ++ option_to_list (unjudged changes c)
 
 -- the warning of a best clock that has worse time than the one before
 abbrev pub worse_time : BestClocks → Option Warning
@@ -91,11 +99,11 @@ pub record AddsImpatient (old new : List Warning) : Type 0 where
   pub is : new ≡ old ++ more
   pub are : list_all is_impatient more ≡ true
 
--- First come those of values that a clock of this project refuses, of two clocks of one identity, and of best clocks. Then come those
--- of ports that may lose their masters, and of single changes.
+-- First come those of values that a clock of this project refuses, of clocks that are two or have no known rank, and of best clocks.
+-- Then come those of ports that may lose their masters, and of single changes.
 pub record AreWarnings (changes : List Change) (best : List BestClocks) (s : Surveyed) (all : List Warning) : Type 0 where
   pub impatient : List Warning
   pub are : list_all is_impatient impatient ≡ true
   pub is : all
-      ≡ (((filter_map refusal changes ++ filter_map twice s.clocks.items) ++ flat_map of_best best) ++ impatient)
+      ≡ (((filter_map refusal changes ++ flat_map (of_clock changes) s.clocks.items) ++ flat_map of_best best) ++ impatient)
       ++ of_changes (of_change changes s) 1 changes

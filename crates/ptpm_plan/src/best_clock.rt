@@ -294,7 +294,7 @@ fn alterations(
 }
 
 /// Whether a change of a rank is in a domain.
-fn has_rank_change(domain: u8, changes: &[Change]) -> bool
+pub(crate) fn has_rank_change(domain: u8, changes: &[Change]) -> bool
     ensures { result ≡ list_any (is_rank_change_in domain) changes.now }
 {
     changes

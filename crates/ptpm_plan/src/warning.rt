@@ -16,6 +16,8 @@ pub enum Warning {
     WorseTime(u8, Rank, Rank),
     /// Two clocks of a domain have this identity.
     Twice(u8, ClockIdentity),
+    /// A clock of this domain gave no DEFAULT_DATA_SET, so its rank is not known, and ranks change there.
+    Unjudged(u8, ClockIdentity),
     /// From a change on a port waits for less than two Announces, and may lose its master.
     Impatient(usize, PortIdentity),
     /// A change of how a port measures delay.
@@ -47,6 +49,10 @@ impl fmt::Display for Warning {
             Warning::Twice(domain, clock) => write!(
                 f,
                 "{clock} in domain {domain}: two answers to one request differ: two clocks have this identity"
+            ),
+            Warning::Unjudged(domain, clock) => write!(
+                f,
+                "{clock} in domain {domain}: it gave no DEFAULT_DATA_SET: whether it can be the best clock is not known"
             ),
             Warning::Impatient(number, port) => write!(
                 f,

@@ -8,9 +8,9 @@ ghost use Rattle.ptpm_data.specs.declared.management_id.Layout.TheVariants as la
 ghost use Rattle.ptpm_data.specs.ManagementId.{set_of};
 ghost use Rattle.ptpm_data.specs.Refusals.{is_set_value};
 ghost use Rattle.ptpm_plan.specs.PlannedId.{setting_of};
-ghost use Rattle.ptpm_plan.specs.Warnings.{AddsImpatient, AreWarnings, below_doublings, is_taken, is_taken_of_clock, mechanism, of_best, of_change, of_changes, often, refusal, twice, unreached, worse_time};
+ghost use Rattle.ptpm_plan.specs.Warnings.{AddsImpatient, AreWarnings, below_doublings, is_taken, is_taken_of_clock, mechanism, of_best, of_change, of_changes, of_clock, often, refusal, twice, unjudged, unreached, worse_time};
 
-use crate::best_clock::{BestClocks, Rank, first_octet};
+use crate::best_clock::{BestClocks, Rank, first_octet, has_rank_change};
 use crate::change::{Change, PlannedId};
 use crate::reach::is_out_of_reach;
 use crate::surveyed::{Surveyed, SurveyedClock, SurveyedPort};
@@ -29,7 +29,7 @@ pub fn warnings_of(
     ensures { IfOk result (λ v. AreWarnings changes.now best.now surveyed.now v.items) }
 {
     let mut found = refusals(alloc, changes)?;
-    add_twice(surveyed.clocks.as_slice(), &mut found)?;
+    add_of_clocks(surveyed.clocks.as_slice(), changes, &mut found)?;
     add_of_all(best, &mut found)?;
     add_impatient(alloc, changes, surveyed, &mut found)?;
     add_of_changes(changes, surveyed, &mut found)?;
@@ -45,14 +45,29 @@ fn add(warning: Option<Warning>, found: &mut Vec<Warning>) -> Result<(), AllocEr
     Ok(())
 }
 
-/// Adds the warnings of two clocks of one identity.
-fn add_twice(clocks: &[SurveyedClock], found: &mut Vec<Warning>) -> Result<(), AllocError>
-    ensures { OnOk result (found.new.items ≡ found.old.items ++ filter_map twice clocks.now) }
+/// Adds what there is to warn of in each clock that answered.
+fn add_of_clocks(
+    clocks: &[SurveyedClock],
+    changes: &[Change],
+    found: &mut Vec<Warning>,
+) -> Result<(), AllocError>
+    ensures { OnOk result (found.new.items ≡ found.old.items ++ flat_map (of_clock changes.now) clocks.now) }
 {
     for clock in clocks {
-        add(twice(clock), found)?;
+        add_of_clock(clock, changes, found)?;
     }
     Ok(())
+}
+
+fn add_of_clock(
+    clock: &SurveyedClock,
+    changes: &[Change],
+    found: &mut Vec<Warning>,
+) -> Result<(), AllocError>
+    ensures { OnOk result (found.new.items ≡ found.old.items ++ of_clock changes.now clock.now) }
+{
+    add(twice(clock), found)?;
+    add(unjudged(clock, changes), found)
 }
 
 /// Adds what there is to warn of in the best clocks of each domain.
@@ -114,6 +129,17 @@ fn twice(clock: &SurveyedClock) -> Option<Warning>
 {
     if clock.is_twice {
         Some(Warning::Twice(clock.domain, clock.identity))
+    } else {
+        None
+    }
+}
+
+/// The rank of a clock is not known, and ranks change in its domain.
+fn unjudged(clock: &SurveyedClock, changes: &[Change]) -> Option<Warning>
+    ensures { result ≡ unjudged changes.now clock.now }
+{
+    if clock.precedence.is_none() && has_rank_change(clock.domain, changes) {
+        Some(Warning::Unjudged(clock.domain, clock.identity))
     } else {
         None
     }
