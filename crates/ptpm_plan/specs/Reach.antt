@@ -3,17 +3,12 @@
 use Rattle.std.specs.Prelude.{ℕ, zero, suc, ◌==◌, nat_lt, Bool, true, false, not, ◌&&◌, List, Option, None, Some}
 use Rattle.std.specs.List.{find, list_any}
 use Rattle.ptpm_codec.specs.Layout.{octet}
+use Rattle.ptpm_plan.specs.BestClock.{is_of_domain}
 use Rattle.ptpm_plan.specs.Order.{hops_of}
 use Rattle.ptpm_plan.specs.Surveyed.{is_clock}
 use Rattle.ptpm_plan.specs.declared.change.Change.{Change}
-use Rattle.ptpm_plan.specs.declared.change.PlannedId.{PlannedId}
-use Rattle.ptpm_plan.specs.declared.change.PlannedId.TheVariants as ids
 use Rattle.ptpm_plan.specs.declared.surveyed.Surveyed.{Surveyed}
 use Rattle.ptpm_plan.specs.declared.surveyed.SurveyedClock.{SurveyedClock}
-
-abbrev pub is_of_domain : PlannedId → Bool
-is_of_domain ids.Domain = true
-is_of_domain _ = false
 
 -- a change moves a clock to another domain
 abbrev pub is_move_of : SurveyedClock → Change → Bool

@@ -9,17 +9,18 @@ use Rattle.ptpm_data.specs.Ranges.{is_in_range}
 use Rattle.ptpm_data.specs.Refusals.{is_set_value}
 use Rattle.ptpm_data.specs.declared.management_id.Layout.TheVariants as layouts
 use Rattle.ptpm_data.specs.declared.port_setting.PortSetting.{PortSetting}
-use Rattle.ptpm_plan.specs.BestClock.{is_rank_change_in, is_worse_time}
+use Rattle.ptpm_plan.specs.BestClock.{bears_on, is_worse_time}
 use Rattle.ptpm_plan.specs.PlannedId.{setting_of}
 use Rattle.ptpm_plan.specs.Reach.{is_out_of_reach}
 use Rattle.ptpm_plan.specs.declared.best_clock.BestClocks.{BestClocks}
+use Rattle.ptpm_plan.specs.declared.best_clock.Rank.{Rank}
 use Rattle.ptpm_plan.specs.declared.change.Change.{Change}
 use Rattle.ptpm_plan.specs.declared.change.PlannedId.{PlannedId}
 use Rattle.ptpm_plan.specs.declared.change.PlannedId.TheVariants as ids
 use Rattle.ptpm_plan.specs.declared.surveyed.Surveyed.{Surveyed}
 use Rattle.ptpm_plan.specs.declared.surveyed.SurveyedClock.{SurveyedClock}
 use Rattle.ptpm_plan.specs.declared.warning.Warning.{Warning}
-use Rattle.ptpm_plan.specs.declared.warning.Warning.TheVariants.{BestClock, Impatient, Mechanism, OutOfReach, Refused, Twice, Unjudged, WorseTime}
+use Rattle.ptpm_plan.specs.declared.warning.Warning.TheVariants.{BestClock, Impatient, Mechanism, NoBestClock, OutOfReach, Refused, Twice, Unjudged, WorseTime}
 
 -- whether a clock with this agent takes a dataField of an id of the clock. It takes each octet of the others, and a text is in
 -- its range once it is read
@@ -42,17 +43,21 @@ refusal c =
 abbrev pub twice : SurveyedClock → Option Warning
 twice c = if c.is_twice then Some (Twice c.domain c.identity) else None
 
--- the warning of a clock whose rank is not known, if ranks change in its domain
+-- the warning of a clock whose rank is not known, if a change bears on the best clock of its domain
 abbrev pub unjudged : List Change → SurveyedClock → Option Warning
 unjudged changes c =
-    if not (is_some c.precedence) && list_any (is_rank_change_in c.domain) changes then Some (Unjudged c.domain c.identity) else None
+    if not (is_some c.precedence) && list_any (bears_on c.domain) changes then Some (Unjudged c.domain c.identity) else None
 
 abbrev pub of_clock : List Change → SurveyedClock → List Warning
 of_clock changes c = option_to_list (twice c) ++ option_to_list (unjudged changes c)
 
--- the warning of a best clock that has worse time than the one before
+abbrev pub worse_by : ℕ → Rank → Option Rank → Option Warning
+worse_by domain before None = Some (NoBestClock domain)
+worse_by domain before (Some after) = if is_worse_time before after then Some (WorseTime domain before after) else None
+
+-- the warning of a best clock that has worse time than the one before, or of a domain in which no clock can lead any more
 abbrev pub worse_time : BestClocks → Option Warning
-worse_time b = if is_worse_time b.before b.after then Some (WorseTime b.domain b.before b.after) else None
+worse_time b = worse_by b.domain b.before b.after
 
 -- an octet is below a power of 2, whose exponent may be negative
 abbrev pub below_doublings : ℤ → ℕ → Bool

@@ -3,10 +3,10 @@
 ghost use Rattle.std.specs.Prelude.{◌≡◌};
 ghost use Rattle.std.specs.List.{find, list_any};
 ghost use Rattle.std.specs.Option.{option_copied};
-ghost use Rattle.ptpm_plan.specs.Reach.{domain_after, has_several, is_move_of, is_of_domain, is_out_of_reach, is_reached, passes_on};
+ghost use Rattle.ptpm_plan.specs.Reach.{domain_after, has_several, is_move_of, is_out_of_reach, is_reached, passes_on};
 
 use crate::best_clock::first_octet;
-use crate::change::{Change, PlannedId};
+use crate::change::Change;
 use crate::order::hops_of;
 use crate::surveyed::{Surveyed, SurveyedClock};
 
@@ -16,13 +16,7 @@ pub(crate) fn is_out_of_reach(change: &Change, changes: &[Change], surveyed: &Su
 {
     let clocks = surveyed.clocks.as_slice();
     let domain = first_octet(&change.after);
-    is_of_domain(change.id) && !is_reached(changes, clocks, domain, hops_of(surveyed, change))
-}
-
-fn is_of_domain(id: PlannedId) -> bool
-    ensures { result ≡ is_of_domain id }
-{
-    matches!(id, PlannedId::Domain)
+    change.id.is_of_domain() && !is_reached(changes, clocks, domain, hops_of(surveyed, change))
 }
 
 /// Whether at each smaller number of hops some clock passes on what is of a domain.
@@ -82,5 +76,5 @@ fn move_of<'a>(changes: &'a [Change], clock: &SurveyedClock) -> Option<&'a Chang
 fn is_move_of(clock: &SurveyedClock, change: &Change) -> bool
     ensures { result ≡ is_move_of clock.now change.now }
 {
-    is_of_domain(change.id) && clock.domain == change.domain && clock.identity == change.clock
+    change.id.is_of_domain() && clock.domain == change.domain && clock.identity == change.clock
 }

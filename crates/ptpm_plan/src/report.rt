@@ -143,18 +143,24 @@ impl Report<'_> {
 
     fn print_best<O: Write>(&self, out: &mut O) -> Result<(), Fault> {
         for best in self.plan.best.as_slice() {
-            let (domain, before, after) = (best.domain, best.before, best.after);
+            let (domain, before) = (best.domain, best.before);
             write!(out, "best clock of domain {domain}: {}", before.identity)?;
-            if best.alterations.is_empty() {
-                write!(out, " stays")?;
-            }
             for altered in best.alterations.as_slice() {
                 write!(out, ", after change {} {}", altered.after, altered.clock)?;
             }
-            writeln!(out)?;
+            match best.after {
+                None => writeln!(out, ", after the moves none")?,
+                Some(after) if after.identity != best.last_identity() => {
+                    writeln!(out, ", after the moves {}", after.identity)?
+                }
+                Some(_) if best.alterations.is_empty() => writeln!(out, " stays")?,
+                Some(_) => writeln!(out)?,
+            }
             if best.is_altered() {
                 writeln!(out, "  before: {}", self.time_of(domain, before))?;
-                writeln!(out, "  after: {}", self.time_of(domain, after))?;
+                if let Some(after) = best.after {
+                    writeln!(out, "  after: {}", self.time_of(domain, after))?;
+                }
             }
         }
         Ok(())

@@ -14,9 +14,11 @@ pub enum Warning {
     BestClock(u8, usize),
     /// The best clock of a domain has worse time after all changes than the one before.
     WorseTime(u8, Rank, Rank),
+    /// After all changes no clock of a domain can lead.
+    NoBestClock(u8),
     /// Two clocks of a domain have this identity.
     Twice(u8, ClockIdentity),
-    /// A clock of this domain gave no DEFAULT_DATA_SET, so its rank is not known, and ranks change there.
+    /// A clock of this domain gave no DEFAULT_DATA_SET, so its rank is not known, and the best clock may change there.
     Unjudged(u8, ClockIdentity),
     /// From a change on a port waits for less than two Announces, and may lose its master.
     Impatient(usize, PortIdentity),
@@ -46,6 +48,9 @@ impl fmt::Display for Warning {
                 Quality(*before),
                 Quality(*after)
             ),
+            Warning::NoBestClock(domain) => {
+                write!(f, "domain {domain}: no clock is left that can lead")
+            }
             Warning::Twice(domain, clock) => write!(
                 f,
                 "{clock} in domain {domain}: two answers to one request differ: two clocks have this identity"

@@ -10,7 +10,7 @@ ghost use Rattle.ptpm_data.specs.Refusals.{is_set_value};
 ghost use Rattle.ptpm_plan.specs.PlannedId.{setting_of};
 ghost use Rattle.ptpm_plan.specs.Warnings.{AddsImpatient, AreWarnings, below_doublings, is_taken, is_taken_of_clock, mechanism, of_best, of_change, of_changes, of_clock, often, refusal, twice, unjudged, unreached, worse_time};
 
-use crate::best_clock::{BestClocks, Rank, first_octet, has_rank_change};
+use crate::best_clock::{BestClocks, Rank, first_octet, is_at_stake};
 use crate::change::{Change, PlannedId};
 use crate::reach::is_out_of_reach;
 use crate::surveyed::{Surveyed, SurveyedClock, SurveyedPort};
@@ -134,11 +134,11 @@ fn twice(clock: &SurveyedClock) -> Option<Warning>
     }
 }
 
-/// The rank of a clock is not known, and ranks change in its domain.
+/// The rank of a clock is not known, and a change bears on the best clock of its domain.
 fn unjudged(clock: &SurveyedClock, changes: &[Change]) -> Option<Warning>
     ensures { result ≡ unjudged changes.now clock.now }
 {
-    if clock.precedence.is_none() && has_rank_change(clock.domain, changes) {
+    if clock.precedence.is_none() && is_at_stake(clock.domain, changes) {
         Some(Warning::Unjudged(clock.domain, clock.identity))
     } else {
         None
@@ -165,12 +165,15 @@ fn often(best: &BestClocks) -> Option<Warning>
     }
 }
 
-/// The best clock gets a worse clockClass, or the same and a worse clockAccuracy.
+/// The best clock gets a worse clockClass, or the same and a worse clockAccuracy; or no clock can lead any more.
 fn worse_time(best: &BestClocks) -> Option<Warning>
     ensures { result ≡ worse_time best.now }
 {
-    if is_worse_time(best.before, best.after) {
-        Some(Warning::WorseTime(best.domain, best.before, best.after))
+    let Some(after) = best.after else {
+        return Some(Warning::NoBestClock(best.domain));
+    };
+    if is_worse_time(best.before, after) {
+        Some(Warning::WorseTime(best.domain, best.before, after))
     } else {
         None
     }
