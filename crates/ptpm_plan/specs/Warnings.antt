@@ -11,7 +11,7 @@ use Rattle.ptpm_data.specs.declared.management_id.Layout.TheVariants as layouts
 use Rattle.ptpm_data.specs.declared.port_setting.PortSetting.{PortSetting}
 use Rattle.ptpm_plan.specs.BestClock.{bears_on, is_worse_time}
 use Rattle.ptpm_plan.specs.PlannedId.{setting_of}
-use Rattle.ptpm_plan.specs.Reach.{is_out_of_reach}
+use Rattle.ptpm_plan.specs.Reach.{count_left_past, is_out_of_reach, leaves_some}
 use Rattle.ptpm_plan.specs.declared.best_clock.BestClocks.{BestClocks}
 use Rattle.ptpm_plan.specs.declared.best_clock.Rank.{Rank}
 use Rattle.ptpm_plan.specs.declared.change.Change.{Change}
@@ -20,7 +20,7 @@ use Rattle.ptpm_plan.specs.declared.change.PlannedId.TheVariants as ids
 use Rattle.ptpm_plan.specs.declared.surveyed.Surveyed.{Surveyed}
 use Rattle.ptpm_plan.specs.declared.surveyed.SurveyedClock.{SurveyedClock}
 use Rattle.ptpm_plan.specs.declared.warning.Warning.{Warning}
-use Rattle.ptpm_plan.specs.declared.warning.Warning.TheVariants.{BestClock, Impatient, Mechanism, NoBestClock, OutOfReach, Refused, Twice, Unjudged, WorseTime}
+use Rattle.ptpm_plan.specs.declared.warning.Warning.TheVariants.{BestClock, CutOff, Impatient, Mechanism, NoBestClock, OutOfReach, Refused, Twice, Unjudged, WorseTime}
 
 -- whether a clock with this agent takes a dataField of an id of the clock. It takes each octet of the others, and a text is in
 -- its range once it is read
@@ -86,8 +86,14 @@ abbrev pub unreached : List Change → Surveyed → ℕ → Change → Option Wa
 unreached changes s number c =
     if is_out_of_reach changes s c then Some (OutOfReach number c.clock (octet 0 c.after.items)) else None
 
+-- the warning of a boundary clock that moves away from clocks that may follow it
+abbrev pub cut_off : List Change → Surveyed → ℕ → Change → Option Warning
+cut_off changes s number c =
+    if leaves_some changes s c then Some (CutOff number c.clock (count_left_past changes s c)) else None
+
 abbrev pub of_change : List Change → Surveyed → ℕ → Change → List Warning
-of_change changes s number c = option_to_list (mechanism number c) ++ option_to_list (unreached changes s number c)
+of_change changes s number c =
+    (option_to_list (mechanism number c) ++ option_to_list (unreached changes s number c)) ++ option_to_list (cut_off changes s number c)
 
 -- what there is of each change, by its number
 abbrev pub of_changes : (ℕ → Change → List Warning) → ℕ → List Change → List Warning

@@ -26,6 +26,8 @@ pub enum Warning {
     Mechanism(usize),
     /// A change moves a clock to a domain in which no request reaches it.
     OutOfReach(usize, ClockIdentity, u8),
+    /// A change moves a boundary clock away from clocks that may follow it. So many that stay are past it.
+    CutOff(usize, ClockIdentity, usize),
 }
 
 impl fmt::Display for Warning {
@@ -70,6 +72,10 @@ impl fmt::Display for Warning {
             Warning::OutOfReach(number, clock, domain) => write!(
                 f,
                 "change {number}: {clock} is not reached after it: a clock before it is not in domain {domain} then"
+            ),
+            Warning::CutOff(number, clock, count) => write!(
+                f,
+                "change {number}: clocks that follow the boundary clock {clock} may lose their time; known to be past it, and not moved: {count}"
             ),
         }
     }

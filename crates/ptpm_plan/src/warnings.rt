@@ -8,11 +8,11 @@ ghost use Rattle.ptpm_data.specs.declared.management_id.Layout.TheVariants as la
 ghost use Rattle.ptpm_data.specs.ManagementId.{set_of};
 ghost use Rattle.ptpm_data.specs.Refusals.{is_set_value};
 ghost use Rattle.ptpm_plan.specs.PlannedId.{setting_of};
-ghost use Rattle.ptpm_plan.specs.Warnings.{AddsImpatient, AreWarnings, below_doublings, is_taken, is_taken_of_clock, mechanism, of_best, of_change, of_changes, of_clock, often, refusal, twice, unjudged, unreached, worse_time};
+ghost use Rattle.ptpm_plan.specs.Warnings.{AddsImpatient, AreWarnings, below_doublings, cut_off, is_taken, is_taken_of_clock, mechanism, of_best, of_change, of_changes, of_clock, often, refusal, twice, unjudged, unreached, worse_time};
 
 use crate::best_clock::{BestClocks, Rank, first_octet, is_at_stake};
 use crate::change::{Change, PlannedId};
-use crate::reach::is_out_of_reach;
+use crate::reach::{count_left_past, is_out_of_reach, leaves_some};
 use crate::surveyed::{Surveyed, SurveyedClock, SurveyedPort};
 use crate::warning::Warning;
 use ptpm_codec::PortIdentity;
@@ -92,6 +92,7 @@ fn add_of_changes(
         let change = &changes[place];
         add(mechanism(place + 1, change), found)?;
         add(unreached(place + 1, change, changes, surveyed), found)?;
+        add(cut_off(place + 1, change, changes, surveyed), found)?;
     }
     Ok(())
 }
@@ -118,6 +119,23 @@ fn unreached(
     if is_out_of_reach(change, changes, surveyed) {
         let domain = first_octet(&change.after);
         Some(Warning::OutOfReach(number, change.clock, domain))
+    } else {
+        None
+    }
+}
+
+/// A boundary clock moves away from clocks that may follow it.
+fn cut_off(
+    number: usize,
+    change: &Change,
+    changes: &[Change],
+    surveyed: &Surveyed,
+) -> Option<Warning>
+    ensures { result ≡ cut_off changes.now surveyed.now number change.now }
+{
+    if leaves_some(change, changes, surveyed) {
+        let count = count_left_past(change, changes, surveyed);
+        Some(Warning::CutOff(number, change.clock, count))
     } else {
         None
     }
