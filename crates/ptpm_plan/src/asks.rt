@@ -50,9 +50,7 @@ impl PlanFile {
 
     /// Whether the file names an id of what decides which clock is the best one of a domain.
     fn may_change_best(&self) -> bool {
-        PlannedId::ALL
-            .iter()
-            .any(|id| (id.is_of_rank() || id.is_of_domain()) && self.names(*id))
+        PlannedId::ALL.iter().any(|id| (id.is_of_rank() || id.is_of_domain()) && self.names(*id))
     }
 
     /// Whether the file names an id.
