@@ -1,4 +1,4 @@
--- Which clocks are still reached, and which are left behind, after a plan has moved clocks to other domains (this project's profile). A boundary clock passes on
+-- Which clocks are still reached after a plan has moved clocks to other domains, and which ones stay (this project's profile). A boundary clock passes on
 -- only what is of its own domain.
 use Rattle.std.specs.Prelude.{ℕ, zero, suc, ◌==◌, nat_lt, Bool, true, false, not, ◌&&◌, List, Option, None, Some, count_by}
 use Rattle.std.specs.List.{find, list_any}
@@ -45,7 +45,7 @@ abbrev pub is_out_of_reach : List Change → Surveyed → Change → Bool
 is_out_of_reach changes s c =
     is_of_domain c.id && not (is_reached changes s.clocks.items (octet 0 c.after.items) (hops_of s c))
 
--- ---- who is left behind
+-- ---- who stays
 
 -- a clock that stays in a domain
 abbrev pub stays_in : List Change → ℕ → SurveyedClock → Bool

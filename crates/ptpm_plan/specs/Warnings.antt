@@ -55,7 +55,7 @@ abbrev pub worse_by : ℕ → Rank → Option Rank → Option Warning
 worse_by domain before None = Some (NoBestClock domain)
 worse_by domain before (Some after) = if is_worse_time before after then Some (WorseTime domain before after) else None
 
--- the warning of a best clock that has worse time than the one before, or of a domain in which no clock can lead any more
+-- the warning of a best clock that has worse time than the one before, or of a domain that no clock can lead any more
 abbrev pub worse_time : BestClocks → Option Warning
 worse_time b = worse_by b.domain b.before b.after
 
@@ -110,7 +110,7 @@ pub record AddsImpatient (old new : List Warning) : Type 0 where
   pub is : new ≡ old ++ more
   pub are : list_all is_impatient more ≡ true
 
--- First come those of values that a clock of this project refuses, of clocks that are two or have no known rank, and of best clocks.
+-- First come those of values that a clock of this project refuses, of clocks that are two or of unknown rank, and of best clocks.
 -- Then come those of ports that may lose their masters, and of single changes.
 pub record AreWarnings (changes : List Change) (best : List BestClocks) (s : Surveyed) (all : List Warning) : Type 0 where
   pub impatient : List Warning

@@ -1,4 +1,4 @@
-//! Which clocks are still reached, and which are left behind, after a plan has moved clocks to other domains.
+//! Which clocks are still reached after a plan has moved clocks to other domains, and which ones stay.
 
 ghost use Rattle.std.specs.Prelude.{◌≡◌, count_by};
 ghost use Rattle.std.specs.List.{find, list_any};
