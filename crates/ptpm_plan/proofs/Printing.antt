@@ -73,17 +73,17 @@ named cs name words old mid new is first second = record {
 }
 
 -- the text, an empty line, and the steps
-pub with_steps : (p : Plan) (old text line new : Option (List ℕ))
-    → Writes (IsNamed p.changes.items) old text → Appends text line (10 ∷ [])
-    → Writes (AreSteps p.surveyed 1 p.changes.items) line new → Writes (IsWithSteps p) old new
-with_steps p old text line new h feed k = record {
+pub with_steps : (p : Plan) (cs : List Change) (old text line new : Option (List ℕ))
+    → cs ≡ p.changes.items → Writes (IsNamed p.changes.items) old text → Appends text line (10 ∷ [])
+    → Writes (AreSteps p.surveyed 1 cs) line new → Writes (IsWithSteps p) old new
+with_steps p cs old text line new same h feed k = record {
   text = h.text ++ 10 ∷ k.text;
   is = record {
     first = h.text;
     others = 10 ∷ k.text;
     is = refl;
     is_first = h.is;
-    are_others = record { further = k.text; is = refl; are = k.is };
+    are_others = record { further = k.text; is = refl; are = subst (λ xs. AreSteps p.surveyed 1 xs k.text) same k.is };
   };
   written = Appends-trans old text new h.text (10 ∷ k.text) h.written (Appends-trans text line new (10 ∷ []) k.text feed k.written);
 }

@@ -85,10 +85,14 @@ pub(crate) fn leaves_some(change: &Change, changes: &[Change], surveyed: &Survey
 {
     change.id.is_of_domain()
         && is_boundary(change, surveyed)
-        && surveyed
-            .clocks
-            .iter()
-            .any(|clock| stays_in(changes, change.domain, clock))
+        && some_stay(changes, change.domain, surveyed.clocks.as_slice())
+}
+
+/// Whether some clock stays in a domain.
+fn some_stay(changes: &[Change], domain: u8, clocks: &[SurveyedClock]) -> bool
+    ensures { result ≡ list_any (stays_in changes.now domain) clocks.now }
+{
+    clocks.iter().any(|clock| stays_in(changes, domain, clock))
 }
 
 /// Whether the clock of a change has more than one port.

@@ -32,14 +32,14 @@ impl Report<'_> {
     ghost use Rattle.ptpm_plan.specs.Printed.{IsNamed, IsWithSteps};
 
     /// Prints the plan, and after an empty line its steps.
-    #[tactic(auto, using(crate::proofs::Printing::with_steps))]
     pub(crate) fn print_with_steps<O: Write>(&self, alloc: Global, out: &mut O) -> Result<(), Fault>
         ensures { OnOk result (Writes (IsWithSteps self.now.plan.now) (O.contents out.old) (O.contents out.new)) }
     {
         self.print(alloc, out)?;
         out.write_all(b"\n")?;
         let plan = self.plan;
-        print_steps(alloc, &plan.surveyed, plan.changes.as_slice(), out)
+        print_steps(alloc, &plan.surveyed, plan.changes.as_slice(), out)?;
+        Ok(())
     }
 
     /// Prints the plan: its name, and what is made in memory after it.

@@ -26,7 +26,6 @@ pub(crate) enum TableKind {
 }
 
 /// The first key that a table of this kind may not have.
-#[tactic(auto, using(crate::proofs::Keys::other_key_found))]
 pub(crate) fn other_key(table: &Table, kind: TableKind) -> Option<&String>
     ensures { option_map string_bytes (option_copied result) ≡ other_key kind (table_view table.now) }
 {
