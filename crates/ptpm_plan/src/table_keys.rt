@@ -29,7 +29,12 @@ pub(crate) enum TableKind {
 pub(crate) fn other_key(table: &Table, kind: TableKind) -> Option<&String>
     ensures { option_map string_bytes (option_copied result) ≡ other_key kind (table_view table.now) }
 {
-    table.keys().find(|key| !is_key(kind, key.as_str()))
+    for key in table.keys() {
+        if !is_key(kind, key.as_str()) {
+            return Some(key);
+        }
+    }
+    None
 }
 
 /// Whether a table may have a key.
