@@ -89,12 +89,24 @@ fn add_of_changes(
     ensures { OnOk result (found.new.items ≡ found.old.items ++ of_changes (of_change changes.now surveyed.now) 1 changes.now) }
 {
     for place in 0..changes.len() {
-        let change = &changes[place];
-        add(mechanism(place + 1, change), found)?;
-        add(unreached(place + 1, change, changes, surveyed), found)?;
-        add(cut_off(place + 1, change, changes, surveyed), found)?;
+        add_of_change(place + 1, &changes[place], changes, surveyed, found)?;
     }
     Ok(())
+}
+
+/// Adds what there is to warn of in a change, by its number.
+fn add_of_change(
+    number: usize,
+    change: &Change,
+    changes: &[Change],
+    surveyed: &Surveyed,
+    found: &mut Vec<Warning>,
+) -> Result<(), AllocError>
+    ensures { OnOk result (found.new.items ≡ found.old.items ++ of_change changes.now surveyed.now number change.now) }
+{
+    add(mechanism(number, change), found)?;
+    add(unreached(number, change, changes, surveyed), found)?;
+    add(cut_off(number, change, changes, surveyed), found)
 }
 
 /// A change of how a port measures delay.
