@@ -1,11 +1,11 @@
 -- The keys of a table, as texts and as octets.
 use Rattle.ptpm_plan.specs.FileText.{is_key, names_of, other_key}
 use Rattle.ptpm_plan.specs.declared.table_keys.TableKind.{TableKind}
-use Rattle.std.proofs.Common.{◌≡◌, ◌∙◌, ℕ, Bool, true, false, cond, List, [], ◌∷◌, map, not, Option, Some, None, option_map, refl, ap, sym}
+use Rattle.std.proofs.Common.{◌≡◌, ◌∙◌, ℕ, Bool, true, false, cond, List, [], ◌∷◌, map, not, Option, Some, option_map, refl, ap, sym}
 use Rattle.std.specs.List.{find}
 use Rattle.std.specs.Prelude.{String, string_bytes}
 use Rattle.std.specs.declared.alloc.Global.{Global}
-use Rattle.toml.specs.View.{members_view, view}
+use Rattle.toml.specs.View.{members_view}
 use Rattle.toml.specs.declared.value.Value.{Value}
 use Rattle.std.specs.Map.{keys_of}
 
