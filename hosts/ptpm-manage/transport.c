@@ -596,15 +596,6 @@ const char *named_way(size_t place, bool *has_answer) {
     return end_name(end);
 }
 
-const char *silent_way(void) {
-    bool has_answer;
-    const char *way;
-    for (size_t i = 0; (way = named_way(i, &has_answer)) != NULL; i++) {
-        if (!has_answer) return way;
-    }
-    return NULL;
-}
-
 void tell_silent_ways(void) {
     struct end *end;
     for (size_t i = 0; (end = end_in_turn(i)) != NULL; i++) {

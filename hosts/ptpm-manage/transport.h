@@ -77,10 +77,9 @@ struct way way_of_message(void);
 bool came_by(const struct way *way);
 
 /* If several interfaces were named, or one and a Unix socket: from now on no answer came at any of them. Then the message that came in last
-   is one. And the first of them at which none came; NULL if there is none. */
+   is one. */
 void forget_ways(void);
 void note_way(void);
-const char *silent_way(void);
 
 /* The first of these ways, the second and so on, and whether an answer came at it; NULL after the last. */
 const char *named_way(size_t place, bool *has_answer);

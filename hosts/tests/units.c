@@ -282,12 +282,6 @@ static FILE *open_printed(void) {
     return open_memstream(&printed, &printed_size);
 }
 
-static bool prints_interval(int64_t interval, const char *text) {
-    FILE *to = open_printed();
-    print_interval(to, interval);
-    return fclose(to) == 0 && strcmp(printed, text) == 0;
-}
-
 static bool reads_interval(const char *text, int64_t interval) {
     int64_t read;
     return read_interval(text, &read) && read == interval;
@@ -304,9 +298,7 @@ static void intervals(void) {
         "140737488355327.9999999999999999", "1.00000000000000000", "1000000000000000",
     };
     int64_t read = 7;
-    for (size_t i = 0; i < sizeof both / sizeof *both; i++) {
-        check(prints_interval(both[i].interval, both[i].text) && reads_interval(both[i].text, both[i].interval), both[i].text);
-    }
+    for (size_t i = 0; i < sizeof both / sizeof *both; i++) check(reads_interval(both[i].text, both[i].interval), both[i].text);
     for (size_t i = 0; i < sizeof none / sizeof *none; i++) check(!read_interval(none[i], &read) && read == 7, none[i]);
     check(reads_interval("1250", 81920000) && reads_interval("-0", 0), "a whole number");
     check(reads_interval("0.0000076293945312", 0) && reads_interval("0.0000076293945313", 1), "half a unit");

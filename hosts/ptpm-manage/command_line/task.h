@@ -28,8 +28,6 @@ struct site_options {
     const char *max_offset, *max_delay, *tai_utc, *settle, *profile, *inventory;               /* as they are written, or NULL */
     char *ignored;                              /* the names of all --ignore, or NULL */
     bool is_all;                                /* the text has what follows from a finding too */
-    bool is_without_changes;                    /* what differs from the look before is not a finding */
-    bool is_of_one_address;                     /* who is not seen may be a clock that is not asked, and is not a finding */
     const char *given;                          /* an option only of `status` that was given, or NULL */
 };
 
