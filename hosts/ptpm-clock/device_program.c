@@ -1,6 +1,7 @@
 #define _GNU_SOURCE
 #include "device_program.h"
 #include "field_text.h"
+#include "message_places.h"
 #include "names.h"
 #include "output.h"
 #include "program.h"
@@ -26,7 +27,6 @@
 enum {
     MOST_WORD_OCTETS = 8192,    /* of all words of a run, with an end of each */
     MOST_WORDS = 64,
-    EVERY_PORT = 0xffff,
     FIRST = 3,                  /* the first descriptor past the standard streams */
     END_WAIT = 1000             /* milliseconds, for a run that is ended */
 };

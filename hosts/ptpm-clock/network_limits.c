@@ -61,10 +61,11 @@ void lower_hops(struct heard *heard) {
 
 bool is_of_manager(const struct heard *heard, const uint8_t own[8]) {
     if (heard->size < LEAST_MESSAGE || memcmp(heard->octets + TARGET_AT, own, 8) != 0) return false;
-    const uint8_t *source = heard->octets + SOURCE_AT, *port = heard->octets + SOURCE_PORT_AT;
+    const uint8_t *source = heard->octets + SOURCE_AT;
+    uint16_t port = number_at(heard->octets + SOURCE_PORT_AT);
     for (size_t i = 0; i < limits.manager_count; i++) {
         const struct ptpm_manager_settings *manager = &limits.managers[i];
-        if (memcmp(manager->clock, source, sizeof manager->clock) == 0 && manager->port == (port[0] << 8 | port[1])) return true;
+        if (memcmp(manager->clock, source, sizeof manager->clock) == 0 && manager->port == port) return true;
     }
     return false;
 }

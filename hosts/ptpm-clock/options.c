@@ -1,5 +1,6 @@
 #define _GNU_SOURCE
 #include "options.h"
+#include "message_places.h"
 #include "monotonic.h"
 #include "names.h"
 #include "output.h"
@@ -167,13 +168,12 @@ static const char *socket_path(const char *option) {
 
 /* IDENTITY/PORT, with every right. */
 static struct ptpm_manager_settings read_manager(const char *text) {
-    static const uint8_t every[8] = { 0xff, 0xff, 0xff, 0xff, 0xff, 0xff, 0xff, 0xff };
     struct ptpm_manager_settings manager = { .rights = PTPM_CLOCK_SET | PTPM_PORT_SET | PTPM_PORT_COMMAND };
     if (!ptpm_port_identity_parse(text, strlen(text), manager.clock, &manager.port)) {
         refuse_command_line("-m %s: it takes aabbccfffeddee01/1 or aabbcc.fffe.ddee01-1", text);
     }
-    if (manager.port == UINT16_MAX) refuse_command_line("-m %s: port 65535 means every port", text);
-    if (memcmp(manager.clock, every, sizeof every) == 0) refuse_command_line("-m %s: it means every clock", text);
+    if (manager.port == EVERY_PORT) refuse_command_line("-m %s: port 65535 means every port", text);
+    if (memcmp(manager.clock, every_clock, sizeof every_clock) == 0) refuse_command_line("-m %s: it means every clock", text);
     return manager;
 }
 

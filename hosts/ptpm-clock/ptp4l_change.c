@@ -1,6 +1,7 @@
 #define _GNU_SOURCE
 #include "ptp4l_change.h"
 #include "device.h"
+#include "message_places.h"
 #include "monotonic.h"
 #include "output.h"
 #include "ptp4l_check.h"

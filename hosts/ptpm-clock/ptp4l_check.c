@@ -1,5 +1,6 @@
 #define _GNU_SOURCE
 #include "ptp4l_check.h"
+#include "message_places.h"
 #include "monotonic.h"
 #include "output.h"
 #include "ptp4l_socket.h"
@@ -19,8 +20,7 @@ void start_check(const struct options *given) { options = given; }
 
 /* Any clock has to answer, so that one with another identity shows itself. */
 static bool ask_any(uint16_t id, uint16_t *number) {
-    static const uint8_t every[8] = { 0xff, 0xff, 0xff, 0xff, 0xff, 0xff, 0xff, 0xff };
-    return ask_ptp4l(every, PTPM_GET, id, EVERY_PORT, NULL, 0, number);
+    return ask_ptp4l(every_clock, PTPM_GET, id, EVERY_PORT, NULL, 0, number);
 }
 
 static enum found judge_clock(void) {
@@ -29,7 +29,7 @@ static enum found judge_clock(void) {
     uint16_t number;
     if (!ask_any(PTPM_ID_DEFAULT_DATA_SET, &number) || !hear_ptp4l(number, milliseconds() + PTP4L_PATIENCE, &answer)) return IS_SILENT;
     if (answer.size < DEFAULT_OCTETS) return IS_SILENT;
-    size_t ports_found = (size_t)answer.field[NUMBER_PORTS_AT] << 8 | answer.field[NUMBER_PORTS_AT + 1];
+    size_t ports_found = number_at(answer.field + NUMBER_PORTS_AT);
     if (memcmp(answer.field + IDENTITY_AT, options->settings.identity, sizeof options->settings.identity) != 0) {
         write_identity(own, options->settings.identity);
         write_identity(other, answer.field + IDENTITY_AT);

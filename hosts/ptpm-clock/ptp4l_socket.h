@@ -8,15 +8,12 @@
 #include <stddef.h>
 #include <stdint.h>
 
-enum { EVERY_PORT = 0xffff };
-
 /* How many milliseconds a GET waits for its answer. */
 enum { PTP4L_PATIENCE = 100 };
 
 /* An answer of the ptp4l. It stays until the next one is heard. */
 struct ptp4l_answer {
-    uint8_t clock[8];                   /* sourcePortIdentity: the clock, and the port, which is 0 for an id of the clock */
-    uint16_t port;
+    uint16_t port;                      /* of sourcePortIdentity, which is 0 for an id of the clock */
     uint16_t number, id;                /* sequenceId and managementId */
     uint16_t error;                     /* managementErrorId, or 0 */
     const uint8_t *field;               /* the dataField */

@@ -41,21 +41,18 @@ void start_ptp4l_values(const struct options *given, uint8_t of_clock) {
     latest.size = offsetof(struct learned, at) + (1 + ports_of(options)) * sizeof latest.at[0];
 }
 
-static uint16_t get16(const uint8_t *at) { return (uint16_t)(at[0] << 8 | at[1]); }
-
 static bool is_own(const uint8_t *identity) { return memcmp(identity, options->settings.identity, CLOCK_IDENTITY) == 0; }
 
-static uint16_t port_asked(const struct heard *heard) { return get16(heard->octets + TARGET_AT + CLOCK_IDENTITY); }
+static uint16_t port_asked(const struct heard *heard) { return number_at(heard->octets + TARGET_AT + CLOCK_IDENTITY); }
 
 /* Which of the ids a GET of this clock, or of every clock, names; IDS if it is none of them. A file of --give comes first. */
 static size_t id_asked(const struct heard *heard) {
-    static const uint8_t every[CLOCK_IDENTITY] = { 0xff, 0xff, 0xff, 0xff, 0xff, 0xff, 0xff, 0xff };
     const uint8_t *octets = heard->octets;
     if (heard->size < LEAST_MESSAGE || (octets[ACTION_AT] & LOWER_HALF) != PTPM_GET || octets[DOMAIN_AT] != domain) return IDS;
-    if (!is_own(octets + TARGET_AT) && memcmp(octets + TARGET_AT, every, CLOCK_IDENTITY) != 0) return IDS;
+    if (!is_own(octets + TARGET_AT) && memcmp(octets + TARGET_AT, every_clock, CLOCK_IDENTITY) != 0) return IDS;
     uint16_t port = port_asked(heard);
     if (port != EVERY_PORT && (port == 0 || port > ports_of(options))) return IDS;
-    uint16_t id = get16(octets + ID_AT);
+    uint16_t id = number_at(octets + ID_AT);
     for (size_t i = 0; i < options->value_count; i++) {
         if (options->values[i].id == id) return IDS;
     }
@@ -128,19 +125,14 @@ const struct ptpm_say *learned_to_give(const struct ptpm_clock *clock, const str
     return &say;
 }
 
-static void put16(uint8_t *at, size_t value) {
-    at[0] = (uint8_t)(value >> 8);
-    at[1] = (uint8_t)value;
-}
-
 /* Puts what was learned into an answer; whether it may be sent. An error stays as it is. */
 static bool fill_answer(const struct learned *value, struct ptpm_sent *answer) {
-    if (get16(answer->octets + TLV_AT) == ERROR_TLV) return true;
-    size_t place = place_of(value, get16(answer->octets + SOURCE_PORT_AT)), size = value->at[place].size;
+    if (number_at(answer->octets + TLV_AT) == ERROR_TLV) return true;
+    size_t place = place_of(value, number_at(answer->octets + SOURCE_PORT_AT)), size = value->at[place].size;
     if (size == 0) return false;
     memcpy(answer->octets + FIELD_AT, value->at[place].octets, size);
-    put16(answer->octets + TLV_AT + 2, size + 2);
-    put16(answer->octets + LENGTH_AT, LEAST_MESSAGE + size);
+    put_number(answer->octets + TLV_AT + 2, size + 2);
+    put_number(answer->octets + LENGTH_AT, LEAST_MESSAGE + size);
     answer->size = (uint16_t)(LEAST_MESSAGE + size);
     return true;
 }

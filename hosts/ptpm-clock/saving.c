@@ -118,7 +118,7 @@ _Noreturn static void refuse_octets(enum ptpm_restored refusal) {
     char identity[IDENTITY_TEXT];
     const char *name = answer_name(refusal);
     if (refusal == PTPM_OTHER_CLOCK) {
-        int further = octets[KIND_AT] == WITH_CHANGE ? CHANGE_AT + (octets[CHANGE_SIZE_AT] << 8) + octets[CHANGE_SIZE_AT + 1] : 0;
+        int further = octets[KIND_AT] == WITH_CHANGE ? CHANGE_AT + number_at(octets + CHANGE_SIZE_AT) : 0;
         write_identity(identity, octets + IDENTITY + further);
         say("it does not start: %s: %s: it has the state of clock %s", name, options->state, identity);
     } else say("it does not start: %s: %s: %s", name, options->state, reason(refusal));

@@ -8,8 +8,8 @@
 #include <stdbool.h>
 #include <stdint.h>
 
-/* The last port that a session of the library names. And the portNumber of every port (IEEE 1588-2019, 15.4.1). */
-enum { SESSION_PORTS = 255, EVERY_PORT = 65535 };
+/* The last port that a session of the library names. */
+enum { SESSION_PORTS = 255 };
 
 /* Whether a port is above those. No clock of this project has it. So nothing that is asked of it is kept in a file. */
 bool is_beyond_session(uint16_t port);

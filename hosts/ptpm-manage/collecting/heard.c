@@ -40,7 +40,7 @@ static uint64_t seed;                               /* which nobody else knows, 
 
 static unsigned type_of(const uint8_t *message) { return message[TYPE_AT] & LOWER_HALF; }
 
-static size_t length_of(const uint8_t *message) { return (size_t)message[LENGTH_AT] << 8 | message[LENGTH_AT + 1]; }
+static size_t length_of(const uint8_t *message) { return number_at(message + LENGTH_AT); }
 
 /* The place of a messageType among those that are kept; HEARD_TYPES if it is none of them. */
 static enum heard_type heard_type(const uint8_t *message) {

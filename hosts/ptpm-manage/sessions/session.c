@@ -1,6 +1,7 @@
 #include "session.h"
 #include "answer.h"
 #include "exchange.h"
+#include "message_places.h"
 #include "names.h"
 #include "notices.h"
 #include "random.h"
