@@ -6,6 +6,10 @@
 #include <stddef.h>
 #include <stdint.h>
 
+/* For getopt_long: an option that takes a value, and one that takes none. */
+#define TAKES(name, option) { name, required_argument, NULL, option }
+#define ALONE(name, option) { name, no_argument, NULL, option }
+
 /* A number of only decimal digits, at most `most`; -1 if the text is none. A tenth of the greatest is the most that `most` may be. */
 int64_t large_decimal(const char *text, int64_t most);
 

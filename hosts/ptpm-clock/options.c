@@ -31,19 +31,12 @@ enum {
 };
 
 static const struct option names[] = {
-    { "ipv6", no_argument, NULL, '6' }, { "ethernet", no_argument, NULL, '2' }, { "hops", required_argument, NULL, HOPS },
-    { "rate", required_argument, NULL, RATE }, { "manager-rate", required_argument, NULL, MANAGER_RATE },
-    { "no-forward", no_argument, NULL, NO_FORWARD }, { "transit", no_argument, NULL, TRANSIT },
-    { "any-source", no_argument, NULL, ANY_SOURCE }, { "ttl-security", no_argument, NULL, TTL_SECURITY },
-    { "user", required_argument, NULL, USER },
-    { "unix-group", required_argument, NULL, UNIX_GROUP }, { "unix-mode", required_argument, NULL, UNIX_MODE },
-    { "owner", required_argument, NULL, OWNER },
-    { "limits", required_argument, NULL, LIMITS }, { "ask", required_argument, NULL, ASK },
-    { "ask-time", required_argument, NULL, ASK_TIME }, { "give", required_argument, NULL, GIVE },
-    { "ptp4l", required_argument, NULL, PTP4L }, { "diverted", required_argument, NULL, DIVERTED },
-    { "ptp4l-rules", no_argument, NULL, PTP4L_RULES },
-    { "no-filter", no_argument, NULL, NO_FILTER }, { "state", required_argument, NULL, 's' }, { "help", no_argument, NULL, 'h' },
-    { "version", no_argument, NULL, VERSION }, { NULL, 0, NULL, 0 },
+    ALONE("ipv6", '6'), ALONE("ethernet", '2'), TAKES("hops", HOPS), TAKES("rate", RATE), TAKES("manager-rate", MANAGER_RATE),
+    ALONE("no-forward", NO_FORWARD), ALONE("transit", TRANSIT), ALONE("any-source", ANY_SOURCE), ALONE("ttl-security", TTL_SECURITY),
+    TAKES("user", USER), TAKES("unix-group", UNIX_GROUP), TAKES("unix-mode", UNIX_MODE), TAKES("owner", OWNER), TAKES("limits", LIMITS),
+    TAKES("ask", ASK), TAKES("ask-time", ASK_TIME), TAKES("give", GIVE), TAKES("ptp4l", PTP4L), TAKES("diverted", DIVERTED),
+    ALONE("ptp4l-rules", PTP4L_RULES), ALONE("no-filter", NO_FILTER), TAKES("state", 's'), ALONE("help", 'h'), ALONE("version", VERSION),
+    { NULL, 0, NULL, 0 },
 };
 
 static const char help[] =
