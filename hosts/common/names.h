@@ -21,6 +21,9 @@ const char *read_id_name(uint16_t id);
 /* The name of a managementErrorId (15.5.4.3); NULL if the standard has none. */
 const char *error_name(uint16_t error);
 
+/* The same, or 0x and four hexadecimal digits. */
+const char *error_text(uint16_t error);
+
 /* The name of why the library starts or begins nothing: that of the constant in ptpm.h, without PTPM_. */
 const char *answer_name(uint32_t answer);
 

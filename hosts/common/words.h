@@ -24,7 +24,7 @@ bool is_ascii(const char *line);
 
 enum { IDENTITY_TEXT = 17 };
 
-/* A clockIdentity as sixteen hexadecimal digits, and the end of the text. */
-void write_identity(char text[IDENTITY_TEXT], const uint8_t identity[8]);
+/* A clockIdentity as sixteen hexadecimal digits. The text is there until the call after the next. */
+const char *identity_text(const uint8_t identity[8]);
 
 #endif

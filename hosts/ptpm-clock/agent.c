@@ -68,8 +68,7 @@ void save_clock(void) {
    that ends. Nobody is heard at it. Any user may take such a name, so it is no reason not to start. */
 void report_twin(void) {
     struct sockaddr_un address = { .sun_family = AF_UNIX };
-    char identity[IDENTITY_TEXT];
-    write_identity(identity, options->settings.identity);
+    const char *identity = identity_text(options->settings.identity);
     int size = snprintf(address.sun_path + 1, sizeof address.sun_path - 1, "ptpm-clock/%s/%u", identity, domain());
     int claim = socket(AF_UNIX, SOCK_STREAM | SOCK_CLOEXEC, 0);
     socklen_t whole = (socklen_t)(offsetof(struct sockaddr_un, sun_path) + 1 + (size_t)size);
@@ -94,9 +93,8 @@ static const char *state_of(size_t port) {
 
 /* Says the clock's identity and its interfaces, once it is heard. */
 void say_started(void) {
-    char identity[IDENTITY_TEXT], text[LINE];
-    write_identity(identity, options->settings.identity);
-    size_t size = (size_t)snprintf(text, sizeof text, "%s in domain %u:", identity, domain());
+    char text[LINE];
+    size_t size = (size_t)snprintf(text, sizeof text, "%s in domain %u:", identity_text(options->settings.identity), domain());
     for (size_t i = 0; i < ports_of(options); i++) {
         const char *where = port_count > 0 ? ports[i].name : options->meeting.path;
         size += (size_t)snprintf(text + size, sizeof text - size, " port %zu at %.128s %s,", i + 1, where, state_of(i + 1));

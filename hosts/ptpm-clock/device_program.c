@@ -215,13 +215,12 @@ static size_t put_members(char *words, size_t size, const struct ptpm_question *
 }
 
 bool start_run(const struct ptpm_question *asked, bool is_look) {
-    char words[MOST_WORD_OCTETS], manager[IDENTITY_TEXT];
+    char words[MOST_WORD_OCTETS];
     const char *name = id_name(asked->id);
     if (beside < 0) return false;
-    write_identity(manager, asked->manager);
     size_t size = put_word(words, 0, "%s", path);
     if (is_look) size = put_word(words, size, "look");
-    size = put_word(words, size, "%s/%u", manager, asked->manager_port);
+    size = put_word(words, size, "%s/%u", identity_text(asked->manager), asked->manager_port);
     size = put_word(words, size, "%u", asked->number);
     size = put_word(words, size, "%s", asked->action == PTPM_SET ? "set" : "command");
     size = put_word(words, size, "%04x", asked->id);

@@ -281,12 +281,10 @@ static void refuse_long(char *const *given, size_t count) {
 
 /* A clock drops what has its own identity as its source: it treats that as a message of its own that came back. */
 static void refuse_itself(const struct options *options) {
-    char identity[IDENTITY_TEXT];
     for (size_t i = 0; i < options->manager_count; i++) {
         const struct ptpm_manager_settings *manager = &options->managers[i];
         if (memcmp(manager->clock, options->settings.identity, sizeof manager->clock) != 0) continue;
-        write_identity(identity, manager->clock);
-        refuse_command_line("-m %s/%u: it has the identity of the clock, which hears no such manager", identity, manager->port);
+        refuse_command_line("-m %s/%u: it has the identity of the clock, which hears no such manager", identity_text(manager->clock), manager->port);
     }
 }
 

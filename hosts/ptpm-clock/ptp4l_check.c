@@ -25,15 +25,13 @@ static bool ask_any(uint16_t id, uint16_t *number) {
 
 static enum found judge_clock(void) {
     struct ptp4l_answer answer;
-    char own[IDENTITY_TEXT], other[IDENTITY_TEXT];
     uint16_t number;
     if (!ask_any(PTPM_ID_DEFAULT_DATA_SET, &number) || !hear_ptp4l(number, milliseconds() + PTP4L_PATIENCE, &answer)) return IS_SILENT;
     if (answer.size < DEFAULT_OCTETS) return IS_SILENT;
     size_t ports_found = number_at(answer.field + NUMBER_PORTS_AT);
     if (memcmp(answer.field + IDENTITY_AT, options->settings.identity, sizeof options->settings.identity) != 0) {
-        write_identity(own, options->settings.identity);
-        write_identity(other, answer.field + IDENTITY_AT);
-        say("%s: the ptp4l is clock %s, and not %s: nothing is answered", options->ptp4l, other, own);
+        say("%s: the ptp4l is clock %s, and not %s: nothing is answered", options->ptp4l, identity_text(answer.field + IDENTITY_AT),
+            identity_text(options->settings.identity));
         return IS_ANOTHER_CLOCK;
     }
     if (ports_found == ports_of(options)) return IS_OURS;

@@ -115,12 +115,10 @@ static const char *reason(enum ptpm_restored refusal) {
 }
 
 _Noreturn static void refuse_octets(enum ptpm_restored refusal) {
-    char identity[IDENTITY_TEXT];
     const char *name = answer_name(refusal);
     if (refusal == PTPM_OTHER_CLOCK) {
         int further = octets[KIND_AT] == WITH_CHANGE ? CHANGE_AT + number_at(octets + CHANGE_SIZE_AT) : 0;
-        write_identity(identity, octets + IDENTITY + further);
-        say("it does not start: %s: %s: it has the state of clock %s", name, options->state, identity);
+        say("it does not start: %s: %s: it has the state of clock %s", name, options->state, identity_text(octets + IDENTITY + further));
     } else say("it does not start: %s: %s: %s", name, options->state, reason(refusal));
     end_with(refusal == PTPM_RESTORE_NO_MEMORY ? NOT_OPENED : NOT_STARTED);
 }

@@ -665,13 +665,11 @@ static const uint8_t *message_at(const struct end *end, const struct arrival *ar
    has passed on. */
 static bool is_of_namesake(const struct arrival *arrival, const uint8_t *message, size_t size) {
     static bool is_told;
-    char identity[IDENTITY_TEXT];
     bool is_request = size > ACTION_AT && (message[TYPE_AT] & LOWER_HALF) == MANAGEMENT_TYPE
                       && (message[ACTION_AT] & LOWER_HALF) != RESPONSE && (message[ACTION_AT] & LOWER_HALF) != ACKNOWLEDGE;
     if (arrival->end == &own_clock || size < SOURCE_PORT_AT || is_request || memcmp(asker, nobody, sizeof asker) == 0) return false;
     if (memcmp(message + SOURCE_AT, asker, sizeof asker) != 0) return false;
-    write_identity(identity, asker);
-    if (!is_told) complain("a clock has this manager's identity %s: what it sends is ignored, and -m names another manager", identity);
+    if (!is_told) complain("a clock has this manager's identity %s: what it sends is ignored, and -m names another manager", identity_text(asker));
     return is_told = true;
 }
 

@@ -79,10 +79,9 @@ static void say_silence_at(const struct desk *desk, const struct step *step, boo
 }
 
 static void say_unanswered(const struct desk *desk, const struct journal *journal, bool is_uncertain) {
-    char clock[IDENTITY_TEXT];
-    write_identity(clock, desk->task.settings.target);
-    complain("no answer from %s at %s in domain %u to %ld message%s: %s", clock, transport_name(), desk->domain, desk->driver.sent,
-             desk->driver.sent == 1 ? "" : "s", is_uncertain ? "the step may have been carried out" : "the next step was not sent");
+    complain("no answer from %s at %s in domain %u to %ld message%s: %s", identity_text(desk->task.settings.target), transport_name(),
+             desk->domain, desk->driver.sent, desk->driver.sent == 1 ? "" : "s",
+             is_uncertain ? "the step may have been carried out" : "the next step was not sent");
     if (desk->step == NO_STEP) say_before_steps(&desk->session.earlier, &desk->task);
     else say_silence_at(desk, &journal->steps[desk->step], is_uncertain);
 }

@@ -71,10 +71,9 @@ static bool is_read(const struct task *task, const struct step *step, uint8_t do
 }
 
 static int not_read(const struct step *step, uint8_t domain) {
-    char clock[IDENTITY_TEXT];
     if (stopped) return BY_SIGNAL + stopped;
-    write_identity(clock, step->clock);
-    complain("no answer from %s at %s in domain %u to a read of %s%s", clock, transport_name(), domain, id_name(step->id), why_unread());
+    complain("no answer from %s at %s in domain %u to a read of %s%s", identity_text(step->clock), transport_name(), domain, id_name(step->id),
+             why_unread());
     return NOT_ANSWERED;
 }
 

@@ -328,11 +328,8 @@ static uint16_t port_of(const struct plan *plan, const struct step *first) {
 }
 
 static void add_refusal(struct plan *plan, const struct task *task, const char *clock) {
-    char text[128], number[8];
-    const char *error = error_name(refusal);
-    snprintf(number, sizeof number, "0x%04x", refusal);
-    snprintf(text, sizeof text, "%s refuses a SET that changes nothing (%s): it may take no SET from this manager", clock,
-             error != NULL ? error : number);
+    char text[128];
+    snprintf(text, sizeof text, "%s refuses a SET that changes nothing (%s): it may take no SET from this manager", clock, error_text(refusal));
     add_warning(plan, text, task->is_json);
 }
 
@@ -356,12 +353,11 @@ static int end_asked(struct run *run) {
 }
 
 static int end_probe(struct plan *plan, const struct probe *probe, const struct task *task) {
-    char clock[IDENTITY_TEXT];
-    write_identity(clock, probe->request.settings.target);
-    show_progress("%s: does it take SETs from this manager?", clock);
+    const uint8_t *clock = probe->request.settings.target;
+    show_progress("%s: does it take SETs from this manager?", identity_text(clock));
     int status = end_asked(probe->run);
-    if (status == ANSWERED && refusal != 0) add_refusal(plan, task, clock), say_of_ptp4l(refusal);
-    if (status == NOT_ANSWERED) complain("%s gave no answer: whether it takes SETs from this manager is not known", clock);
+    if (status == ANSWERED && refusal != 0) add_refusal(plan, task, identity_text(clock)), say_of_ptp4l(refusal);
+    if (status == NOT_ANSWERED) complain("%s gave no answer: whether it takes SETs from this manager is not known", identity_text(clock));
     return status;
 }
 
@@ -393,11 +389,7 @@ static void take_standing(struct probe *probe, const struct task *task, const st
 }
 
 static void say_refusal(const struct task *task, const struct step *step) {
-    char clock[IDENTITY_TEXT], number[8];
-    const char *error = error_name(refusal);
-    write_identity(clock, step->clock);
-    snprintf(number, sizeof number, "0x%04x", refusal);
-    complain("%s refuses a SET of %s to the value that it has: %s", clock, id_name(step->id), error != NULL ? error : number);
+    complain("%s refuses a SET of %s to the value that it has: %s", identity_text(step->clock), id_name(step->id), error_text(refusal));
     say_right(task, refusal);
 }
 

@@ -565,13 +565,12 @@ static bool write_lacking(char *names, size_t room, const struct seen_clock *clo
 }
 
 void tell_lacking(void) {
-    char identity[IDENTITY_TEXT], domain[DOMAIN_TEXT], names[MOST_COLLECTED * sizeof ", LOG_MIN_PDELAY_REQ_INTERVAL"];
+    char domain[DOMAIN_TEXT], names[MOST_COLLECTED * sizeof ", LOG_MIN_PDELAY_REQ_INTERVAL"];
     for (size_t place = 0; place < seen_count(); place++) {
         const struct seen_clock *clock = seen_clock(place);
         if (!write_lacking(names, sizeof names, clock)) continue;
-        write_identity(identity, clock->identity);
         write_domain(domain, clock->domain);
-        complain("no answer from %s in domain %s to a read of %s", identity, domain, names);
+        complain("no answer from %s in domain %s to a read of %s", identity_text(clock->identity), domain, names);
     }
 }
 

@@ -70,12 +70,8 @@ static void end_note(FILE *to) { fputs(is_synchronised() ? " clock=synchronised\
 
 void write_host_note(FILE *to) {
     uint8_t identity[8];
-    char text[IDENTITY_TEXT];
     fputs("#ptpm", to);
-    for (size_t i = 0; own_identity(i, identity); i++) {
-        write_identity(text, identity);
-        fprintf(to, "%s%s", i == 0 ? " own=" : ",", text);
-    }
+    for (size_t i = 0; own_identity(i, identity); i++) fprintf(to, "%s%s", i == 0 ? " own=" : ",", identity_text(identity));
     end_note(to);
 }
 
