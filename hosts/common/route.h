@@ -7,6 +7,9 @@
 #include <stdint.h>
 #include <sys/socket.h>
 
+/* The octets of an address of IPv4 or IPv6, and how many there are; none of another family. */
+const uint8_t *address_octets(const struct sockaddr *address, size_t *size);
+
 /* Whether a route that is not a default route leads to an address over the interface without a gateway. The kernel is asked a hundred
    times a second at most; beyond that the answer is no. */
 bool is_routed_to_link(unsigned index, const struct sockaddr *address);

@@ -10,7 +10,7 @@
 struct piece { const char *at; size_t size; };
 
 /* What it printed; an end of text follows. All zeros hold nothing. */
-struct printed { char *text; size_t size; };
+struct printed { char *text; size_t size, room; };
 
 /* Finds the program: beside this one, or else in the PATH. Ends the program with status 2 if it is nowhere. */
 void find_ptpm_program(void);
@@ -22,6 +22,10 @@ struct given { const struct piece *lines, *beside; };
 /* Has it read this. Its words are `arguments`, whose first is left for its path, and whose last is NULL. Its status, or 1 if it did not end
    normally, which is said. */
 int run_ptpm_program(char **arguments, const struct given *given, struct printed *printed);
+
+/* Waits until a program has printed more there, and reads some of it; whether it has, before its end or a signal that asks this program to
+   end. */
+bool read_printed(int from, struct printed *printed);
 
 /* One that goes on: what it reads is written to `to`, and what it prints is read from `from`. */
 struct running { pid_t process; int to, from; };

@@ -249,7 +249,7 @@ void add_warning(struct plan *plan, const char *text, bool is_json) {
                                           : asprintf(&more, "%swarning: %s\n", old, text);
     if (size < 0) give_up("a warning");
     free(plan->text.text);
-    plan->text = (struct printed){ more, (size_t)size };
+    plan->text = (struct printed){ .text = more, .size = (size_t)size };
 }
 
 void print_plan(const struct plan *plan, bool is_json) {
