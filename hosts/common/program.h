@@ -12,6 +12,9 @@ _Noreturn void give_up(const char *what);
 /* From now on that has another status, and what went wrong is also passed on there. */
 void end_otherwise(int status, void (*say)(const char *what, const char *why));
 
+/* Closes a file if it is open, and leaves errno as it is. */
+void close_quietly(int file);
+
 /* Occupies the descriptors of standard input, output and error that are closed. No file or socket of the program then gets one
    of them, and nothing that is printed goes into it. */
 void hold_streams(void);

@@ -3,7 +3,7 @@
 #define SOCKET_OPTION_H
 
 #include "message_places.h"
-#include <errno.h>
+#include "program.h"
 #include <linux/filter.h>
 #include <net/if.h>
 #include <stdbool.h>
@@ -11,7 +11,6 @@
 #include <stdio.h>
 #include <sys/ioctl.h>
 #include <sys/socket.h>
-#include <unistd.h>
 
 /* Sets an option to the octets of a value, and leaves its name in *what. Whether it was set. */
 #define SET_OPTION(socket, level, option, value, what) set_option(socket, level, option, &(value), sizeof(value), what, #option)
@@ -39,9 +38,7 @@ static inline bool set_filter(int socket, const struct sock_filter *filter, size
 
 /* Closes a socket that was refused something, and leaves errno as it says why; -1. */
 static inline int closed(int socket) {
-    int failure = errno;
-    close(socket);
-    errno = failure;
+    close_quietly(socket);
     return -1;
 }
 

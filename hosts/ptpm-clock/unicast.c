@@ -61,7 +61,7 @@ int unicast_socket(void) { return copies >= 0 ? copies : general; }
 size_t hear_unicast(struct heard heard[ROUND]) { return hear_host(unicast_socket(), copies >= 0, packets, heard); }
 
 void close_unicast(void) {
-    if (general >= 0) close(general);
-    if (copies >= 0) close(copies);
-    if (packets >= 0) close(packets);
+    close_quietly(general);
+    close_quietly(copies);
+    close_quietly(packets);
 }

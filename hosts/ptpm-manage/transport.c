@@ -9,6 +9,7 @@
 #include "netlink.h"
 #include "notices.h"
 #include "program.h"
+#include "route.h"
 #include "socket_option.h"
 #include "stopping.h"
 #include "udp.h"
@@ -117,7 +118,7 @@ static bool write_own_identity(uint8_t identity[8], const char *interface) {
     snprintf(request.ifr_name, sizeof request.ifr_name, "%s", interface);
     int probe = socket(AF_INET, SOCK_DGRAM | SOCK_CLOEXEC, 0);
     bool is_read = probe >= 0 && ioctl(probe, SIOCGIFHWADDR, &request) == 0;
-    if (probe >= 0) close(probe);
+    close_quietly(probe);
     const uint8_t *a = (const uint8_t *)request.ifr_hwaddr.sa_data;
     memcpy(identity, (const uint8_t[]){ a[0], a[1], a[2], 0xff, 0xfe, a[3], a[4], a[5] }, 8);
     return is_read;
@@ -210,9 +211,7 @@ static bool open_end(struct end *end, const char **what) {
     end->asking = end->events = -1;
     end->socket = is_ethernet ? open_ethernet(end->interface, end->station, what) : open_udp(end->interface, is_six, what);
     if (end->socket < 0 || open_second_part(end, what)) return end->socket >= 0;
-    int failure = errno;
-    close(end->socket);
-    errno = failure;
+    close_quietly(end->socket);
     return false;
 }
 
@@ -273,7 +272,7 @@ static int open_beside(const char *path) {
 static bool is_answered_at(const struct sockaddr_un *address) {
     int probe = socket(AF_UNIX, SOCK_DGRAM | SOCK_CLOEXEC, 0);
     bool is_there = probe >= 0 && connect(probe, (const struct sockaddr *)address, sizeof *address) == 0;
-    if (probe >= 0) close(probe);
+    close_quietly(probe);
     return is_there;
 }
 
@@ -326,7 +325,7 @@ void tell_deaf_port(void) {
 }
 
 static void close_events(struct end *end) {
-    if (end->events >= 0) close(end->events);
+    close_quietly(end->events);
     end->events = -1;
 }
 
@@ -345,7 +344,7 @@ void renew_transport(void) {
         if (index == 0 || index == other.index || !open_end(&other, &what)) continue;
         renew_scope(ends[i].index, other.index);
         close(ends[i].socket);
-        if (ends[i].asking >= 0) close(ends[i].asking);
+        close_quietly(ends[i].asking);
         close_events(&ends[i]);
         ends[i] = other;
         complain("%s: the interface was created again", other.interface);
@@ -493,10 +492,9 @@ static const struct end *end_at(unsigned index) {
 enum { MOST_STRANGERS = 8 };
 
 static void write_address(char address[INET6_ADDRSTRLEN], const struct sockaddr *sender) {
-    const void *octets = is_six ? (const void *)&((const struct sockaddr_in6 *)sender)->sin6_addr
-                                : (const void *)&((const struct sockaddr_in *)sender)->sin_addr;
+    size_t size;
     *address = '\0';
-    inet_ntop(sender->sa_family, octets, address, INET6_ADDRSTRLEN);
+    inet_ntop(sender->sa_family, address_octets(sender, &size), address, INET6_ADDRSTRLEN);
 }
 
 static void tell_stranger(const struct end *end, const struct sockaddr *sender, const char *why) {
@@ -623,15 +621,10 @@ static const char *path_text(const struct sockaddr_un *sender) {
 
 const char *sender_text(void) {
     static char text[INET6_ADDRSTRLEN];
-    const struct sockaddr_storage *sender = &latest_place.sender;
-    *text = '\0';
-    switch (sender->ss_family) {
-    case AF_INET: inet_ntop(AF_INET, &((const struct sockaddr_in *)sender)->sin_addr, text, sizeof text); break;
-    case AF_INET6: inet_ntop(AF_INET6, &((const struct sockaddr_in6 *)sender)->sin6_addr, text, sizeof text); break;
-    case AF_PACKET: return station_text((const struct sockaddr_ll *)sender);
-    case AF_UNIX: return path_text((const struct sockaddr_un *)sender);
-    default: break;
-    }
+    const struct sockaddr *sender = (const struct sockaddr *)&latest_place.sender;
+    if (sender->sa_family == AF_PACKET) return station_text((const struct sockaddr_ll *)sender);
+    if (sender->sa_family == AF_UNIX) return path_text((const struct sockaddr_un *)sender);
+    write_address(text, sender);
     return text;
 }
 

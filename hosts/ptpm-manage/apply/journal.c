@@ -192,9 +192,7 @@ bool make_journal(struct journal *journal) {
     if (fclose(to)) give_up("the journal");
     journal->octets = (uint8_t *)octets;
     bool is_made = open_kept_folder(&file, journal->path) && replace_kept(&file, journal->octets, journal->size) == REPLACED;
-    int failure = errno;
-    if (file.folder >= 0) close(file.folder);
-    errno = failure;
+    close_quietly(file.folder);
     return is_made && open_notes(journal);
 }
 
@@ -217,9 +215,7 @@ static uint8_t *read_file(const char *path, size_t *size) {
         free(octets);
         octets = NULL;
     }
-    int failure = errno;
-    if (file >= 0) close(file);
-    errno = failure;
+    close_quietly(file);
     return octets;
 }
 
