@@ -1,7 +1,6 @@
 /* The members of a dataField (IEEE 1588-2019, 15.5.3) as texts: one after another, as the library writes them, and a TimeInterval
    among them in nanoseconds. */
-#ifndef FIELD_TEXT_H
-#define FIELD_TEXT_H
+#pragma once
 
 #include "ptpm.h"
 #include <stdbool.h>
@@ -32,5 +31,3 @@ const char *value_of(struct field_lines *lines, const char *name);
 /* The TimeInterval (5.3.2), nanoseconds times 2^16, that is nearest to a text, such as 1.5. The text has digits, with at most sixteen more after a dot, and begins with a hyphen
    if it is below 0. Whether it is such a text, and in range. */
 bool read_interval(const char *text, int64_t *interval);
-
-#endif

@@ -1,7 +1,6 @@
 /* The places of members in a message, as octets from its beginning. They are in the header of all messages (IEEE 1588-2019, 13.3), in
    the head of a management message (15.4), and in its TLV (15.5). */
-#ifndef MESSAGE_PLACES_H
-#define MESSAGE_PLACES_H
+#pragma once
 
 #include <stddef.h>
 #include <stdint.h>
@@ -43,5 +42,3 @@ static inline void put_number(uint8_t *at, size_t number) {
     at[0] = (uint8_t)(number >> 8);
     at[1] = (uint8_t)number;
 }
-
-#endif

@@ -1,7 +1,6 @@
 /* Names for numbers, and numbers for names, as the library has them. A name that was given stays until the next call of its
    function. */
-#ifndef NAMES_H
-#define NAMES_H
+#pragma once
 
 #include <stdint.h>
 
@@ -29,5 +28,3 @@ const char *answer_name(uint32_t answer);
 
 /* The member whose value an answer refuses, such as PRIORITY1 of PTPM_BAD_PRIORITY1. The whole name of an answer that refuses none. */
 const char *refused_member(uint32_t answer);
-
-#endif

@@ -1,6 +1,5 @@
 /* What each program defines itself, and how it ends if something went wrong. */
-#ifndef PROGRAM_H
-#define PROGRAM_H
+#pragma once
 
 /* The program's own: its name, which comes before what it says on standard error. */
 extern const char program[];
@@ -18,5 +17,3 @@ void close_quietly(int file);
 /* Occupies the descriptors of standard input, output and error that are closed. No file or socket of the program then gets one
    of them, and nothing that is printed goes into it. */
 void hold_streams(void);
-
-#endif

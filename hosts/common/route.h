@@ -1,6 +1,5 @@
 /* The routes and the neighbours of the kernel. */
-#ifndef ROUTE_H
-#define ROUTE_H
+#pragma once
 
 #include "ethernet.h"
 #include <stdbool.h>
@@ -17,5 +16,3 @@ bool is_routed_to_link(unsigned index, const struct sockaddr *address);
 /* Whether an address belongs to the neighbour at the interface who has this hardware address. What a router passes on has the
    router's. If the kernel doesn't know who has the address, the answer is no, and the kernel asks the link. */
 bool is_station_of(unsigned index, const struct sockaddr *address, const uint8_t station[STATION]);
-
-#endif

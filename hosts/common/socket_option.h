@@ -1,6 +1,5 @@
 /* What a socket is asked for, and its end if it is refused that. */
-#ifndef SOCKET_OPTION_H
-#define SOCKET_OPTION_H
+#pragma once
 
 #include "message_places.h"
 #include "program.h"
@@ -49,5 +48,3 @@ static inline unsigned index_of(int socket, const char *interface) {
     snprintf(request.ifr_name, sizeof request.ifr_name, "%s", interface);
     return ioctl(socket, SIOCGIFINDEX, &request) ? 0 : (unsigned)request.ifr_ifindex;
 }
-
-#endif

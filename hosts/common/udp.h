@@ -1,6 +1,5 @@
 /* The sockets of a port over UDP: what comes to the group of PTP, and what is sent from here. */
-#ifndef UDP_H
-#define UDP_H
+#pragma once
 
 #include <netinet/in.h>
 #include <stdbool.h>
@@ -46,5 +45,3 @@ socklen_t group(struct sockaddr_storage *to, bool is_six);
 /* Joins that group once more at an interface whose memberships may be gone, for example since its MTU was too small. Whether it is
    done. */
 bool join_again(int socket, unsigned interface, bool is_six);
-
-#endif

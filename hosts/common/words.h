@@ -1,6 +1,5 @@
 /* Numbers, octets, and identities of clocks, in the words of a command line or of a file. The library reads identities. */
-#ifndef WORDS_H
-#define WORDS_H
+#pragma once
 
 #include <stdbool.h>
 #include <stddef.h>
@@ -26,5 +25,3 @@ enum { IDENTITY_TEXT = 17 };
 
 /* A clockIdentity as sixteen hexadecimal digits. The text is there until the call after the next. */
 const char *identity_text(const uint8_t identity[8]);
-
-#endif

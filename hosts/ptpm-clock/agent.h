@@ -1,6 +1,5 @@
 /* The clock that the library holds, for the ports and the Unix socket: what becomes of datagrams and of observations. */
-#ifndef AGENT_H
-#define AGENT_H
+#pragma once
 
 #include "options.h"
 #include "ports.h"
@@ -44,5 +43,3 @@ void take_saved(void);
 void observe(char *text);
 
 void stop_clock(void);
-
-#endif

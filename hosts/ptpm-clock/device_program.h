@@ -1,8 +1,7 @@
 /* The program of the device (--ask PROGRAM), which is asked for each change. A process beside the clock starts it, one run after
    another. That process is made before the clock has any socket, file or filter of system calls. So a run inherits none of these,
    and may make other calls than the clock. */
-#ifndef DEVICE_PROGRAM_H
-#define DEVICE_PROGRAM_H
+#pragma once
 
 #include "privileges.h"
 #include "ptpm.h"
@@ -32,5 +31,3 @@ bool end_run(struct run *run);
 
 /* Ends the run that is under way, if there is one, and the process. */
 void close_device_program(void);
-
-#endif

@@ -1,8 +1,7 @@
 /* What ptpm-clock keeps from the network of what its agent would send, and from its agent of what managers send. It limits how far
    messages are forwarded, which of them, and how many per second. So no message circulates forever, and a stranger that sends
    little can't cause much to be sent. Nor can anyone who claims to be a manager make the clock save without end. */
-#ifndef NETWORK_LIMITS_H
-#define NETWORK_LIMITS_H
+#pragma once
 
 #include "ports.h"
 #include "ptpm.h"
@@ -56,5 +55,3 @@ size_t keep_back(const struct heard *heard, uint32_t answer, const struct ptpm_s
                  const struct ptpm_sent *kept[TURN]);
 
 const struct kept_back *kept_back_so_far(void);
-
-#endif

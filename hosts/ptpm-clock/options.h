@@ -1,6 +1,5 @@
 /* The command line of ptpm-clock. */
-#ifndef OPTIONS_H
-#define OPTIONS_H
+#pragma once
 
 #include "network_limits.h"
 #include "peers.h"
@@ -46,5 +45,3 @@ size_t ports_of(const struct options *options);
 
 /* Reads it whole, or ends the program: with status 2 if something is wrong, which is said. */
 void read_options(struct options *options, int argc, char **argv);
-
-#endif

@@ -1,7 +1,6 @@
 /* Whether the ptp4l is mute: it hears no management messages from the network, so that only this agent answers them. A rule of the
    firewall diverts them (ptp4l_rules.h). Whether it does is found by what the ptp4l counts (PORT_STATS_NP). */
-#ifndef PTP4L_MUTE_H
-#define PTP4L_MUTE_H
+#pragma once
 
 #include "options.h"
 #include <stdbool.h>
@@ -22,5 +21,3 @@ bool is_probing(void);
 /* Whether the ptp4l has heard nothing until now. What waits at its ports it takes before what waits on its Unix socket. So if it has heard
    the request that is handled, it has counted that. */
 bool is_ptp4l_mute(void);
-
-#endif

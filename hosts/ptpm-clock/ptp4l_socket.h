@@ -1,8 +1,7 @@
 /* A ptp4l of this host (--ptp4l PATH), which is asked on its Unix socket. The socket here is connected, so it belongs to one life of the
    ptp4l. It hears no other process, and after the end of that life each send is refused. A ptp4l waits for a client that does not
    read its answers, and its servo waits too. So there is one GET at a time, and no event is subscribed to. */
-#ifndef PTP4L_SOCKET_H
-#define PTP4L_SOCKET_H
+#pragma once
 
 #include <stdbool.h>
 #include <stddef.h>
@@ -50,5 +49,3 @@ bool hear_ptp4l(uint16_t number, int64_t end, struct ptp4l_answer *answer);
 
 /* Takes all answers that have come in. */
 void take_answers(void);
-
-#endif

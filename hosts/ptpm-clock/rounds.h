@@ -1,7 +1,6 @@
 /* Datagrams in rounds: what has come in at a socket by now, up to 64 at once, and what goes out after a round. Nothing waits for a
    round to be full. */
-#ifndef ROUNDS_H
-#define ROUNDS_H
+#pragma once
 
 #include "ports.h"
 #include "ptpm.h"
@@ -64,5 +63,3 @@ void use_places(size_t count);
 
 /* Sends what is to go out. How many messages were dropped, since a socket didn't accept them at once. */
 unsigned long send_round(void);
-
-#endif

@@ -1,8 +1,7 @@
 /* The state of the clock in a file (-s FILE): its data sets, and what is kept for each manager. So a start continues where the
    clock was. What a turn changed is saved before any message leaves that shows it. Without a file nothing is saved, and everything
    leaves at once. */
-#ifndef SAVING_H
-#define SAVING_H
+#pragma once
 
 #include "options.h"
 #include "ptpm.h"
@@ -40,5 +39,3 @@ bool may_save(void);
 struct saves { unsigned long long made, failed, least, most, all; };
 
 const struct saves *saves_so_far(void);
-
-#endif

@@ -1,6 +1,5 @@
 /* Values of ids that the clock lacks, and its device gives (--give). The octets of a file are the dataField of the answer to a GET. */
-#ifndef VALUES_H
-#define VALUES_H
+#pragma once
 
 #include "options.h"
 #include "ptpm.h"
@@ -24,5 +23,3 @@ uint16_t port_asked(const struct heard *heard);
 
 /* After a turn with `value_to_give`: how many messages there are once each port whose value is given answers by itself. */
 size_t answer_from_ports(struct ptpm_clock *clock, const struct heard *heard, struct ptpm_sent *places, size_t count);
-
-#endif

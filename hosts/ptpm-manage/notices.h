@@ -1,6 +1,5 @@
 /* What ptpm-manage says on standard error: a line for each fault, and its progress if that is a terminal. And the status with which it ends. */
-#ifndef NOTICES_H
-#define NOTICES_H
+#pragma once
 
 /* The status with which the program ends. Those from LEFT_OPEN to HAS_CHANGES are of `plan` and what follows it. */
 enum status {
@@ -41,5 +40,3 @@ __attribute__((format(printf, 1, 2))) void log_progress(const char *format, ...)
 
 /* Takes that line away. It comes before what is printed otherwise. */
 void clear_progress(void);
-
-#endif

@@ -1,6 +1,5 @@
 /* The program `ptpm`, as a part of what this program does: it reads lines and prints what they show. Or it goes on, and both write and read. */
-#ifndef PTPM_PROGRAM_H
-#define PTPM_PROGRAM_H
+#pragma once
 
 #include <stdbool.h>
 #include <stddef.h>
@@ -38,5 +37,3 @@ int end_ptpm_program(struct running *running);
 
 /* Runs another program, without words. What it prints goes to standard error. Its status, or 1 if it did not end normally, which is said. */
 int run_check_program(const char *path);
-
-#endif

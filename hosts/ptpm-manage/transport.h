@@ -1,7 +1,6 @@
 /* The transport to the clocks that are asked, over UDP, over Ethernet or on a Unix socket: sockets, and where messages go from
    them. */
-#ifndef TRANSPORT_H
-#define TRANSPORT_H
+#pragma once
 
 #include "task.h"
 #include <stdbool.h>
@@ -96,5 +95,3 @@ bool came_from_asked(void);
 /* The identity that this host has at an interface by its hardware address: at the first, the second and so on. Whether there is
    one. */
 bool own_identity(size_t place, uint8_t identity[8]);
-
-#endif

@@ -1,6 +1,5 @@
 /* What holds in a test that is a program, and what doesn't: counted, and each failure reported. */
-#ifndef CHECKING_H
-#define CHECKING_H
+#pragma once
 
 #include <stdbool.h>
 #include <stdio.h>
@@ -21,5 +20,3 @@ static int print_checks(const char *name) {
     printf("%s: %u passed, %u failed\n", name, passed, failed);
     return failed > 0;
 }
-
-#endif

@@ -1,6 +1,5 @@
 /* A request is begun and goes out, and its answer comes in. And a GET by nobody, that is by no manager. */
-#ifndef EXCHANGE_H
-#define EXCHANGE_H
+#pragma once
 
 #include "answer.h"
 #include "task.h"
@@ -58,5 +57,3 @@ bool read_by_nobody(const struct task *task, uint16_t id, uint8_t attempts, stru
 
 /* Why the latest read had no way, after a colon and a space; empty if it had one. The text is there until the next call. */
 const char *why_unread(void);
-
-#endif

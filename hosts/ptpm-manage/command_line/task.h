@@ -1,6 +1,5 @@
 /* What a command line of ptpm-manage asks for. */
-#ifndef TASK_H
-#define TASK_H
+#pragma once
 
 #include "ptpm.h"
 #include <stdbool.h>
@@ -87,5 +86,3 @@ _Noreturn void print_help(void);
 
 /* Prints the version, and ends the program. */
 _Noreturn void print_version(void);
-
-#endif
