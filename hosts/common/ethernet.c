@@ -1,4 +1,3 @@
-#define _GNU_SOURCE
 #include "ethernet.h"
 #include "message_places.h"
 #include "socket_option.h"

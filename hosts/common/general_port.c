@@ -1,4 +1,3 @@
-#define _GNU_SOURCE
 #include "general_port.h"
 #include "message_places.h"
 #include "netlink.h"

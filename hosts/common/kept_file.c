@@ -1,4 +1,3 @@
-#define _GNU_SOURCE
 #include "kept_file.h"
 #include "program.h"
 #include <errno.h>

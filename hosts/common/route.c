@@ -1,4 +1,3 @@
-#define _GNU_SOURCE
 #include "route.h"
 #include "monotonic.h"
 #include <linux/neighbour.h>

@@ -1,4 +1,3 @@
-#define _GNU_SOURCE
 #include "agent.h"
 #include "askers.h"
 #include "counts.h"

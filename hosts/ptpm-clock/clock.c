@@ -5,7 +5,6 @@
    moves octets and prints. It also decides which datagrams reach the library, with how many hops, and which messages go out
    ("Decisions of the hosts" in docs/architecture.md). It waits for nobody: what a peer doesn't take in a moment is dropped, and a thread
    waits for the disk. */
-#define _GNU_SOURCE
 #include "agent.h"
 #include "counts.h"
 #include "device.h"

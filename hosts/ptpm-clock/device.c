@@ -1,4 +1,3 @@
-#define _GNU_SOURCE
 #include "device.h"
 #include "device_limits.h"
 #include "device_program.h"

@@ -1,4 +1,3 @@
-#define _GNU_SOURCE
 #include "device_limits.h"
 #include "message_places.h"
 #include "names.h"

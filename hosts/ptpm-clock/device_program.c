@@ -1,4 +1,3 @@
-#define _GNU_SOURCE
 #include "device_program.h"
 #include "field_text.h"
 #include "message_places.h"

@@ -1,4 +1,3 @@
-#define _GNU_SOURCE
 #include "network_limits.h"
 #include "message_places.h"
 #include "monotonic.h"

@@ -1,4 +1,3 @@
-#define _GNU_SOURCE
 #include "output.h"
 #include "monotonic.h"
 #include "program.h"

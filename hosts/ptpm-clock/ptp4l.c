@@ -1,4 +1,3 @@
-#define _GNU_SOURCE
 #include "ptp4l.h"
 #include "ptp4l_change.h"
 #include "ptp4l_check.h"

@@ -1,4 +1,3 @@
-#define _GNU_SOURCE
 #include "ptp4l_change.h"
 #include "device.h"
 #include "message_places.h"

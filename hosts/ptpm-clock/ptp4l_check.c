@@ -1,4 +1,3 @@
-#define _GNU_SOURCE
 #include "ptp4l_check.h"
 #include "message_places.h"
 #include "monotonic.h"

@@ -1,4 +1,3 @@
-#define _GNU_SOURCE
 #include "saving.h"
 #include "askers.h"
 #include "kept_file.h"

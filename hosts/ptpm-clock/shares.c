@@ -1,4 +1,3 @@
-#define _GNU_SOURCE
 #include "shares.h"
 #include "route.h"
 #include <string.h>

@@ -1,4 +1,3 @@
-#define _GNU_SOURCE
 #include "unicast.h"
 #include "general_port.h"
 #include "output.h"

@@ -1,4 +1,3 @@
-#define _GNU_SOURCE
 #include "notices.h"
 #include "program.h"
 #include <stdarg.h>

@@ -1,4 +1,3 @@
-#define _GNU_SOURCE
 #include "ptpm_program.h"
 #include "notices.h"
 #include "program.h"

@@ -1,4 +1,3 @@
-#define _GNU_SOURCE
 #include "transport.h"
 #include "domains.h"
 #include "ethernet.h"

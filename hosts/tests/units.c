@@ -2,7 +2,6 @@
    passed on, and its stops. They try where a message is in a frame, which sdoId it has, and what the image of a session says. They try
    the seal of a file, and TimeIntervals and JSON as texts. They try that a wait takes its time, and who is answered once a clock is saved.
    Prints what does not hold, and `units: N passed, M failed`. */
-#define _GNU_SOURCE
 #include "checking.h"
 #include "domains.h"
 #include "ethernet.h"

@@ -1,4 +1,3 @@
-#define _GNU_SOURCE
 #include "apply_report.h"
 #include "answer.h"
 #include "field_text.h"

@@ -1,4 +1,3 @@
-#define _GNU_SOURCE
 #include "journal.h"
 #include "kept_file.h"
 #include "names.h"

@@ -1,4 +1,3 @@
-#define _GNU_SOURCE
 #include "plan.h"
 #include "apply_report.h"
 #include "collect.h"

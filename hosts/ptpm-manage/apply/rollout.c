@@ -1,4 +1,3 @@
-#define _GNU_SOURCE
 #include "rollout.h"
 #include "answer.h"
 #include "apply_report.h"

@@ -1,4 +1,3 @@
-#define _GNU_SOURCE
 #include "domains.h"
 #include "collect.h"
 #include "heard.h"

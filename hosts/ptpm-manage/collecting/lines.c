@@ -1,4 +1,3 @@
-#define _GNU_SOURCE
 #include "lines.h"
 #include "monotonic.h"
 #include "transport.h"

@@ -1,4 +1,3 @@
-#define _GNU_SOURCE
 #include "clock_names.h"
 #include "notices.h"
 #include "program.h"

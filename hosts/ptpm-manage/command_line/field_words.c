@@ -1,4 +1,3 @@
-#define _GNU_SOURCE
 #include "field_words.h"
 #include "field_text.h"
 #include "notices.h"

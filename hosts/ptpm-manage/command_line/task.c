@@ -1,4 +1,3 @@
-#define _GNU_SOURCE
 #include "task.h"
 #include "apply_report.h"
 #include "clock_names.h"

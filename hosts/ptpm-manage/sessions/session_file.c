@@ -1,4 +1,3 @@
-#define _GNU_SOURCE
 #include "session_file.h"
 #include "marks.h"
 #include "monotonic.h"
