@@ -1,6 +1,5 @@
 #include "names.h"
 #include "ptpm.h"
-#include <stddef.h>
 #include <stdio.h>
 #include <string.h>
 

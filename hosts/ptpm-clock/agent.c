@@ -3,7 +3,6 @@
 #include "counts.h"
 #include "device.h"
 #include "field_text.h"
-#include "message_places.h"
 #include "names.h"
 #include "network_limits.h"
 #include "observation.h"
@@ -20,7 +19,6 @@
 #include <stddef.h>
 #include <stdio.h>
 #include <stdlib.h>
-#include <string.h>
 #include <sys/socket.h>
 #include <sys/un.h>
 #include <unistd.h>

@@ -3,7 +3,6 @@
    little can't cause much to be sent. Nor can anyone who claims to be a manager make the clock save without end. */
 #pragma once
 
-#include "ports.h"
 #include "ptpm.h"
 #include "rounds.h"
 #include <stdbool.h>

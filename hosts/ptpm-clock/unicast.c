@@ -4,7 +4,6 @@
 #include "program.h"
 #include <stdbool.h>
 #include <stdio.h>
-#include <unistd.h>
 
 /* The port itself, from which nothing is read while copies are heard: anyone who asks gets no ICMP message that nobody is there. */
 static int general = -1, copies = -1, packets = -1;

@@ -1,7 +1,6 @@
 #include "desk.h"
 #include "exchange.h"
 #include "monotonic.h"
-#include "names.h"
 #include "notices.h"
 #include "stopping.h"
 #include "transport.h"

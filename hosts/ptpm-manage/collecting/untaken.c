@@ -3,7 +3,6 @@
 #include "lines.h"
 #include "message_places.h"
 #include "monotonic.h"
-#include "names.h"
 #include "notices.h"
 #include "seen.h"
 #include "transport.h"

@@ -1,6 +1,5 @@
 #include "output.h"
 #include "notices.h"
-#include "program.h"
 #include <errno.h>
 #include <fcntl.h>
 #include <limits.h>

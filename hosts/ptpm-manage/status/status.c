@@ -13,7 +13,6 @@
 #include "text.h"
 #include "transport.h"
 #include "words.h"
-#include <errno.h>
 #include <libgen.h>
 #include <limits.h>
 #include <malloc.h>
