@@ -152,7 +152,7 @@ class Clock(Handle):
         changed, error = header.ptpm_changed(), ctypes.c_uint16()
         field = octets_of(octets)
         words = (action, id_of(named), port_number(port), field, len(field), ctypes.byref(changed), ctypes.byref(error))
-        if judged(self._call(library.ptpm_clock_set, *words)) == header.PTPM_SET_REFUSED:
+        if judged(self._call(library.ptpm_clock_set, *words)) == header.PTPM_REFUSED:
             raise ChangeRefused(error.value)
         return Changed.of_library(changed)
 
