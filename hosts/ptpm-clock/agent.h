@@ -6,7 +6,7 @@
 
 /* Starts it with a port for each interface, afresh or as the file of its state has it. Ends the program with status 1, and says
    why, if the library does not start it. */
-void start_clock(const struct options *given);
+void start_clock(void);
 
 /* It is saved, if it has a file of its state. What an earlier run may have asked its device for is looked for. */
 void save_clock(void);

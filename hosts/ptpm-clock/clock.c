@@ -34,7 +34,6 @@ enum { SECOND = 1000 };
 
 const char program[] = "ptpm-clock";
 
-static struct options options;
 static struct source observations;
 static int unix_socket = -1, owner_socket = -1, source = -1, signals, links, timer;
 
@@ -159,14 +158,14 @@ static void run(int64_t end) {
 
 static void open_all(void) {
     signals = open_signals();
-    transport = options.transport;
-    diverted_port = options.ptp4l != NULL ? options.diverted_port : 0;
+    transport = options->transport;
+    diverted_port = options->ptp4l != NULL ? options->diverted_port : 0;
     links = open_netlink();
     timer = open_timer();
-    for (size_t i = 0; i < options.interface_count; i++) open_port(options.interfaces[i]);
+    for (size_t i = 0; i < options->interface_count; i++) open_port(options->interfaces[i]);
     open_unicast();
-    if (options.meeting.path != NULL) unix_socket = open_peers(&options.meeting);
-    if (options.owner != NULL) owner_socket = open_owner(options.owner, options.meeting.group);
+    if (options->meeting.path != NULL) unix_socket = open_peers(&options->meeting);
+    if (options->owner != NULL) owner_socket = open_owner(options->owner, options->meeting.group);
     open_service();
 }
 
@@ -187,21 +186,20 @@ static void end_in_order(void) {
 
 int main(int argc, char **argv) {
     hold_streams();
-    read_options(&options, argc, argv);
-    if (options.device_program != NULL) open_device_program(options.device_program, options.device_seconds, &options.privileges);
-    start_clock(&options);
+    read_options(argc, argv);
+    if (options->device_program != NULL) open_device_program(options->device_program, options->device_seconds, &options->privileges);
+    start_clock();
     open_all();
     report_twin();
-    let_go_of_rights(&options.privileges, needs());
-    if (options.source != NULL) source = open_source(&observations, options.source);
-    start_device(&options);
-    start_values(&options);
+    let_go_of_rights(&options->privileges, needs());
+    if (options->source != NULL) source = open_source(&observations, options->source);
+    start_device();
     check_device_program();
-    start_limits(&options.limits);
-    filter_calls(&options.privileges);
+    start_limits(&options->limits);
+    filter_calls(&options->privileges);
     save_clock();
     start_output();
-    run(options.end);
+    run(options->end);
     end_in_order();
     return 0;
 }

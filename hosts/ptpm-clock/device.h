@@ -12,7 +12,7 @@
 extern bool has_device;
 
 /* Reads the limits, if there is a file of them. Ends the program with status 2 if something is wrong with it, which is said. */
-void start_device(const struct options *given);
+void start_device(void);
 
 /* What is to be polled for the limits; -1 if there is nothing. */
 int limits_event(void);

@@ -10,7 +10,7 @@
 extern bool has_ptp4l;
 
 /* Starts it for a clock in this domain. Ends the program with status 2 if the ptp4l has other ports than the command line. */
-void start_ptp4l(const struct options *given, uint8_t domain);
+void start_ptp4l(uint8_t domain);
 
 /* Sees to what is to be done by that time; in how many milliseconds there is more. */
 int64_t watch_ptp4l(int64_t now);

@@ -8,8 +8,6 @@
 #include <stdbool.h>
 #include <stdint.h>
 
-void start_changes(const struct options *given);
-
 /* Whether the ptp4l may be asked for a change. It is not to be asked if `say` says it all. Or it can't be asked yet, or not at all. */
 enum judged { MAY_BE_ASKED, IS_SAID, IS_TOO_EARLY, IS_LOST };
 enum judged judge_change(const struct ptpm_question *asked, const struct ptpm_say **say);

@@ -10,12 +10,9 @@
 /* The members of DEFAULT_DATA_SET and PORT_PROPERTIES_NP that are compared: a number or an identity, and a text. */
 enum { NUMBER_PORTS_AT = 2, IDENTITY_AT = 10, DEFAULT_OCTETS = 20, PORT_PROPERTIES_NP = 0xc004, NAME_SIZE_AT = 12, NAME_AT = 13 };
 
-static const struct options *options;
 static unsigned life;                   /* the one that the verdict is about */
 static enum found verdict;
 static bool is_told_closed, is_told_silent;
-
-void start_check(const struct options *given) { options = given; }
 
 /* Any clock has to answer, so that one with another identity shows itself. */
 static bool ask_any(uint16_t id, uint16_t *number) {
@@ -33,14 +30,14 @@ static enum found judge_clock(void) {
             identity_text(options->settings.identity));
         return IS_ANOTHER_CLOCK;
     }
-    if (ports_found == ports_of(options)) return IS_OURS;
-    say("%s: the ptp4l has %zu port%s, and not %zu", options->ptp4l, ports_found, ports_found == 1 ? "" : "s", ports_of(options));
+    if (ports_found == clock_ports()) return IS_OURS;
+    say("%s: the ptp4l has %zu port%s, and not %zu", options->ptp4l, ports_found, ports_found == 1 ? "" : "s", clock_ports());
     return HAS_OTHER_PORTS;
 }
 
 static enum found judge_port(const struct ptp4l_answer *answer) {
     size_t size = answer->size > NAME_SIZE_AT ? answer->field[NAME_SIZE_AT] : 0;
-    if (answer->port == 0 || answer->port > ports_of(options) || NAME_AT + size > answer->size) return IS_SILENT;
+    if (answer->port == 0 || answer->port > clock_ports() || NAME_AT + size > answer->size) return IS_SILENT;
     const char *name = (const char *)answer->field + NAME_AT, *given = options->interfaces[answer->port - 1];
     if (strlen(given) == size && memcmp(name, given, size) == 0) return IS_OURS;
     say("%s: port %u of the ptp4l is at %.*s, and not at %s", options->ptp4l, answer->port, (int)size, name, given);
@@ -53,7 +50,7 @@ static enum found judge_ports(void) {
     int64_t end = milliseconds() + PTP4L_PATIENCE;
     uint16_t number;
     if (!ask_any(PORT_PROPERTIES_NP, &number)) return IS_SILENT;
-    for (size_t i = 0; i < ports_of(options); i++) {
+    for (size_t i = 0; i < clock_ports(); i++) {
         if (!hear_ptp4l(number, end, &answer)) return IS_SILENT;
         enum found one = judge_port(&answer);
         if (one != IS_OURS) found = one;

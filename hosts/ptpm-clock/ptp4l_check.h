@@ -5,8 +5,6 @@
 #include "options.h"
 #include <stdbool.h>
 
-void start_check(const struct options *given);
-
 /* What is at the path. If it is not the right one, standard error says why, once for each reason. */
 enum found { IS_NOT_THERE, IS_CLOSED, IS_SILENT, IS_ANOTHER_CLOCK, HAS_OTHER_PORTS, IS_OURS };
 enum found find_ptp4l(void);

@@ -14,17 +14,10 @@ enum { SETTLING = 100, WHILE_MUTE = 60000, WHILE_HEARD = 2000 };
 /* The dataField of PORT_STATS_NP is a portIdentity and 64-bit counts of what was received, of each messageType, the least octet first. */
 enum { PORT_STATS_NP = 0xc005, COUNT_AT = PORT_IDENTITY + 8 * MANAGEMENT_TYPE, COUNT = 8 };
 
-static const struct options *options;
-static uint8_t domain;
 static unsigned probed_life;
 static uint64_t counts[PORTS];          /* as they were last */
 static int64_t due;
 static bool is_sent, is_mute, is_told;
-
-void start_mute(const struct options *given, uint8_t of_clock) {
-    options = given;
-    domain = of_clock;
-}
 
 static uint64_t count_in(const struct ptp4l_answer *answer) {
     uint64_t count = 0;
@@ -38,9 +31,9 @@ static bool read_counts(uint64_t heard[PORTS]) {
     int64_t end = milliseconds() + PTP4L_PATIENCE;
     uint16_t number;
     if (!get_from_ptp4l(PORT_STATS_NP, EVERY_PORT, &number)) return false;
-    for (size_t i = 0; i < ports_of(options); i++) {
+    for (size_t i = 0; i < clock_ports(); i++) {
         if (!hear_ptp4l(number, end, &answer)) return false;
-        if (answer.size < COUNT_AT + COUNT || answer.port == 0 || answer.port > ports_of(options)) return false;
+        if (answer.size < COUNT_AT + COUNT || answer.port == 0 || answer.port > clock_ports()) return false;
         heard[answer.port - 1] = count_in(&answer);
     }
     return true;
@@ -49,7 +42,7 @@ static bool read_counts(uint64_t heard[PORTS]) {
 /* Which port has heard something since its count was read; how many ports there are if none has. */
 static size_t port_that_heard(const uint64_t now[PORTS]) {
     size_t port = 0;
-    while (port < ports_of(options) && now[port] == counts[port]) port++;
+    while (port < clock_ports() && now[port] == counts[port]) port++;
     return port;
 }
 
@@ -60,7 +53,7 @@ static enum compared compare_counts(void) {
     if (!read_counts(now) || ptp4l_life() != probed_life) return NOT_KNOWN;
     size_t port = port_that_heard(now);
     memcpy(counts, now, sizeof counts);
-    if (port == ports_of(options)) return ARE_SAME;
+    if (port == clock_ports()) return ARE_SAME;
     if (!is_told) {
         say("the ptp4l still hears management messages at %s, and no change is taken: nft list table inet ptpm shows whether they are diverted",
             options->interfaces[port]);
@@ -72,7 +65,7 @@ static enum compared compare_counts(void) {
 /* A GET of no clock, by nobody, with no hops. Its TTL is 0, so only this host hears it. */
 static void send_probe_at(const struct port *port) {
     static const uint8_t nobody[PORT_IDENTITY] = { 0xff, 0xfe, 0xff, 0xfe, 0xff, 0xfe, 0xff, 0xfe, 0xff, 0xfe };
-    uint8_t octets[LEAST_MESSAGE] = { [TYPE_AT] = MANAGEMENT_TYPE, [VERSION_AT] = 2, [LENGTH_AT + 1] = LEAST_MESSAGE, [DOMAIN_AT] = domain,
+    uint8_t octets[LEAST_MESSAGE] = { [TYPE_AT] = MANAGEMENT_TYPE, [VERSION_AT] = 2, [LENGTH_AT + 1] = LEAST_MESSAGE, [DOMAIN_AT] = ptp4l_domain(),
                                       [32] = 4, [INTERVAL_AT] = 0x7f, [TLV_AT + 1] = 1, [TLV_AT + 3] = 2 };
     bool is_six = transport == UDP_IPV6;
     struct sockaddr_storage to;

@@ -6,8 +6,6 @@
 #include <stdbool.h>
 #include <stdint.h>
 
-void start_mute(const struct options *given, uint8_t domain);
-
 /* Probes it: at each of its starts, each minute, and every two seconds while it is not mute. A probe is a message to the group that does
    not leave this host. */
 void watch_mute(int64_t now);

@@ -32,6 +32,8 @@ void open_ptp4l(const char *path, uint8_t given, ptp4l_taker *taker) {
     latest = (uint16_t)milliseconds();
 }
 
+uint8_t ptp4l_domain(void) { return domain; }
+
 int ptp4l_socket(void) { return connected; }
 
 unsigned ptp4l_life(void) { return lives; }
@@ -99,8 +101,9 @@ static bool read_answer(const uint8_t *octets, size_t size, struct ptp4l_answer 
     bool is_error = number_at(octets + TLV_AT) == ERROR_TLV;
     if (is_error && size < FIELD_AT + 2) return false;
     *answer = (struct ptp4l_answer){
-        .port = number_at(octets + SOURCE_PORT_AT), .number = number_at(octets + SEQUENCE_AT), .id = number_at(octets + (is_error ? FIELD_AT : ID_AT)),
-        .error = is_error ? number_at(octets + ID_AT) : 0, .field = octets + FIELD_AT, .size = is_error ? 0 : size - FIELD_AT,
+        .port = number_at(octets + SOURCE_PORT_AT), .number = number_at(octets + SEQUENCE_AT),
+        .id = number_at(octets + (is_error ? FIELD_AT : ID_AT)), .error = is_error ? number_at(octets + ID_AT) : 0,
+        .field = octets + FIELD_AT, .size = is_error ? 0 : size - FIELD_AT,
     };
     return true;
 }

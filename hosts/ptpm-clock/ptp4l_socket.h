@@ -25,6 +25,9 @@ typedef void ptp4l_taker(const struct ptp4l_answer *answer);
 /* From now on the ptp4l at this path is asked, in this domain. */
 void open_ptp4l(const char *path, uint8_t domain, ptp4l_taker *taker);
 
+/* That domain. */
+uint8_t ptp4l_domain(void);
+
 /* What is to be polled; -1 while there is no ptp4l. */
 int ptp4l_socket(void);
 

@@ -7,8 +7,7 @@
 #include "rounds.h"
 #include <stdbool.h>
 
-/* The values are those of the clock in this domain. */
-void start_ptp4l_values(const struct options *given, uint8_t domain);
+void start_ptp4l_values(void);
 
 /* What was learned for a datagram. */
 struct learned {

@@ -10,7 +10,7 @@
 /* Takes the file only for this program, and reads it: whether there was one, so that its clock is in the handle. Ends the
    program with status 1, and says why, if the library refuses what the file has. It does so with status 2 if the file is a link
    or no file, is another program's, or can't be read or written. What the file has stays then. */
-bool restore_clock(struct ptpm_clock *clock, const struct options *options);
+bool restore_clock(struct ptpm_clock *clock);
 
 /* Has the clock keep its messages until it is saved, and saves it once, with the rights that the program keeps. Ends the program with
    status 2 if it can't. Does nothing without a file. */

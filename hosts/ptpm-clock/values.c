@@ -10,19 +10,11 @@
 
 enum { TARGET_PORT_AT = TARGET_AT + CLOCK_IDENTITY };
 
-bool has_values;
-
-static const struct options *options;
 static bool is_told[VALUES];            /* that the file of this value has none */
 
 /* What the device says of the latest GET: of the clock (port 0), or of each port that answers. */
 static struct { uint16_t port; struct ptpm_say say; } said[PORTS];
 static size_t said_count;
-
-void start_values(const struct options *given) {
-    options = given;
-    has_values = given->value_count > 0;
-}
 
 /* Whether a datagram is a GET of this value. */
 static bool is_asked(const struct heard *heard, const struct value *value) {

@@ -7,11 +7,6 @@
 #include <stdbool.h>
 #include <stdint.h>
 
-/* Whether there are any. Each turn looks at it, so it is not a call. */
-extern bool has_values;
-
-void start_values(const struct options *given);
-
 /* What the device says of a datagram that came in at this clock. That is the value that it is asked for, as its file has
    it now, or the first of these. NULL if it says nothing. A file without a value is said once. What is returned stays until the
    next call. */
