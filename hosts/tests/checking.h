@@ -7,12 +7,8 @@
 static unsigned passed, failed;
 
 static void check(bool holds, const char *what) {
-    if (holds) {
-        passed++;
-        return;
-    }
-    failed++;
-    printf("failed: %s\n", what);
+    if (holds) passed++;
+    else failed++, printf("failed: %s\n", what);
 }
 
 /* The last line of a test, and its status. */
