@@ -187,7 +187,7 @@ static void end_in_order(void) {
 int main(int argc, char **argv) {
     hold_streams();
     read_options(argc, argv);
-    if (options->device_program != NULL) open_device_program(options->device_program, options->device_seconds, &options->privileges);
+    if (options->device_program != NULL) open_device_program();
     start_clock();
     open_all();
     report_twin();

@@ -3,7 +3,6 @@
    and may make other calls than the clock. */
 #pragma once
 
-#include "privileges.h"
 #include "ptpm.h"
 #include <stdbool.h>
 
@@ -13,9 +12,9 @@ enum run_end { RUN_EXITED, RUN_KILLED, RUN_TOOK_TOO_LONG, RUN_NOT_STARTED, RUN_B
 
 struct run { enum run_end end; int number; };
 
-/* Makes the process, which becomes the user of the clock and keeps no capability. A run takes `seconds` at most. Ends the program
+/* Makes the process, which becomes the user of the clock and keeps no capability. A run takes the seconds of --ask-time at most. Ends the program
    with status 2 if that can't be had. Comes before anything is opened. */
-void open_device_program(const char *path, long seconds, const struct privileges *privileges);
+void open_device_program(void);
 
 /* Sees that the program is there, with the rights that the clock keeps. If not, ends the clock with status 2. */
 void check_device_program(void);
