@@ -13,7 +13,6 @@
 #include <linux/sock_diag.h>
 #include <net/if_arp.h>
 #include <netinet/udp.h>
-#include <stddef.h>
 #include <string.h>
 #include <sys/stat.h>
 #include <unistd.h>

@@ -5,7 +5,6 @@
 #include <linux/rtnetlink.h>
 #include <netinet/in.h>
 #include <stddef.h>
-#include <stdint.h>
 #include <string.h>
 #include <unistd.h>
 

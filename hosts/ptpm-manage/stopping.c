@@ -4,7 +4,6 @@
 #include "stopping.h"
 #include <errno.h>
 #include <limits.h>
-#include <poll.h>
 #include <stdbool.h>
 #include <stdio.h>
 #include <time.h>

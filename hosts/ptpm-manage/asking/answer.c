@@ -5,8 +5,6 @@
 #include "text.h"
 #include "words.h"
 #include <inttypes.h>
-#include <stdbool.h>
-#include <stdio.h>
 #include <stdlib.h>
 #include <string.h>
 

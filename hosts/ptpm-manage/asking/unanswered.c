@@ -9,7 +9,6 @@
 #include "stopping.h"
 #include "transport.h"
 #include "words.h"
-#include <stdbool.h>
 #include <string.h>
 
 /* How often nobody asks. */

@@ -3,7 +3,6 @@
 #include "transport.h"
 #include "words.h"
 #include <inttypes.h>
-#include <stdbool.h>
 #include <sys/timex.h>
 
 enum { SECOND = 1000000000 };

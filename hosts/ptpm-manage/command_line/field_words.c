@@ -2,7 +2,6 @@
 #include "field_text.h"
 #include "notices.h"
 #include "program.h"
-#include <stdbool.h>
 #include <stdio.h>
 #include <stdlib.h>
 #include <string.h>

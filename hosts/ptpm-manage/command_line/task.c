@@ -7,13 +7,11 @@
 #include "names.h"
 #include "notices.h"
 #include "program.h"
-#include "ptpm.h"
 #include "words.h"
 #include <errno.h>
 #include <getopt.h>
 #include <inttypes.h>
 #include <net/if.h>
-#include <stdbool.h>
 #include <stdio.h>
 #include <stdlib.h>
 #include <string.h>

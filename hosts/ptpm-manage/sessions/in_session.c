@@ -1,5 +1,4 @@
 #include "in_session.h"
-#include "answer.h"
 #include "driving.h"
 #include "monotonic.h"
 #include "notices.h"

@@ -1,5 +1,4 @@
 #include "session.h"
-#include "answer.h"
 #include "exchange.h"
 #include "message_places.h"
 #include "names.h"
