@@ -20,6 +20,10 @@ static inline bool set_option(int socket, int level, int option, const void *val
     return setsockopt(socket, level, option, value, (socklen_t)size) == 0;
 }
 
+static inline bool set_number(int socket, int level, int option, int value) {
+    return setsockopt(socket, level, option, &value, sizeof value) == 0;
+}
+
 /* The last steps of a filter that has loaded the octet with the messageType: management messages are let in, and nothing else. */
 #define LETS_IN_MANAGEMENT \
     BPF_STMT(BPF_ALU | BPF_AND | BPF_K, LOWER_HALF), \
@@ -28,11 +32,12 @@ static inline bool set_option(int socket, int level, int option, const void *val
     BPF_STMT(BPF_RET | BPF_K, 65535)
 
 /* Has a socket hear only what a filter of this many steps lets in, or all if it is NULL. Whether it does. */
+#define SET_FILTER(socket, filter) set_filter(socket, filter, sizeof(filter) / sizeof *(filter))
+
 static inline bool set_filter(int socket, const struct sock_filter *filter, size_t count) {
     const struct sock_fprog whole = { .len = (unsigned short)count, .filter = (struct sock_filter *)filter };
-    const int none = 0;
     return filter != NULL ? setsockopt(socket, SOL_SOCKET, SO_ATTACH_FILTER, &whole, sizeof whole) == 0
-                          : setsockopt(socket, SOL_SOCKET, SO_DETACH_FILTER, &none, sizeof none) == 0;
+                          : set_number(socket, SOL_SOCKET, SO_DETACH_FILTER, 0);
 }
 
 /* Closes a socket that was refused something, and leaves errno as it says why; -1. */

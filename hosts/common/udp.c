@@ -40,9 +40,7 @@ bool filter_udp(int socket, bool is_management_alone) {
 }
 
 bool tell_ttl(int socket, bool is_six) {
-    const int one = 1;
-    return (is_six ? setsockopt(socket, IPPROTO_IPV6, IPV6_RECVHOPLIMIT, &one, sizeof one)
-                   : setsockopt(socket, IPPROTO_IP, IP_RECVTTL, &one, sizeof one)) == 0;
+    return is_six ? set_number(socket, IPPROTO_IPV6, IPV6_RECVHOPLIMIT, 1) : set_number(socket, IPPROTO_IP, IP_RECVTTL, 1);
 }
 
 int ttl_in(struct msghdr *head) {

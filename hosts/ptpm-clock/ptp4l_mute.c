@@ -4,6 +4,7 @@
 #include "output.h"
 #include "ptp4l_check.h"
 #include "ptp4l_socket.h"
+#include "socket_option.h"
 #include "udp.h"
 #include <string.h>
 #include <unistd.h>
@@ -69,16 +70,15 @@ static void send_probe_at(const struct port *port) {
                                       [32] = 4, [INTERVAL_AT] = 0x7f, [TLV_AT + 1] = 1, [TLV_AT + 3] = 2 };
     bool is_six = transport == UDP_IPV6;
     struct sockaddr_storage to;
-    const int index = (int)port->index, none = 0;
-    const struct ip_mreqn way = { .imr_ifindex = index };
+    const struct ip_mreqn way = { .imr_ifindex = (int)port->index };
     memcpy(octets + SOURCE_AT, nobody, sizeof nobody);
     memcpy(octets + TARGET_AT, nobody, sizeof nobody);
     int from = socket(is_six ? AF_INET6 : AF_INET, SOCK_DGRAM | SOCK_CLOEXEC, 0);
     if (from < 0) return;
-    bool is_set = is_six ? setsockopt(from, IPPROTO_IPV6, IPV6_MULTICAST_IF, &index, sizeof index) == 0
-                               && setsockopt(from, IPPROTO_IPV6, IPV6_MULTICAST_HOPS, &none, sizeof none) == 0
+    bool is_set = is_six ? set_number(from, IPPROTO_IPV6, IPV6_MULTICAST_IF, (int)port->index)
+                               && set_number(from, IPPROTO_IPV6, IPV6_MULTICAST_HOPS, 0)
                          : setsockopt(from, IPPROTO_IP, IP_MULTICAST_IF, &way, sizeof way) == 0
-                               && setsockopt(from, IPPROTO_IP, IP_MULTICAST_TTL, &none, sizeof none) == 0;
+                               && set_number(from, IPPROTO_IP, IP_MULTICAST_TTL, 0);
     if (is_set) sendto(from, octets, sizeof octets, MSG_DONTWAIT, (struct sockaddr *)&to, group(&to, is_six));
     close(from);
 }

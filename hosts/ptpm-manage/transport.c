@@ -296,9 +296,7 @@ void open_transport(const struct task *task) {
 }
 
 static void widen(int socket) {
-    const int wanted = ROOM_FOR_MANY;
-    if (setsockopt(socket, SOL_SOCKET, SO_RCVBUFFORCE, &wanted, sizeof wanted) == 0) return;
-    setsockopt(socket, SOL_SOCKET, SO_RCVBUF, &wanted, sizeof wanted);
+    if (!set_number(socket, SOL_SOCKET, SO_RCVBUFFORCE, ROOM_FOR_MANY)) set_number(socket, SOL_SOCKET, SO_RCVBUF, ROOM_FOR_MANY);
 }
 
 void widen_transport(void) {
