@@ -21,18 +21,6 @@ static struct {
     size_t used, waiting_count;
 } box;
 
-static void take_control(struct heard *heard, struct msghdr *head) {
-    for (struct cmsghdr *one = CMSG_FIRSTHDR(head); one != NULL; one = CMSG_NXTHDR(head, one)) {
-        if (one->cmsg_level == IPPROTO_IP && one->cmsg_type == IP_PKTINFO) {
-            memcpy(&heard->own_four, CMSG_DATA(one), sizeof heard->own_four);
-            heard->is_unicast = heard->own_four.ipi_addr.s_addr == heard->own_four.ipi_spec_dst.s_addr;
-        } else if (one->cmsg_level == IPPROTO_IPV6 && one->cmsg_type == IPV6_PKTINFO) {
-            memcpy(&heard->own_six, CMSG_DATA(one), sizeof heard->own_six);
-            heard->is_unicast = !IN6_IS_ADDR_MULTICAST(&heard->own_six.ipi6_addr);
-        }
-    }
-}
-
 /* Finds the message of a frame; whether there is one. */
 static bool take_frame(struct heard *heard, const struct port *port) {
     size_t place = message_in(heard->octets, heard->size, port->station);
@@ -96,11 +84,13 @@ static bool is_to_group(const struct heard *heard) {
 }
 
 static bool take_of_host(struct heard *heard, const struct port *none, struct mmsghdr *message) {
+    struct reported reported = reported_in(&message->msg_hdr);
     take_head(heard, none, message);
-    heard->own_four = (struct in_pktinfo){ 0 };
-    heard->own_six = (struct in6_pktinfo){ 0 };
-    take_control(heard, &message->msg_hdr);
-    heard->ttl = ttl_in(&message->msg_hdr);
+    heard->own_four = reported.four;
+    heard->own_six = reported.six;
+    heard->ttl = reported.ttl;
+    heard->is_unicast = transport == UDP_IPV6 ? !IN6_IS_ADDR_MULTICAST(&heard->own_six.ipi6_addr)
+                                              : heard->own_four.ipi_addr.s_addr == heard->own_four.ipi_spec_dst.s_addr;
     take_inner_address(heard);
     if (heard->sender.any.sa_family != (transport == UDP_IPV6 ? AF_INET6 : AF_INET)) return false;
     heard->port = port_at(transport == UDP_IPV6 ? heard->own_six.ipi6_ifindex : (unsigned)heard->own_four.ipi_ifindex);

@@ -448,20 +448,6 @@ static bool next_arrival(struct arrival *arrival, int64_t wait) {
 /* Who sent a datagram, and the index of the interface at which it came in, and its TTL, if the kernel was to report them. */
 struct place { struct sockaddr_storage sender; unsigned index; int ttl; };
 
-static void take_index(struct place *from, struct msghdr *head) {
-    struct in_pktinfo four;
-    struct in6_pktinfo six;
-    for (struct cmsghdr *one = CMSG_FIRSTHDR(head); one != NULL; one = CMSG_NXTHDR(head, one)) {
-        if (one->cmsg_level == IPPROTO_IP && one->cmsg_type == IP_PKTINFO) {
-            memcpy(&four, CMSG_DATA(one), sizeof four);
-            from->index = (unsigned)four.ipi_ifindex;
-        } else if (one->cmsg_level == IPPROTO_IPV6 && one->cmsg_type == IPV6_PKTINFO) {
-            memcpy(&six, CMSG_DATA(one), sizeof six);
-            from->index = six.ipi6_ifindex;
-        }
-    }
-}
-
 static ssize_t receive_from(int socket, uint8_t *octets, size_t most, struct place *from) {
     _Alignas(struct cmsghdr) char control[CMSG_SPACE(sizeof(struct in6_pktinfo)) + CMSG_SPACE(sizeof(int))];
     struct iovec part = { octets, most };
@@ -472,8 +458,9 @@ static ssize_t receive_from(int socket, uint8_t *octets, size_t most, struct pla
     *from = (struct place){ .index = 0 };
     ssize_t found = recvmsg(socket, &head, MSG_DONTWAIT);
     if (found < 0) return found;
-    take_index(from, &head);
-    from->ttl = ttl_in(&head);
+    struct reported reported = reported_in(&head);
+    from->index = is_six ? reported.six.ipi6_ifindex : (unsigned)reported.four.ipi_ifindex;
+    from->ttl = reported.ttl;
     return found;
 }
 
