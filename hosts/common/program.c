@@ -22,6 +22,11 @@ _Noreturn void end_program(const char *what, const char *why) {
 
 _Noreturn void give_up(const char *what) { end_program(what, strerror(errno)); }
 
+void *needed(void *asked, const char *what) {
+    if (asked == NULL) give_up(what);
+    return asked;
+}
+
 void close_quietly(int file) {
     int failure = errno;
     if (file >= 0) close(file);

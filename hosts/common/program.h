@@ -8,6 +8,9 @@ extern const char program[];
 _Noreturn void end_program(const char *what, const char *why);
 _Noreturn void give_up(const char *what);
 
+/* The memory, or the stream, that was asked for. If there is none, `give_up` says for what. */
+void *needed(void *asked, const char *what);
+
 /* From now on that has another status, and what went wrong is also passed on there. */
 void end_otherwise(int status, void (*say)(const char *what, const char *why));
 

@@ -14,8 +14,8 @@ enum { FULL_TTL = 255 };
 /* Has the kernel report the TTL of each datagram that comes in at a socket; whether it does. */
 bool tell_ttl(int socket, bool is_six);
 
-/* What the kernel was to report of a datagram, 0 if it does not: the address that it was sent to and the interface at which it came in, over
-   IPv4 or IPv6, and its TTL. */
+/* What the kernel was to report of a datagram, 0 if it does not. That is the address that it was sent to, the interface at which it came in,
+   over IPv4 or IPv6, and its TTL. */
 struct reported { struct in_pktinfo four; struct in6_pktinfo six; int ttl; };
 struct reported reported_in(struct msghdr *head);
 

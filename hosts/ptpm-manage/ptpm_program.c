@@ -82,8 +82,7 @@ static bool start_program(pid_t *process, char *const *arguments, const struct e
 static void make_room(struct printed *printed) {
     if (printed->room - printed->size > PART) return;
     printed->room += 2 * PART + printed->room / 2;
-    printed->text = realloc(printed->text, printed->room);
-    if (printed->text == NULL) give_up("what the program ptpm prints");
+    printed->text = needed(realloc(printed->text, printed->room), "what the program ptpm prints");
 }
 
 bool read_printed(int from, struct printed *printed) {

@@ -22,7 +22,7 @@ struct given { const struct piece *lines, *beside; };
    normally, which is said. */
 int run_ptpm_program(char **arguments, const struct given *given, struct printed *printed);
 
-/* Waits until a program has printed more there, and reads some of it; whether it has, before its end or a signal that asks this program to
+/* Waits until a program has printed more there, and reads some of it. Whether it has, before its end, or before a signal asks this program to
    end. */
 bool read_printed(int from, struct printed *printed);
 

@@ -85,8 +85,7 @@ static void write_step_line(FILE *to, const struct journal *journal, size_t plac
 void say_step(const struct journal *journal, long place) {
     char *text = NULL;
     size_t size;
-    FILE *to = open_memstream(&text, &size);
-    if (to == NULL) give_up("a notice");
+    FILE *to = needed(open_memstream(&text, &size), "a notice");
     write_step_line(to, journal, (size_t)place);
     if (fclose(to)) give_up("a notice");
     log_progress("step %s", text);

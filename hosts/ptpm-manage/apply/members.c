@@ -15,8 +15,7 @@
 static char *describe_member(const struct step *step, const struct answer *answer, const struct value *wanted) {
     char *text = NULL;
     size_t size;
-    FILE *to = open_memstream(&text, &size);
-    if (to == NULL) give_up("a notice");
+    FILE *to = needed(open_memstream(&text, &size), "a notice");
     write_member_name(to, step);
     if (answer != NULL) {
         fputs(" is ", to);

@@ -92,8 +92,7 @@ static int ask_clocks(const struct task *task, const struct collected *what, con
     survey = *task;
     survey.settings.port = port_of_nobody(PTPM_GET);
     *lines = (struct printed){ 0 };
-    FILE *to = open_memstream(&lines->text, &lines->size);
-    if (to == NULL) give_up("the answers");
+    FILE *to = needed(open_memstream(&lines->text, &lines->size), "the answers");
     int status = what->count == 0 ? ANSWERED : collect_answers(&survey, what, domains, to);
     bool is_whole = !ferror(to);
     if (fclose(to) != 0 || !is_whole) give_up("the answers");
@@ -134,8 +133,7 @@ static void read_steps(struct plan *plan) {
     end[1] = '\0';
     plan->text.size = (size_t)(end + 1 - plan->text.text);
     for (char *line = strtok_r(end + 2, "\n", &rest); line != NULL; line = strtok_r(NULL, "\n", &rest)) {
-        plan->steps = reallocarray(plan->steps, plan->count + 1, sizeof *plan->steps);
-        if (plan->steps == NULL) give_up("the steps");
+        plan->steps = needed(reallocarray(plan->steps, plan->count + 1, sizeof *plan->steps), "the steps");
         if (!take_step(&plan->steps[plan->count], line, plan->count + 1)) refuse("nothing was sent: ptpm plan --steps prints %s", line);
         plan->count++;
     }
@@ -362,8 +360,7 @@ static int end_probe(struct plan *plan, const struct probe *probe, const struct 
 int probe_clocks(struct plan *plan, const struct task *task) {
     int status = ANSWERED;
     size_t count = 0;
-    struct probe *probes = calloc(plan->count + 1, sizeof *probes);
-    if (probes == NULL) give_up("the probes");
+    struct probe *probes = needed(calloc(plan->count + 1, sizeof *probes), "the probes");
     if (plan->count > 0) state_folder();
     for (const struct step *first = NULL; (first = next_clock(plan->steps, plan->count, first)) != NULL;) {
         take_probe(&probes[count++], task, first, PTPM_ID_NULL_PTP_MANAGEMENT, port_of(plan, first));
@@ -407,8 +404,7 @@ static int end_standing(const struct probe *probe, const struct task *task, cons
 int probe_steps(const struct plan *plan, const struct task *task) {
     int status = ANSWERED;
     size_t refused = 0;
-    struct probe *probes = calloc(plan->count + 1, sizeof *probes);
-    if (probes == NULL) give_up("the probes");
+    struct probe *probes = needed(calloc(plan->count + 1, sizeof *probes), "the probes");
     if (plan->count > 0) state_folder();
     for (const struct step *first = NULL; (first = next_clock(plan->steps, plan->count, first)) != NULL;) {
         take_standing(&probes[first - plan->steps], task, first);

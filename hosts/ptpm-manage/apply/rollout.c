@@ -27,10 +27,9 @@ static struct desk *desk_of(const struct step *step) {
 }
 
 static void take_session(const struct task *task, const struct step *first) {
-    struct desk **more = reallocarray(desks, desk_count + 1, sizeof *desks), *desk = malloc(sizeof *desk);
-    if (more == NULL || desk == NULL) give_up("the sessions");
+    struct desk *desk = needed(malloc(sizeof *desk), "the sessions");
     open_desk(desk, task, first);
-    desks = more;
+    desks = needed(reallocarray(desks, desk_count + 1, sizeof *desks), "the sessions");
     desks[desk_count++] = desk;
 }
 

@@ -138,8 +138,7 @@ bool keep_heard(const uint8_t *datagram, size_t size) {
     kept->at = nanoseconds();
     kept->is_written = false;
     kept->size = length_of(datagram);
-    kept->message = realloc(kept->message, kept->size);
-    if (kept->message == NULL) give_up("what is heard");
+    kept->message = needed(realloc(kept->message, kept->size), "what is heard");
     memcpy(kept->message, datagram, kept->size);
     memcpy(kept->clock, datagram + SOURCE_AT, sizeof kept->clock);
     snprintf(kept->from, sizeof kept->from, "%s", sender_text());

@@ -237,8 +237,7 @@ static void judge_expected(struct task *task) {
 static void read_limits(struct plan_options *plan, const char *text) {
     for (const char *at = text, *end; at != NULL; at = *end == '\0' ? NULL : end + 1) {
         end = strchrnul(at, ',');
-        plan->limits = reallocarray(plan->limits, plan->limit_count + 1, sizeof *plan->limits);
-        if (plan->limits == NULL) give_up("the options");
+        plan->limits = needed(reallocarray(plan->limits, plan->limit_count + 1, sizeof *plan->limits), "the options");
         if (!ptpm_identity_parse(at, (size_t)(end - at), plan->limits[plan->limit_count++])) {
             refuse("--limit %s: it takes identities such as aabbccfffeddee01, with commas between them", text);
         }

@@ -164,8 +164,7 @@ int ask_in_session(const struct task *task) {
 }
 
 struct run *take_run(const struct task *task, reporting *report) {
-    struct run *run = malloc(sizeof *run);
-    if (run == NULL) give_up("a session");
+    struct run *run = needed(malloc(sizeof *run), "a session");
     open_run(run, task, report);
     if (!run->session.has_file) run->driver.opened = milliseconds();
     return run;
