@@ -20,6 +20,7 @@
 #include "program.h"
 #include "ptp4l.h"
 #include "ptp4l_socket.h"
+#include "replacing.h"
 #include "saving.h"
 #include "service.h"
 #include "source.h"
@@ -64,7 +65,7 @@ static void wait_at_all(void) {
     wait_at(signals, SIGNALS);
     wait_at(links, LINKS);
     wait_at(timer, TIMER);
-    wait_at(saving_event(), SAVED);
+    wait_at(replacing_event(), SAVED);
     wait_at(device_program_event(), RUNS);
 }
 
@@ -195,7 +196,7 @@ int main(int argc, char **argv) {
     if (options->source != NULL) source = open_source(&observations, options->source);
     start_device();
     check_device_program();
-    start_limits(&options->limits);
+    start_limits();
     filter_calls(&options->privileges);
     save_clock();
     start_output();

@@ -16,14 +16,12 @@ struct limits {
     bool is_passed_on_unread;           /* and those that the library refuses for their TLVs */
     bool is_any_source;                 /* also from addresses that are not on the link */
     bool is_near;                       /* of unicast only what no router has passed on (RFC 5082) */
-    const struct ptpm_manager_settings *managers;
-    size_t manager_count;
 };
 
 /* What was kept back since the start. */
 struct kept_back { unsigned long long strangers, again, over_rate, unanswered, managers; };
 
-void start_limits(const struct limits *given);
+void start_limits(void);
 
 /* Says at which interfaces nobody is heard, since they have no address whose network a sender could be in. */
 void say_deaf_ports(void);

@@ -357,7 +357,5 @@ void read_options(int argc, char **argv) {
         given.meeting.group = given.privileges.group;
     }
     given.privileges.socket_group = given.meeting.group;
-    given.limits.managers = given.managers;
-    given.limits.manager_count = given.manager_count;
     judge();
 }

@@ -224,8 +224,6 @@ bool begin_save(struct ptpm_clock *clock) {
     return is_saving;
 }
 
-int saving_event(void) { return replacing_event(); }
-
 enum ptpm_saved end_save(struct ptpm_clock *clock) {
     enum replaced answer = end_replacing();
     is_saving = false;

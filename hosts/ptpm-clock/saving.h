@@ -16,12 +16,11 @@ bool restore_clock(struct ptpm_clock *clock);
    status 2 if it can't. Does nothing without a file. */
 void save_at_start(struct ptpm_clock *clock);
 
-/* Begins to save the clock, which a thread does; whether it is begun. */
+/* Begins to save the clock, which a thread does (replacing.h); whether it is begun. */
 bool begin_save(struct ptpm_clock *clock);
 
-/* Whether a save was begun and not ended, and what can be read once it is done. Whether the latest one failed. */
+/* Whether a save was begun and not ended. Whether the latest one failed. */
 extern bool is_saving, is_failing;
-int saving_event(void);
 
 /* Ends the save, after a wait for the disk if it is not done. What ptpm_clock_saved returns, and then the clock gives out what waited. Or
    PTPM_OTHER_IMAGE if the clock is not saved, and standard error says why. */

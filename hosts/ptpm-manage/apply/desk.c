@@ -19,8 +19,6 @@ void open_desk(struct desk *desk, const struct task *task, const struct step *fi
     if (!desk->session.has_file) desk->driver.opened = milliseconds();
 }
 
-void leave_desk(struct desk *desk) { ptpm_asker_stop(&desk->session.asker); }
-
 /* ---- events */
 
 struct event plain_event(uint32_t what) { return (struct event){ .said = { .what = what } }; }

@@ -40,5 +40,3 @@ struct event go_on_at_desk(struct desk *desk, struct journal *journal);
 
 /* Gives up the request that is still in the session, and saves that. Nothing is sent. */
 struct event let_go_at_desk(struct desk *desk, struct journal *journal);
-
-void leave_desk(struct desk *desk);

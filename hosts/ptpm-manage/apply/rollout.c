@@ -62,7 +62,7 @@ static void remove_marks(void) {
 
 void leave_sessions(void) {
     for (size_t i = 0; i < desk_count; i++) {
-        leave_desk(desks[i]);
+        ptpm_asker_stop(&desks[i]->session.asker);
         free(desks[i]);
     }
     free(desks);
