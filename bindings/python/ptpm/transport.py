@@ -17,6 +17,7 @@ import sys
 import time
 from typing import Any, List, Mapping, Optional, Sequence, Tuple, Union
 
+from ._library import Closing
 from .identity import Identity
 from .link import FULL_TTL, GENERAL_PORT, MOST_DATAGRAM, Link, Packets, Way, attach_filter, filter_program, message_in_copy
 
@@ -60,7 +61,7 @@ _WANTED_PACKETS_6 = filter_program(
 Address = Union[str, Tuple[str, int], Tuple[str, int, int, int]]
 
 
-class Transport:
+class Transport(Closing):
     """A transport to clocks: sockets, and the address to which the first one sends. It is closed when its `with` ends."""
 
     identity = Identity(bytes(8))
@@ -91,12 +92,6 @@ class Transport:
         self._waiting: Optional[select.epoll] = None
         for one in self._heard:
             one.setblocking(False)
-
-    def __enter__(self) -> Transport:
-        return self
-
-    def __exit__(self, *_: object) -> None:
-        self.close()
 
     def close(self) -> None:
         """Closes the sockets."""
