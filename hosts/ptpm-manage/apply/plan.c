@@ -150,9 +150,8 @@ static void read_id(struct plan *plan, const char *lead) {
 /* The lines below a heading of the text, without the two spaces before each; NULL if there are none. They are to be freed. */
 static char *lines_below(const char *text, const char *heading) {
     const char *at = strstr(text, heading);
-    char *lines = at == NULL ? NULL : malloc(strlen(at)), *end = lines;
     if (at == NULL) return NULL;
-    if (lines == NULL) give_up("the plan");
+    char *lines = needed(malloc(strlen(at)), "the plan"), *end = lines;
     for (at += strlen(heading); strncmp(at, "  ", 2) == 0; at = strchrnul(at, '\n') + 1) {
         const char *line = at + 2, *feed = strchrnul(line, '\n');
         end = mempcpy(end, line, (size_t)(feed - line));

@@ -87,8 +87,7 @@ static void judge_inventory(const char *inventory) {
 }
 
 void start_monitor(const struct task *task) {
-    char **arguments = calloc(MOST_ARGUMENTS + 2 * clock_name_count(), sizeof *arguments);
-    if (arguments == NULL) give_up("the names");
+    char **arguments = needed(calloc(MOST_ARGUMENTS + 2 * clock_name_count(), sizeof *arguments), "the names");
     judge_inventory(task->site.inventory);
     arguments[1] = (char *)"monitor";
     add_looking(arguments, add_judging(arguments, 2, task), task);
