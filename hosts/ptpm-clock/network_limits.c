@@ -6,7 +6,6 @@
 #include "output.h"
 #include "program.h"
 #include "shares.h"
-#include "udp.h"
 #include <errno.h>
 #include <string.h>
 #include <sys/random.h>
@@ -43,7 +42,7 @@ void say_deaf_ports(void) {
 
 bool admit_datagram(const struct heard *heard) {
     if (heard->port == NULL || transport == ETHERNET) return true;
-    bool is_near = !options->limits.is_near || !heard->is_unicast || heard->ttl == FULL_TTL;
+    bool is_near = !options->limits.is_near || !heard->is_unicast || heard->own.ttl == FULL_TTL;
     bool is_of_link = !heard->is_passed_on && is_on_link(heard->port->index, &heard->sender.any);
     if (is_near && (options->limits.is_any_source || is_of_link)) return true;
     kept_back.strangers++;

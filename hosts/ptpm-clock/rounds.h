@@ -4,7 +4,7 @@
 
 #include "ports.h"
 #include "ptpm.h"
-#include <netinet/in.h>
+#include "udp.h"
 #include <stdbool.h>
 #include <stddef.h>
 #include <sys/socket.h>
@@ -34,10 +34,8 @@ struct heard {
     bool is_of_earlier_run;             /* it came in at an earlier run of the program */
     bool is_unicast;                    /* it was sent only to this host, and the answer goes only to its sender */
     bool is_passed_on;                  /* such a datagram came from another neighbour than the one who has its sender's address */
-    int ttl;                            /* 0 if it isn't known */
     enum { NO_SHARE_ASKED, HAS_SHARE, OVER_RATE } share;     /* whether its answer is within the rate, if that was asked ahead */
-    struct in_pktinfo own_four;         /* the address that it was sent to */
-    struct in6_pktinfo own_six;
+    struct reported own;                /* the address that it was sent to, and its TTL, 0 if it isn't known */
 };
 
 /* The number of the port that it came in at, which is 1 on the Unix socket. */
