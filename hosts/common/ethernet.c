@@ -1,4 +1,3 @@
-#define _GNU_SOURCE
 #include "ethernet.h"
 #include "message_places.h"
 #include "socket_option.h"
@@ -75,8 +74,6 @@ int open_ethernet(const char *interface, uint8_t own[STATION], const char **what
     return opened < 0 || join_group(opened, interface, own, what) ? opened : closed(opened);
 }
 
-static unsigned type_at(const uint8_t *frame, size_t place) { return (unsigned)frame[place] << 8 | frame[place + 1]; }
-
 bool is_to_station(const uint8_t *frame, const uint8_t own[STATION]) { return memcmp(frame, own, STATION) == 0; }
 
 const uint8_t *station_of(const uint8_t *frame) { return frame + STATION; }
@@ -84,8 +81,8 @@ const uint8_t *station_of(const uint8_t *frame) { return frame + STATION; }
 /* The place of the message in a frame that has a whole head. */
 static size_t place_of_message(const uint8_t *frame, size_t size) {
     size_t place = TYPE;
-    while (place + 2 + TAG_SIZE <= size && (type_at(frame, place) == TAG || type_at(frame, place) == SERVICE_TAG)) place += TAG_SIZE;
-    return type_at(frame, place) == PTP ? place + 2 : 0;
+    while (place + 2 + TAG_SIZE <= size && (number_at(frame + place) == TAG || number_at(frame + place) == SERVICE_TAG)) place += TAG_SIZE;
+    return number_at(frame + place) == PTP ? place + 2 : 0;
 }
 
 size_t message_in(const uint8_t *frame, size_t size, const uint8_t own[STATION]) {
@@ -100,8 +97,7 @@ size_t message_to_link(const uint8_t *frame, size_t size) {
 void write_head(uint8_t head[ETHERNET_HEAD], const uint8_t *to, const uint8_t own[STATION]) {
     memcpy(head, to != NULL ? to : group_station, STATION);
     memcpy(head + STATION, own, STATION);
-    head[TYPE] = PTP >> 8;
-    head[TYPE + 1] = PTP & 0xff;
+    put_number(head + TYPE, PTP);
 }
 
 void join_frame(struct iovec parts[FRAME_PARTS], uint8_t head[ETHERNET_HEAD], const uint8_t *message, size_t size) {

@@ -1,7 +1,6 @@
 /* Management messages in frames of Ethernet (IEEE 1588-2019, annex E): Ethertype 0x88F7, to the group 01-1B-19-00-00-00. 802.1AS sends
    all its messages to the group of one link, 01-80-C2-00-00-0E, which no bridge passes on. */
-#ifndef ETHERNET_H
-#define ETHERNET_H
+#pragma once
 
 #include <stdbool.h>
 #include <stddef.h>
@@ -41,5 +40,3 @@ void write_head(uint8_t head[ETHERNET_HEAD], const uint8_t *to, const uint8_t ow
 
 /* The parts of a frame: a head, a message, and zeros after it if the frame would be too short. */
 void join_frame(struct iovec parts[FRAME_PARTS], uint8_t head[ETHERNET_HEAD], const uint8_t *message, size_t size);
-
-#endif

@@ -42,16 +42,6 @@ const char *value_of(struct field_lines *lines, const char *name) {
 enum { FRACTION_BITS = 16, FRACTION_DIGITS = 16 };
 static const uint64_t whole_fraction = 10000000000000000;
 
-void print_interval(FILE *to, int64_t interval) {
-    uint64_t size = interval < 0 ? -(uint64_t)interval : (uint64_t)interval, fraction = size & 0xffff;
-    fprintf(to, "%s%llu.", interval < 0 ? "-" : "", (unsigned long long)(size >> FRACTION_BITS));
-    do {
-        fraction *= 10;
-        putc('0' + (int)(fraction >> FRACTION_BITS), to);
-        fraction &= 0xffff;
-    } while (fraction != 0);
-}
-
 /* Reads up to `most` digits, one at least; how many there are, 0 if none or too many. */
 static int read_digits(const char **text, int most, uint64_t *number) {
     int count = 0;

@@ -1,12 +1,10 @@
 /* The members of a dataField (IEEE 1588-2019, 15.5.3) as texts: one after another, as the library writes them, and a TimeInterval
    among them in nanoseconds. */
-#ifndef FIELD_TEXT_H
-#define FIELD_TEXT_H
+#pragma once
 
 #include "ptpm.h"
 #include <stdbool.h>
 #include <stdint.h>
-#include <stdio.h>
 
 /* A member: its name in the standard, and its value as a text. The only one is `value`, with the octets in hexadecimal, if they
    are not a dataField of the id or it has no member. */
@@ -30,11 +28,6 @@ bool is_named(const struct member *member, const char *name);
 /* The value of the next member that has this name; NULL if there is none. */
 const char *value_of(struct field_lines *lines, const char *name);
 
-/* Prints a TimeInterval (5.3.2), nanoseconds times 2^16, as nanoseconds, with all digits of its fraction, such as 1.5. */
-void print_interval(FILE *to, int64_t interval);
-
-/* The TimeInterval that is nearest to a text. The text has digits, with at most sixteen more after a dot, and begins with a hyphen
+/* The TimeInterval (5.3.2), nanoseconds times 2^16, that is nearest to a text, such as 1.5. The text has digits, with at most sixteen more after a dot, and begins with a hyphen
    if it is below 0. Whether it is such a text, and in range. */
 bool read_interval(const char *text, int64_t *interval);
-
-#endif

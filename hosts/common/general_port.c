@@ -1,4 +1,3 @@
-#define _GNU_SOURCE
 #include "general_port.h"
 #include "message_places.h"
 #include "netlink.h"
@@ -14,7 +13,6 @@
 #include <linux/sock_diag.h>
 #include <net/if_arp.h>
 #include <netinet/udp.h>
-#include <stddef.h>
 #include <string.h>
 #include <sys/stat.h>
 #include <unistd.h>
@@ -34,32 +32,22 @@ static const struct sock_filter wanted_of_four[] = {
     LETS_IN_MANAGEMENT,
 };
 
-/* The same over IPv6, where they begin with their UDP header. */
-static const struct sock_filter wanted_of_six[] = {
-    BPF_STMT(BPF_LD | BPF_H | BPF_ABS, PORT_AT),
-    BPF_JUMP(BPF_JMP | BPF_JEQ | BPF_K, GENERAL_PORT, 0, 5),
-    BPF_STMT(BPF_LD | BPF_B | BPF_ABS, (uint32_t)SKF_NET_OFF + SIX_TO_AT),
-    BPF_JUMP(BPF_JMP | BPF_JEQ | BPF_K, GROUPS_SIX, 3, 0),
-    BPF_STMT(BPF_LD | BPF_B | BPF_ABS, sizeof(struct udphdr) + TYPE_AT),
-    LETS_IN_MANAGEMENT,
-};
+/* The same over IPv6, by the places of the UDP header and of the address. */
+#define WANTED_OF_SIX(udp_at, to_at) { \
+    BPF_STMT(BPF_LD | BPF_H | BPF_ABS, (udp_at) + PORT_AT), \
+    BPF_JUMP(BPF_JMP | BPF_JEQ | BPF_K, GENERAL_PORT, 0, 5), \
+    BPF_STMT(BPF_LD | BPF_B | BPF_ABS, to_at), \
+    BPF_JUMP(BPF_JMP | BPF_JEQ | BPF_K, GROUPS_SIX, 3, 0), \
+    BPF_STMT(BPF_LD | BPF_B | BPF_ABS, (udp_at) + sizeof(struct udphdr) + TYPE_AT), \
+    LETS_IN_MANAGEMENT, \
+}
 
-/* The same for packets of IPv6, which begin with their IP header. */
-static const struct sock_filter wanted_packets_of_six[] = {
-    BPF_STMT(BPF_LD | BPF_H | BPF_ABS, SIX_HEAD + PORT_AT),
-    BPF_JUMP(BPF_JMP | BPF_JEQ | BPF_K, GENERAL_PORT, 0, 5),
-    BPF_STMT(BPF_LD | BPF_B | BPF_ABS, SIX_TO_AT),
-    BPF_JUMP(BPF_JMP | BPF_JEQ | BPF_K, GROUPS_SIX, 3, 0),
-    BPF_STMT(BPF_LD | BPF_B | BPF_ABS, SIX_HEAD + sizeof(struct udphdr) + TYPE_AT),
-    LETS_IN_MANAGEMENT,
-};
+/* Copies begin with their UDP header, and packets with their IP header. */
+static const struct sock_filter wanted_of_six[] = WANTED_OF_SIX(0, (uint32_t)SKF_NET_OFF + SIX_TO_AT);
+static const struct sock_filter wanted_packets_of_six[] = WANTED_OF_SIX(SIX_HEAD, SIX_TO_AT);
 
 /* Nothing at all. */
 static const struct sock_filter wanted_of_none[] = { BPF_STMT(BPF_RET | BPF_K, 0) };
-
-static bool set_number(int socket, int level, int option, int value) {
-    return setsockopt(socket, level, option, &value, sizeof value) == 0;
-}
 
 /* The kernel is to report of each datagram where it came in, which address it was sent to, and its TTL. */
 static bool tell_places(int socket, bool is_six) {
@@ -85,15 +73,14 @@ int open_general_port(bool is_six, bool is_heard) {
     int opened = socket(family, SOCK_DGRAM | SOCK_CLOEXEC, 0);
     if (opened < 0 && !is_six) opened = socket(family = AF_INET, SOCK_DGRAM | SOCK_CLOEXEC, 0);      /* a kernel without IPv6 */
     if (opened < 0) return -1;
-    bool is_filtered = is_heard ? filter_udp(opened, true) : set_filter(opened, wanted_of_none, 1);
+    bool is_filtered = is_heard ? filter_udp(opened, true) : SET_FILTER(opened, wanted_of_none);
     return is_filtered && bind_last(opened, family, is_six) ? opened : closed(opened);
 }
 
 int open_copies(bool is_six) {
     int opened = socket(is_six ? AF_INET6 : AF_INET, SOCK_RAW | SOCK_CLOEXEC, IPPROTO_UDP);
     if (opened < 0) return -1;
-    bool is_filtered = is_six ? set_filter(opened, wanted_of_six, sizeof wanted_of_six / sizeof *wanted_of_six)
-                              : set_filter(opened, wanted_of_four, sizeof wanted_of_four / sizeof *wanted_of_four);
+    bool is_filtered = is_six ? SET_FILTER(opened, wanted_of_six) : SET_FILTER(opened, wanted_of_four);
     bool is_checked = !is_six || set_number(opened, IPPROTO_IPV6, IPV6_CHECKSUM, offsetof(struct udphdr, uh_sum));
     return is_filtered && is_checked && tell_places(opened, is_six) ? opened : closed(opened);
 }
@@ -108,16 +95,13 @@ int open_diverted(bool is_six, uint16_t port) {
     return is_ready && bind(opened, place, is_six ? sizeof six : sizeof four) == 0 ? opened : closed(opened);
 }
 
-bool hear_none(int socket) { return set_filter(socket, wanted_of_none, 1); }
+bool hear_none(int socket) { return SET_FILTER(socket, wanted_of_none); }
 
 int open_packets(bool is_six) {
-    const int one = 1;
-    const char *what;
     int opened = socket(AF_PACKET, SOCK_DGRAM | SOCK_CLOEXEC, htons(is_six ? ETH_P_IPV6 : ETH_P_IP));
     if (opened < 0) return -1;
-    bool is_filtered = is_six ? set_filter(opened, wanted_packets_of_six, sizeof wanted_packets_of_six / sizeof *wanted_packets_of_six)
-                              : set_filter(opened, wanted_of_four, sizeof wanted_of_four / sizeof *wanted_of_four);
-    return is_filtered && SET_OPTION(opened, SOL_PACKET, PACKET_IGNORE_OUTGOING, one, &what) ? opened : closed(opened);
+    bool is_filtered = is_six ? SET_FILTER(opened, wanted_packets_of_six) : SET_FILTER(opened, wanted_of_four);
+    return is_filtered && set_number(opened, SOL_PACKET, PACKET_IGNORE_OUTGOING, 1) ? opened : closed(opened);
 }
 
 /* The latest packets. The kernel hands each to this socket before it hears a copy of the datagram, but drops some in between. */

@@ -1,7 +1,6 @@
 /* What is sent by unicast to UDP port 320 of this host. Linux hands each such datagram to one socket, and a servo of this host, for
    example ptp4l, may wait for it. So it is taken only if nobody else has the port, or a copy of it is heard. */
-#ifndef GENERAL_PORT_H
-#define GENERAL_PORT_H
+#pragma once
 
 #include <stdbool.h>
 #include <stddef.h>
@@ -41,5 +40,3 @@ size_t message_in_copy(const uint8_t *octets, size_t *size, struct sockaddr *sen
    kernel may report nobody although somebody is there. */
 enum general_port { NOBODY_HAS_IT, WE_HAVE_IT, ANOTHER_HAS_IT };
 enum general_port who_has_general_port(int ours, unsigned interface, bool is_six);
-
-#endif

@@ -1,5 +1,5 @@
-#define _GNU_SOURCE
 #include "kept_file.h"
+#include "program.h"
 #include <errno.h>
 #include <fcntl.h>
 #include <stdio.h>
@@ -67,9 +67,7 @@ enum kept_found read_kept(const struct kept_file *file, uint8_t *octets, size_t 
         if (count < 0) what = KEPT_UNREADABLE;
         else *size += (size_t)count;
     }
-    int failure = errno;
-    close(opened);
-    errno = failure;
+    close_quietly(opened);
     return what;
 }
 

@@ -1,7 +1,6 @@
 /* A file that is replaced whole, so that it is the old one or the new one whatever becomes of the program or the machine. In
    the same folder are NAME.new while it is written, and NAME.lock, whose lock only one process at a time has. */
-#ifndef KEPT_FILE_H
-#define KEPT_FILE_H
+#pragma once
 
 #include "ptpm.h"
 #include <stdbool.h>
@@ -68,5 +67,3 @@ size_t write_seal(uint8_t *octets, size_t size, uint64_t saves);
 /* Takes the seal off: *size becomes that of the image, and *saves how many times it was saved. Otherwise why not, as
    ptpm_image_unseal says it; then *size stays, and *saves is 0. */
 enum ptpm_restored take_seal(const uint8_t *octets, size_t *size, uint64_t *saves);
-
-#endif

@@ -1,6 +1,5 @@
 /* A time that no one sets. It has 64 bits on every machine. */
-#ifndef MONOTONIC_H
-#define MONOTONIC_H
+#pragma once
 
 #include <stdint.h>
 #include <time.h>
@@ -12,5 +11,3 @@ static inline int64_t nanoseconds(void) {
 }
 
 static inline int64_t milliseconds(void) { return nanoseconds() / 1000000; }
-
-#endif

@@ -1,6 +1,6 @@
 #include "names.h"
 #include "ptpm.h"
-#include <stddef.h>
+#include <stdio.h>
 #include <string.h>
 
 long id_named(const char *text) {
@@ -29,6 +29,13 @@ const char *error_name(uint16_t error) {
     static char name[PTPM_MOST_NAME + 1];
     name[ptpm_error_name(error, name, PTPM_MOST_NAME)] = '\0';
     return *name != '\0' ? name : NULL;
+}
+
+const char *error_text(uint16_t error) {
+    static char number[sizeof "0xffff"];
+    const char *name = error_name(error);
+    snprintf(number, sizeof number, "0x%04x", error);
+    return name != NULL ? name : number;
 }
 
 const char *answer_name(uint32_t answer) {

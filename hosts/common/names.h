@@ -1,7 +1,6 @@
 /* Names for numbers, and numbers for names, as the library has them. A name that was given stays until the next call of its
    function. */
-#ifndef NAMES_H
-#define NAMES_H
+#pragma once
 
 #include <stdint.h>
 
@@ -21,10 +20,11 @@ const char *read_id_name(uint16_t id);
 /* The name of a managementErrorId (15.5.4.3); NULL if the standard has none. */
 const char *error_name(uint16_t error);
 
+/* The same, or 0x and four hexadecimal digits. */
+const char *error_text(uint16_t error);
+
 /* The name of why the library starts or begins nothing: that of the constant in ptpm.h, without PTPM_. */
 const char *answer_name(uint32_t answer);
 
 /* The member whose value an answer refuses, such as PRIORITY1 of PTPM_BAD_PRIORITY1. The whole name of an answer that refuses none. */
 const char *refused_member(uint32_t answer);
-
-#endif

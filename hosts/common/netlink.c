@@ -1,4 +1,3 @@
-#define _GNU_SOURCE
 #include "netlink.h"
 #include "monotonic.h"
 #include "program.h"
@@ -79,21 +78,13 @@ void read_netlink(link_taker *take) {
     }
 }
 
-/* The octets of an address, and how many there are; none of another family. */
-static const uint8_t *octets_of(const struct sockaddr *address, size_t *size) {
-    *size = 4;
-    if (address->sa_family == AF_INET) return (const uint8_t *)&((const struct sockaddr_in *)address)->sin_addr;
-    *size = address->sa_family == AF_INET6 ? 16 : 0;
-    return (const uint8_t *)&((const struct sockaddr_in6 *)address)->sin6_addr;
-}
-
 static void add_network(const struct ifaddrs *one) {
     size_t size, mask_size;
     char name[IF_NAMESIZE];
     if (one->ifa_addr == NULL || one->ifa_netmask == NULL || network_count == MOST_NETWORKS) return;
     bool is_pair = (one->ifa_flags & IFF_POINTOPOINT) && one->ifa_dstaddr != NULL;       /* whose other end is meant */
-    const uint8_t *address = octets_of(is_pair ? one->ifa_dstaddr : one->ifa_addr, &size);
-    const uint8_t *mask = octets_of(one->ifa_netmask, &mask_size);
+    const uint8_t *address = address_octets(is_pair ? one->ifa_dstaddr : one->ifa_addr, &size);
+    const uint8_t *mask = address_octets(one->ifa_netmask, &mask_size);
     if (size == 0 || mask_size != size) return;
     snprintf(name, sizeof name, "%s", one->ifa_name);
     name[strcspn(name, ":")] = '\0';                    /* after which an address of IPv4 may have a label */
@@ -147,7 +138,7 @@ bool has_address(unsigned index, sa_family_t family) {
 
 bool is_on_link(unsigned index, const struct sockaddr *address) {
     size_t size;
-    const uint8_t *octets = octets_of(address, &size);
+    const uint8_t *octets = address_octets(address, &size);
     if (size == 16 && octets[0] == 0xfe && (octets[1] & 0xc0) == 0x80) return true;
     renew_networks();
     for (size_t i = 0; i < network_count; i++) {

@@ -1,7 +1,6 @@
 /* What the kernel reports of this host's interfaces (rtnetlink): that one went, came or has another MTU, and which addresses are on
    its link. */
-#ifndef NETLINK_H
-#define NETLINK_H
+#pragma once
 
 #include <stdbool.h>
 #include <sys/socket.h>
@@ -29,5 +28,3 @@ bool is_on_link(unsigned index, const struct sockaddr *address);
 
 /* For a program that does not read what the kernel reports: the addresses of interfaces may have changed. */
 void forget_networks(void);
-
-#endif

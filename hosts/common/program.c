@@ -22,6 +22,17 @@ _Noreturn void end_program(const char *what, const char *why) {
 
 _Noreturn void give_up(const char *what) { end_program(what, strerror(errno)); }
 
+void *needed(void *asked, const char *what) {
+    if (asked == NULL) give_up(what);
+    return asked;
+}
+
+void close_quietly(int file) {
+    int failure = errno;
+    if (file >= 0) close(file);
+    errno = failure;
+}
+
 /* What is opened gets the lowest descriptor that is free. It is opened the wrong way round, so a read or a write there still
    fails. */
 void hold_streams(void) {

@@ -1,4 +1,3 @@
-#define _GNU_SOURCE
 #include "route.h"
 #include "monotonic.h"
 #include <linux/neighbour.h>
@@ -6,7 +5,6 @@
 #include <linux/rtnetlink.h>
 #include <netinet/in.h>
 #include <stddef.h>
-#include <stdint.h>
 #include <string.h>
 #include <unistd.h>
 
@@ -50,29 +48,24 @@ static ssize_t ask_kernel(const struct nlmsghdr *question, struct answer *answer
     return size;
 }
 
-static bool is_ip(const struct sockaddr *address) { return address->sa_family == AF_INET || address->sa_family == AF_INET6; }
-
-/* Writes the octets of an address; how many there are. */
-static size_t write_octets(uint8_t octets[ADDRESS], const struct sockaddr *address) {
-    bool is_six = address->sa_family == AF_INET6;
-    size_t size = is_six ? ADDRESS : sizeof(struct in_addr);
-    if (is_six) memcpy(octets, &((const struct sockaddr_in6 *)address)->sin6_addr, size);
-    else memcpy(octets, &((const struct sockaddr_in *)address)->sin_addr, size);
-    return size;
+const uint8_t *address_octets(const struct sockaddr *address, size_t *size) {
+    *size = sizeof(struct in_addr);
+    if (address->sa_family == AF_INET) return (const uint8_t *)&((const struct sockaddr_in *)address)->sin_addr;
+    *size = address->sa_family == AF_INET6 ? ADDRESS : 0;
+    return (const uint8_t *)&((const struct sockaddr_in6 *)address)->sin6_addr;
 }
 
 /* The route itself is asked for (RTM_F_FIB_MATCH). Otherwise the kernel treats an address to which no route leads as one of the
    link. */
-static struct question question_of(unsigned index, const struct sockaddr *address) {
-    size_t size = address->sa_family == AF_INET6 ? ADDRESS : sizeof(struct in_addr);
+static struct question question_of(unsigned index, sa_family_t family, const uint8_t *address, size_t size) {
     struct question question = {
         .head = { .nlmsg_type = RTM_GETROUTE, .nlmsg_flags = NLM_F_REQUEST },
-        .route = { .rtm_family = (unsigned char)address->sa_family, .rtm_dst_len = (unsigned char)(8 * size), .rtm_flags = RTM_F_FIB_MATCH },
+        .route = { .rtm_family = (unsigned char)family, .rtm_dst_len = (unsigned char)(8 * size), .rtm_flags = RTM_F_FIB_MATCH },
         .over = { .rta_type = RTA_OIF, .rta_len = RTA_LENGTH(sizeof question.index) },
         .index = index,
         .to = { .rta_type = RTA_DST, .rta_len = (unsigned short)RTA_LENGTH(size) },
     };
-    write_octets(question.address, address);
+    memcpy(question.address, address, size);
     question.head.nlmsg_len = (uint32_t)(offsetof(struct question, address) + size);
     return question;
 }
@@ -98,8 +91,10 @@ static bool leads_to_link(const struct answer *answer, size_t size) {
 bool is_routed_to_link(unsigned index, const struct sockaddr *address) {
     static struct second second;
     struct answer answer;
-    if (!is_ip(address) || !may_ask(&second, MOST_QUESTIONS)) return false;
-    struct question question = question_of(index, address);
+    size_t octets;
+    const uint8_t *first = address_octets(address, &octets);
+    if (octets == 0 || !may_ask(&second, MOST_QUESTIONS)) return false;
+    struct question question = question_of(index, address->sa_family, first, octets);
     ssize_t size = ask_kernel(&question.head, &answer);
     return size > 0 && leads_to_link(&answer, (size_t)size);
 }
@@ -165,8 +160,9 @@ static bool find_neighbour(struct neighbour *wanted, const struct sockaddr *addr
 bool is_station_of(unsigned index, const struct sockaddr *address, const uint8_t station[STATION]) {
     static struct second second;
     struct neighbour wanted = { .index = index };
-    if (!is_ip(address)) return false;
-    wanted.size = write_octets(wanted.address, address);
+    const uint8_t *octets = address_octets(address, &wanted.size);
+    if (wanted.size == 0) return false;
+    memcpy(wanted.address, octets, wanted.size);
     struct neighbour *kept = place_of(&wanted);
     bool is_kept = kept->end > milliseconds() && kept->index == index && kept->size == wanted.size
                    && memcmp(kept->address, wanted.address, ADDRESS) == 0;

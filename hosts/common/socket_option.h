@@ -1,9 +1,8 @@
 /* What a socket is asked for, and its end if it is refused that. */
-#ifndef SOCKET_OPTION_H
-#define SOCKET_OPTION_H
+#pragma once
 
 #include "message_places.h"
-#include <errno.h>
+#include "program.h"
 #include <linux/filter.h>
 #include <net/if.h>
 #include <stdbool.h>
@@ -11,7 +10,6 @@
 #include <stdio.h>
 #include <sys/ioctl.h>
 #include <sys/socket.h>
-#include <unistd.h>
 
 /* Sets an option to the octets of a value, and leaves its name in *what. Whether it was set. */
 #define SET_OPTION(socket, level, option, value, what) set_option(socket, level, option, &(value), sizeof(value), what, #option)
@@ -22,6 +20,10 @@ static inline bool set_option(int socket, int level, int option, const void *val
     return setsockopt(socket, level, option, value, (socklen_t)size) == 0;
 }
 
+static inline bool set_number(int socket, int level, int option, int value) {
+    return setsockopt(socket, level, option, &value, sizeof value) == 0;
+}
+
 /* The last steps of a filter that has loaded the octet with the messageType: management messages are let in, and nothing else. */
 #define LETS_IN_MANAGEMENT \
     BPF_STMT(BPF_ALU | BPF_AND | BPF_K, LOWER_HALF), \
@@ -30,18 +32,17 @@ static inline bool set_option(int socket, int level, int option, const void *val
     BPF_STMT(BPF_RET | BPF_K, 65535)
 
 /* Has a socket hear only what a filter of this many steps lets in, or all if it is NULL. Whether it does. */
+#define SET_FILTER(socket, filter) set_filter(socket, filter, sizeof(filter) / sizeof *(filter))
+
 static inline bool set_filter(int socket, const struct sock_filter *filter, size_t count) {
     const struct sock_fprog whole = { .len = (unsigned short)count, .filter = (struct sock_filter *)filter };
-    const int none = 0;
     return filter != NULL ? setsockopt(socket, SOL_SOCKET, SO_ATTACH_FILTER, &whole, sizeof whole) == 0
-                          : setsockopt(socket, SOL_SOCKET, SO_DETACH_FILTER, &none, sizeof none) == 0;
+                          : set_number(socket, SOL_SOCKET, SO_DETACH_FILTER, 0);
 }
 
 /* Closes a socket that was refused something, and leaves errno as it says why; -1. */
 static inline int closed(int socket) {
-    int failure = errno;
-    close(socket);
-    errno = failure;
+    close_quietly(socket);
     return -1;
 }
 
@@ -52,5 +53,3 @@ static inline unsigned index_of(int socket, const char *interface) {
     snprintf(request.ifr_name, sizeof request.ifr_name, "%s", interface);
     return ioctl(socket, SIOCGIFINDEX, &request) ? 0 : (unsigned)request.ifr_ifindex;
 }
-
-#endif

@@ -1,4 +1,3 @@
-#define _GNU_SOURCE
 #include "udp.h"
 #include "message_places.h"
 #include "socket_option.h"
@@ -41,19 +40,19 @@ bool filter_udp(int socket, bool is_management_alone) {
 }
 
 bool tell_ttl(int socket, bool is_six) {
-    const int one = 1;
-    return (is_six ? setsockopt(socket, IPPROTO_IPV6, IPV6_RECVHOPLIMIT, &one, sizeof one)
-                   : setsockopt(socket, IPPROTO_IP, IP_RECVTTL, &one, sizeof one)) == 0;
+    return is_six ? set_number(socket, IPPROTO_IPV6, IPV6_RECVHOPLIMIT, 1) : set_number(socket, IPPROTO_IP, IP_RECVTTL, 1);
 }
 
-int ttl_in(struct msghdr *head) {
-    int ttl = 0;
+struct reported reported_in(struct msghdr *head) {
+    struct reported found = { .ttl = 0 };
     for (struct cmsghdr *one = CMSG_FIRSTHDR(head); one != NULL; one = CMSG_NXTHDR(head, one)) {
-        bool is_ttl = (one->cmsg_level == IPPROTO_IP && one->cmsg_type == IP_TTL)
-                      || (one->cmsg_level == IPPROTO_IPV6 && one->cmsg_type == IPV6_HOPLIMIT);
-        if (is_ttl) memcpy(&ttl, CMSG_DATA(one), sizeof ttl);
+        bool is_six = one->cmsg_level == IPPROTO_IPV6;
+        if (!is_six && one->cmsg_level != IPPROTO_IP) continue;
+        if (one->cmsg_type == (is_six ? IPV6_HOPLIMIT : IP_TTL)) memcpy(&found.ttl, CMSG_DATA(one), sizeof found.ttl);
+        else if (is_six && one->cmsg_type == IPV6_PKTINFO) memcpy(&found.six, CMSG_DATA(one), sizeof found.six);
+        else if (!is_six && one->cmsg_type == IP_PKTINFO) memcpy(&found.four, CMSG_DATA(one), sizeof found.four);
     }
-    return ttl;
+    return found;
 }
 
 /* From here on what is sent goes out at the interface, and doesn't come back to this host. */

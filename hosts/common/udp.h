@@ -1,6 +1,5 @@
 /* The sockets of a port over UDP: what comes to the group of PTP, and what is sent from here. */
-#ifndef UDP_H
-#define UDP_H
+#pragma once
 
 #include <netinet/in.h>
 #include <stdbool.h>
@@ -12,9 +11,13 @@ enum { EVENT_PORT = 319, GENERAL_PORT = 320 };
 /* The TTL, or hop limit, with which all unicast is sent. No router passes it on with that one (RFC 5082). */
 enum { FULL_TTL = 255 };
 
-/* Has the kernel report the TTL of each datagram that comes in at a socket; whether it does. And what it reports; 0 if nothing. */
+/* Has the kernel report the TTL of each datagram that comes in at a socket; whether it does. */
 bool tell_ttl(int socket, bool is_six);
-int ttl_in(struct msghdr *head);
+
+/* What the kernel was to report of a datagram, 0 if it does not. That is the address that it was sent to, the interface at which it came in,
+   over IPv4 or IPv6, and its TTL. */
+struct reported { struct in_pktinfo four; struct in6_pktinfo six; int ttl; };
+struct reported reported_in(struct msghdr *head);
 
 /* A socket at UDP port 320 of an interface, in the group of PTP there (IEEE 1588-2019, annexes C and D). Only management messages
    to the group come in there, and nothing of what this host sends. It takes nothing that is sent to this host by unicast. -1 if it
@@ -46,5 +49,3 @@ socklen_t group(struct sockaddr_storage *to, bool is_six);
 /* Joins that group once more at an interface whose memberships may be gone, for example since its MTU was too small. Whether it is
    done. */
 bool join_again(int socket, unsigned interface, bool is_six);
-
-#endif

@@ -1,4 +1,3 @@
-#define _GNU_SOURCE
 #include "unix_socket.h"
 #include "program.h"
 #include "words.h"

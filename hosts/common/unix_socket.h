@@ -1,6 +1,5 @@
 /* The Unix socket of a clock, and that of a program that asks it there. */
-#ifndef UNIX_SOCKET_H
-#define UNIX_SOCKET_H
+#pragma once
 
 #include <sys/types.h>
 
@@ -21,5 +20,3 @@ int open_unix_as(const char *path, mode_t mode);
    removed. If this program may, it gives its socket the group of the one at the path without these. So a clock of that group,
    which is another user, can answer there. */
 int open_unix(const char *path);
-
-#endif

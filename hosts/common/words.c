@@ -36,6 +36,10 @@ bool is_ascii(const char *line) {
     return true;
 }
 
-void write_identity(char text[IDENTITY_TEXT], const uint8_t identity[8]) {
+const char *identity_text(const uint8_t identity[8]) {
+    static char texts[2][IDENTITY_TEXT];
+    static unsigned calls;
+    char *text = texts[calls++ % 2];
     for (int i = 0; i < 8; i++) snprintf(text + 2 * i, 3, "%02x", identity[i]);
+    return text;
 }

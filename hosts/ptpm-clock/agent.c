@@ -1,10 +1,8 @@
-#define _GNU_SOURCE
 #include "agent.h"
 #include "askers.h"
 #include "counts.h"
 #include "device.h"
 #include "field_text.h"
-#include "message_places.h"
 #include "names.h"
 #include "network_limits.h"
 #include "observation.h"
@@ -21,7 +19,6 @@
 #include <stddef.h>
 #include <stdio.h>
 #include <stdlib.h>
-#include <string.h>
 #include <sys/socket.h>
 #include <sys/un.h>
 #include <unistd.h>
@@ -32,13 +29,11 @@ enum {
 };
 
 static struct ptpm_clock clock_held;
-static const struct options *options;
 
-void start_clock(const struct options *given) {
+void start_clock(void) {
     struct ptpm_port_settings settings[PORTS];
-    options = given;
-    if (restore_clock(&clock_held, options)) return;
-    size_t count = ports_of(options);
+    if (restore_clock(&clock_held)) return;
+    size_t count = clock_ports();
     for (size_t i = 0; i < count; i++) ptpm_port_defaults(&settings[i]);
     enum ptpm_started answer = ptpm_clock_start(&clock_held, &options->settings, settings, count, options->managers,
                                                 options->manager_count);
@@ -58,7 +53,7 @@ static struct ptpm_question under_way;     /* as it was found last */
 static bool is_under_way(void) { return ptpm_clock_under_way(&clock_held, &under_way) == PTPM_ASKED_CHANGE; }
 
 void save_clock(void) {
-    start_ptp4l(options, domain());
+    start_ptp4l(domain());
     save_at_start(&clock_held);
     if (is_under_way()) settle_earlier(&under_way);
 }
@@ -68,8 +63,7 @@ void save_clock(void) {
    that ends. Nobody is heard at it. Any user may take such a name, so it is no reason not to start. */
 void report_twin(void) {
     struct sockaddr_un address = { .sun_family = AF_UNIX };
-    char identity[IDENTITY_TEXT];
-    write_identity(identity, options->settings.identity);
+    const char *identity = identity_text(options->settings.identity);
     int size = snprintf(address.sun_path + 1, sizeof address.sun_path - 1, "ptpm-clock/%s/%u", identity, domain());
     int claim = socket(AF_UNIX, SOCK_STREAM | SOCK_CLOEXEC, 0);
     socklen_t whole = (socklen_t)(offsetof(struct sockaddr_un, sun_path) + 1 + (size_t)size);
@@ -94,10 +88,9 @@ static const char *state_of(size_t port) {
 
 /* Says the clock's identity and its interfaces, once it is heard. */
 void say_started(void) {
-    char identity[IDENTITY_TEXT], text[LINE];
-    write_identity(identity, options->settings.identity);
-    size_t size = (size_t)snprintf(text, sizeof text, "%s in domain %u:", identity, domain());
-    for (size_t i = 0; i < ports_of(options); i++) {
+    char text[LINE];
+    size_t size = (size_t)snprintf(text, sizeof text, "%s in domain %u:", identity_text(options->settings.identity), domain());
+    for (size_t i = 0; i < clock_ports(); i++) {
         const char *where = port_count > 0 ? ports[i].name : options->meeting.path;
         size += (size_t)snprintf(text + size, sizeof text - size, " port %zu at %.128s %s,", i + 1, where, state_of(i + 1));
     }
@@ -120,7 +113,7 @@ static void print_changed(const char *where, uint32_t first, uint32_t members) {
 
 static void print_all_changed(const struct ptpm_changed *changed) {
     if (changed->clock != 0) print_changed("changed:", PTPM_BAD_IDENTITY, changed->clock);
-    for (size_t i = 0; i < ports_of(options); i++) {
+    for (size_t i = 0; i < clock_ports(); i++) {
         char where[40];
         snprintf(where, sizeof where, "changed at port %zu:", i + 1);
         if (changed->ports[i] != 0) print_changed(where, PTPM_BAD_STATE, changed->ports[i]);
@@ -134,7 +127,7 @@ static struct ptpm_sent *free_places(void) {
 }
 
 /* The port at which a datagram is handed in. A GET of a port's value is handed in at that port, whose answer it then has. */
-static inline uint16_t handed_in_at(const struct heard *heard) { return has_values ? port_asked(heard) : ingress_of(heard); }
+static inline uint16_t handed_in_at(const struct heard *heard) { return options->value_count > 0 ? port_asked(heard) : ingress_of(heard); }
 
 /* A message to a program that asked on the Unix socket goes back there. Any other goes out with the round. Who asked an earlier run asks
    again. How many messages were not taken. */
@@ -188,7 +181,7 @@ static unsigned long take_turn(struct heard *heard, const struct ptpm_say *say) 
     lower_hops(heard);
     if (has_ptp4l && !learn_value(heard)) return 1;
     struct ptpm_sent *places = free_places();
-    if (has_values && say == NULL) say = value_to_give(&clock_held, heard);
+    if (options->value_count > 0 && say == NULL) say = value_to_give(&clock_held, heard);
     if (has_ptp4l && say == NULL) say = learned_to_give(&clock_held, heard);
     enum ptpm_handled answer = ptpm_clock_take(&clock_held, handed_in_at(heard), heard->octets, heard->size, say != NULL ? say : &nothing,
                                                is_judged_as_owner(heard, say), places, TURN, &taken);

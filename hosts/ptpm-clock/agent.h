@@ -1,13 +1,12 @@
 /* The clock that the library holds, for the ports and the Unix socket: what becomes of datagrams and of observations. */
-#ifndef AGENT_H
-#define AGENT_H
+#pragma once
 
 #include "options.h"
 #include "ports.h"
 
 /* Starts it with a port for each interface, afresh or as the file of its state has it. Ends the program with status 1, and says
    why, if the library does not start it. */
-void start_clock(const struct options *given);
+void start_clock(void);
 
 /* It is saved, if it has a file of its state. What an earlier run may have asked its device for is looked for. */
 void save_clock(void);
@@ -44,5 +43,3 @@ void take_saved(void);
 void observe(char *text);
 
 void stop_clock(void);
-
-#endif

@@ -1,4 +1,3 @@
-#define _GNU_SOURCE
 #include "askers.h"
 #include <string.h>
 

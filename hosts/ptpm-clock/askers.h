@@ -1,7 +1,6 @@
 /* Who is answered once the clock is saved. The clock gives the messages out in the order in which they were made, and that is the order
    of those who asked. */
-#ifndef ASKERS_H
-#define ASKERS_H
+#pragma once
 
 #include "ethernet.h"
 #include "message_places.h"
@@ -37,5 +36,3 @@ bool is_asking(const struct heard *heard);
 /* How many messages of requests at ports wait, and how many requests of programs of this host. */
 size_t port_messages(void);
 size_t peers_asking(void);
-
-#endif

@@ -5,7 +5,6 @@
    moves octets and prints. It also decides which datagrams reach the library, with how many hops, and which messages go out
    ("Decisions of the hosts" in docs/architecture.md). It waits for nobody: what a peer doesn't take in a moment is dropped, and a thread
    waits for the disk. */
-#define _GNU_SOURCE
 #include "agent.h"
 #include "counts.h"
 #include "device.h"
@@ -21,6 +20,7 @@
 #include "program.h"
 #include "ptp4l.h"
 #include "ptp4l_socket.h"
+#include "replacing.h"
 #include "saving.h"
 #include "service.h"
 #include "source.h"
@@ -36,7 +36,6 @@ enum { SECOND = 1000 };
 
 const char program[] = "ptpm-clock";
 
-static struct options options;
 static struct source observations;
 static int unix_socket = -1, owner_socket = -1, source = -1, signals, links, timer;
 
@@ -67,7 +66,7 @@ static void wait_at_all(void) {
     wait_at(signals, SIGNALS);
     wait_at(links, LINKS);
     wait_at(timer, TIMER);
-    wait_at(saving_event(), SAVED);
+    wait_at(replacing_event(), SAVED);
     wait_at(device_program_event(), RUNS);
 }
 
@@ -161,14 +160,14 @@ static void run(int64_t end) {
 
 static void open_all(void) {
     signals = open_signals();
-    transport = options.transport;
-    if (options.ptp4l != NULL && transport != ETHERNET && options.diverted_port != GENERAL_PORT) diverted_port = options.diverted_port;
+    transport = options->transport;
+    if (options->ptp4l != NULL && transport != ETHERNET && options->diverted_port != GENERAL_PORT) diverted_port = options->diverted_port;
     links = open_netlink();
     timer = open_timer();
-    for (size_t i = 0; i < options.interface_count; i++) open_port(options.interfaces[i]);
+    for (size_t i = 0; i < options->interface_count; i++) open_port(options->interfaces[i]);
     open_unicast();
-    if (options.meeting.path != NULL) unix_socket = open_peers(&options.meeting);
-    if (options.owner != NULL) owner_socket = open_owner(options.owner, options.meeting.group);
+    if (options->meeting.path != NULL) unix_socket = open_peers(&options->meeting);
+    if (options->owner != NULL) owner_socket = open_owner(options->owner, options->meeting.group);
     open_service();
 }
 
@@ -189,21 +188,20 @@ static void end_in_order(void) {
 
 int main(int argc, char **argv) {
     hold_streams();
-    read_options(&options, argc, argv);
-    if (options.device_program != NULL) open_device_program(options.device_program, options.device_seconds, &options.privileges);
-    start_clock(&options);
+    read_options(argc, argv);
+    if (options->device_program != NULL) open_device_program();
+    start_clock();
     open_all();
     report_twin();
-    let_go_of_rights(&options.privileges, needs());
-    if (options.source != NULL) source = open_source(&observations, options.source);
-    start_device(&options);
-    start_values(&options);
+    let_go_of_rights(&options->privileges, needs());
+    if (options->source != NULL) source = open_source(&observations, options->source);
+    start_device();
     check_device_program();
-    start_limits(&options.limits);
-    filter_calls(&options.privileges);
+    start_limits();
+    filter_calls(&options->privileges);
     save_clock();
     start_output();
-    run(options.end);
+    run(options->end);
     end_in_order();
     return 0;
 }

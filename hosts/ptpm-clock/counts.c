@@ -1,4 +1,3 @@
-#define _GNU_SOURCE
 #include "counts.h"
 #include "device.h"
 #include "network_limits.h"

@@ -1,6 +1,5 @@
 /* What ptpm-clock counts from its start on, and prints at its end and when it is asked. */
-#ifndef COUNTS_H
-#define COUNTS_H
+#pragma once
 
 #include <stdbool.h>
 #include <stdint.h>
@@ -14,5 +13,3 @@ void count_observation(bool is_observed);
 
 /* A line for each count that is not 0. */
 void print_counts(void);
-
-#endif

@@ -1,4 +1,3 @@
-#define _GNU_SOURCE
 #include "device.h"
 #include "device_limits.h"
 #include "device_program.h"
@@ -13,7 +12,6 @@
 
 bool has_device;
 
-static const struct options *options;
 static struct source source;
 static struct device_limits rooms[2], *limits = &rooms[0];
 static struct device_counts counts;
@@ -37,13 +35,12 @@ static enum file_says take_limits(void) {
     read_source(&source);
     bool is_empty = is_empty_file(&source), has_text = next_text(&source, &text);
     if (!has_text && !is_empty) return SAYS_NOTHING;
-    if (!read_device_limits(other, ports_of(options), source.path, text)) return IS_WRONG;
+    if (!read_device_limits(other, clock_ports(), source.path, text)) return IS_WRONG;
     limits = other;
     return SAYS_LIMITS;
 }
 
-void start_device(const struct options *given) {
-    options = given;
+void start_device(void) {
     has_device = options->limits_file != NULL || has_program();
     if (options->limits_file == NULL) return;
     open_file_source(&source, options->limits_file);

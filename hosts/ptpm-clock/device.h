@@ -1,8 +1,7 @@
 /* The device's say: whether it can do what a manager asks. The limits of its hardware (--limits) say that, and then a program of its
    own (--ask). The program is asked about one change at a time. Other changes wait for it meanwhile, one of each manager. With -s it is
    asked for each once. If what it did is not known, it is asked whether it has the change, and never for the change again. */
-#ifndef DEVICE_H
-#define DEVICE_H
+#pragma once
 
 #include "options.h"
 #include "ptpm.h"
@@ -13,7 +12,7 @@
 extern bool has_device;
 
 /* Reads the limits, if there is a file of them. Ends the program with status 2 if something is wrong with it, which is said. */
-void start_device(const struct options *given);
+void start_device(void);
 
 /* What is to be polled for the limits; -1 if there is nothing. */
 int limits_event(void);
@@ -70,5 +69,3 @@ struct heard *take_change(const struct ptpm_say **say);
 struct device_counts { unsigned long long agreed, objected, silent, passed_over; };
 
 const struct device_counts *device_counts_so_far(void);
-
-#endif

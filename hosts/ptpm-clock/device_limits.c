@@ -1,5 +1,5 @@
-#define _GNU_SOURCE
 #include "device_limits.h"
+#include "message_places.h"
 #include "names.h"
 #include "output.h"
 #include "words.h"
@@ -7,8 +7,6 @@
 #include <stdio.h>
 #include <stdlib.h>
 #include <string.h>
-
-enum { EVERY_PORT = 0xffff };
 
 /* The line that is read, and where. */
 struct reading {

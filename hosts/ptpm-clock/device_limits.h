@@ -1,7 +1,6 @@
 /* What a text says of the values that the hardware has, as limits for ptpm_limits_say. It has a line for each id at all ports, and
    for each id at one port. */
-#ifndef DEVICE_LIMITS_H
-#define DEVICE_LIMITS_H
+#pragma once
 
 #include "ptpm.h"
 #include <stdbool.h>
@@ -21,5 +20,3 @@ struct device_limits {
    carried out. An empty line and one that begins with # say nothing. Whether every line is right, and there is a limit. If not,
    each wrong line is said on standard error, after `name` and its number. */
 bool read_device_limits(struct device_limits *limits, size_t port_count, const char *name, char *text);
-
-#endif

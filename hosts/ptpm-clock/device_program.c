@@ -1,7 +1,8 @@
-#define _GNU_SOURCE
 #include "device_program.h"
 #include "field_text.h"
+#include "message_places.h"
 #include "names.h"
+#include "options.h"
 #include "output.h"
 #include "program.h"
 #include "words.h"
@@ -26,13 +27,10 @@
 enum {
     MOST_WORD_OCTETS = 8192,    /* of all words of a run, with an end of each */
     MOST_WORDS = 64,
-    EVERY_PORT = 0xffff,
     FIRST = 3,                  /* the first descriptor past the standard streams */
     END_WAIT = 1000             /* milliseconds, for a run that is ended */
 };
 
-static const char *path;
-static long most_seconds;
 static int beside = -1;         /* what the clock and the process share, on either side */
 
 /* What is in the process. */
@@ -80,8 +78,8 @@ _Noreturn static void become_program(char *const *words, pid_t starter) {
     if (getppid() != starter) _exit(127);
     for (int one = 1; one < NSIG; one++) signal(one, SIG_DFL);      /* also those that were ignored when the clock began */
     sigprocmask(SIG_SETMASK, &none, NULL);
-    execve(path, words, environment);
-    dprintf(STDERR_FILENO, "%s: %s: %s\n", program, path, strerror(errno));
+    execve(options->device_program, words, environment);
+    dprintf(STDERR_FILENO, "%s: %s: %s\n", program, options->device_program, strerror(errno));
     _exit(127);
 }
 
@@ -91,7 +89,7 @@ static bool wait_for_run(int children) {
     struct signalfd_siginfo ignored;
     struct timespec now, end;
     clock_gettime(CLOCK_MONOTONIC, &end);
-    end.tv_sec += most_seconds;
+    end.tv_sec += options->device_seconds;
     for (;;) {
         siginfo_t found = { 0 };
         if (waitid(P_PID, (id_t)run_started, &found, WEXITED | WNOHANG | WNOWAIT) != 0 || found.si_pid != 0) return true;
@@ -146,7 +144,7 @@ _Noreturn static void run_programs(int children) {
 }
 
 /* What ends the clock does not end the process: it ends the run first. */
-_Noreturn static void begin_process(int shared, const struct privileges *privileges) {
+_Noreturn static void begin_process(int shared) {
     static const int ends[] = { SIGHUP, SIGINT, SIGTERM, SIGPIPE };
     sigset_t held;
     sigemptyset(&held);
@@ -161,20 +159,18 @@ _Noreturn static void begin_process(int shared, const struct privileges *privile
     close_from(FIRST + 1);
     int children = signalfd(-1, &held, SFD_NONBLOCK | SFD_CLOEXEC);
     if (beside < 0 || fcntl(beside, F_SETFD, FD_CLOEXEC) || children < 0) give_up("the process that runs programs");
-    let_go_of_rights(privileges, NEEDS_NOTHING);
+    let_go_of_rights(&options->privileges, NEEDS_NOTHING);
     run_programs(children);
 }
 
 /* What is in the clock. */
 
-void open_device_program(const char *given, long seconds, const struct privileges *privileges) {
+void open_device_program(void) {
     int shared[2];
-    path = given;
-    most_seconds = seconds;
     if (socketpair(AF_UNIX, SOCK_SEQPACKET | SOCK_CLOEXEC, 0, shared)) give_up("socketpair");
     pid_t process = fork();
     if (process < 0) give_up("fork");
-    if (process == 0) begin_process(shared[1], privileges);
+    if (process == 0) begin_process(shared[1]);
     close(shared[1]);
     beside = shared[0];
 }
@@ -183,8 +179,8 @@ void check_device_program(void) {
     struct stat found;
     if (beside < 0) return;
     errno = EACCES;
-    if (stat(path, &found) == 0 && S_ISREG(found.st_mode) && access(path, X_OK) == 0) return;
-    give_up(path);
+    if (stat(options->device_program, &found) == 0 && S_ISREG(found.st_mode) && access(options->device_program, X_OK) == 0) return;
+    give_up(options->device_program);
 }
 
 int device_program_event(void) { return beside; }
@@ -215,13 +211,12 @@ static size_t put_members(char *words, size_t size, const struct ptpm_question *
 }
 
 bool start_run(const struct ptpm_question *asked, bool is_look) {
-    char words[MOST_WORD_OCTETS], manager[IDENTITY_TEXT];
+    char words[MOST_WORD_OCTETS];
     const char *name = id_name(asked->id);
     if (beside < 0) return false;
-    write_identity(manager, asked->manager);
-    size_t size = put_word(words, 0, "%s", path);
+    size_t size = put_word(words, 0, "%s", options->device_program);
     if (is_look) size = put_word(words, size, "look");
-    size = put_word(words, size, "%s/%u", manager, asked->manager_port);
+    size = put_word(words, size, "%s/%u", identity_text(asked->manager), asked->manager_port);
     size = put_word(words, size, "%u", asked->number);
     size = put_word(words, size, "%s", asked->action == PTPM_SET ? "set" : "command");
     size = put_word(words, size, "%04x", asked->id);
@@ -240,7 +235,7 @@ bool end_run(struct run *run) {
     }
     if (size < 0 && (errno == EAGAIN || errno == EINTR)) return false;
     if (under_way > 0) kill(-under_way, SIGKILL);       /* the kernel ends the program itself, but nothing that it has started */
-    say("--ask %s: the process that runs it is gone", path);
+    say("--ask %s: the process that runs it is gone", options->device_program);
     end_output();
     exit(2);
 }

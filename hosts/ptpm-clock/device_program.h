@@ -1,10 +1,8 @@
 /* The program of the device (--ask PROGRAM), which is asked for each change. A process beside the clock starts it, one run after
    another. That process is made before the clock has any socket, file or filter of system calls. So a run inherits none of these,
    and may make other calls than the clock. */
-#ifndef DEVICE_PROGRAM_H
-#define DEVICE_PROGRAM_H
+#pragma once
 
-#include "privileges.h"
 #include "ptpm.h"
 #include <stdbool.h>
 
@@ -14,9 +12,9 @@ enum run_end { RUN_EXITED, RUN_KILLED, RUN_TOOK_TOO_LONG, RUN_NOT_STARTED, RUN_B
 
 struct run { enum run_end end; int number; };
 
-/* Makes the process, which becomes the user of the clock and keeps no capability. A run takes `seconds` at most. Ends the program
+/* Makes the process, which becomes the user of the clock and keeps no capability. A run takes the seconds of --ask-time at most. Ends the program
    with status 2 if that can't be had. Comes before anything is opened. */
-void open_device_program(const char *path, long seconds, const struct privileges *privileges);
+void open_device_program(void);
 
 /* Sees that the program is there, with the rights that the clock keeps. If not, ends the clock with status 2. */
 void check_device_program(void);
@@ -32,5 +30,3 @@ bool end_run(struct run *run);
 
 /* Ends the run that is under way, if there is one, and the process. */
 void close_device_program(void);
-
-#endif

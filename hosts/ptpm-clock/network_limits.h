@@ -1,10 +1,8 @@
 /* What ptpm-clock keeps from the network of what its agent would send, and from its agent of what managers send. It limits how far
    messages are forwarded, which of them, and how many per second. So no message circulates forever, and a stranger that sends
    little can't cause much to be sent. Nor can anyone who claims to be a manager make the clock save without end. */
-#ifndef NETWORK_LIMITS_H
-#define NETWORK_LIMITS_H
+#pragma once
 
-#include "ports.h"
 #include "ptpm.h"
 #include "rounds.h"
 #include <stdbool.h>
@@ -18,14 +16,12 @@ struct limits {
     bool is_passed_on_unread;           /* and those that the library refuses for their TLVs */
     bool is_any_source;                 /* also from addresses that are not on the link */
     bool is_near;                       /* of unicast only what no router has passed on (RFC 5082) */
-    const struct ptpm_manager_settings *managers;
-    size_t manager_count;
 };
 
 /* What was kept back since the start. */
 struct kept_back { unsigned long long strangers, again, over_rate, unanswered, managers; };
 
-void start_limits(const struct limits *given);
+void start_limits(void);
 
 /* Says at which interfaces nobody is heard, since they have no address whose network a sender could be in. */
 void say_deaf_ports(void);
@@ -56,5 +52,3 @@ size_t keep_back(const struct heard *heard, uint32_t answer, const struct ptpm_s
                  const struct ptpm_sent *kept[TURN]);
 
 const struct kept_back *kept_back_so_far(void);
-
-#endif

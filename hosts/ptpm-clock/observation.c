@@ -1,4 +1,3 @@
-#define _GNU_SOURCE
 #include "observation.h"
 #include "field_text.h"
 #include "output.h"

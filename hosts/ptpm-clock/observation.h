@@ -1,6 +1,5 @@
 /* What a text says of a clock and of its ports, as an observation for ptpm_clock_observe: a line for each member. */
-#ifndef OBSERVATION_H
-#define OBSERVATION_H
+#pragma once
 
 #include "ptpm.h"
 #include <stdbool.h>
@@ -19,5 +18,3 @@ struct observation {
    that begins with # say nothing. Of two lines about one member the later counts. Whether every line is right. If one is wrong
    there is no observation, and each wrong one is said on standard error, after `name` and its number. */
 bool read_observation(struct observation *observation, const char *name, char *text);
-
-#endif

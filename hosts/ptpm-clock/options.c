@@ -1,5 +1,5 @@
-#define _GNU_SOURCE
 #include "options.h"
+#include "message_places.h"
 #include "monotonic.h"
 #include "names.h"
 #include "output.h"
@@ -30,20 +30,16 @@ enum {
     ASK, ASK_TIME, GIVE, PTP4L, DIVERTED, PTP4L_RULES
 };
 
+static struct options given;
+const struct options *const options = &given;
+
 static const struct option names[] = {
-    { "ipv6", no_argument, NULL, '6' }, { "ethernet", no_argument, NULL, '2' }, { "hops", required_argument, NULL, HOPS },
-    { "rate", required_argument, NULL, RATE }, { "manager-rate", required_argument, NULL, MANAGER_RATE },
-    { "no-forward", no_argument, NULL, NO_FORWARD }, { "transit", no_argument, NULL, TRANSIT },
-    { "any-source", no_argument, NULL, ANY_SOURCE }, { "ttl-security", no_argument, NULL, TTL_SECURITY },
-    { "user", required_argument, NULL, USER },
-    { "unix-group", required_argument, NULL, UNIX_GROUP }, { "unix-mode", required_argument, NULL, UNIX_MODE },
-    { "owner", required_argument, NULL, OWNER },
-    { "limits", required_argument, NULL, LIMITS }, { "ask", required_argument, NULL, ASK },
-    { "ask-time", required_argument, NULL, ASK_TIME }, { "give", required_argument, NULL, GIVE },
-    { "ptp4l", required_argument, NULL, PTP4L }, { "diverted", required_argument, NULL, DIVERTED },
-    { "ptp4l-rules", no_argument, NULL, PTP4L_RULES },
-    { "no-filter", no_argument, NULL, NO_FILTER }, { "state", required_argument, NULL, 's' }, { "help", no_argument, NULL, 'h' },
-    { "version", no_argument, NULL, VERSION }, { NULL, 0, NULL, 0 },
+    ALONE("ipv6", '6'), ALONE("ethernet", '2'), TAKES("hops", HOPS), TAKES("rate", RATE), TAKES("manager-rate", MANAGER_RATE),
+    ALONE("no-forward", NO_FORWARD), ALONE("transit", TRANSIT), ALONE("any-source", ANY_SOURCE), ALONE("ttl-security", TTL_SECURITY),
+    TAKES("user", USER), TAKES("unix-group", UNIX_GROUP), TAKES("unix-mode", UNIX_MODE), TAKES("owner", OWNER), TAKES("limits", LIMITS),
+    TAKES("ask", ASK), TAKES("ask-time", ASK_TIME), TAKES("give", GIVE), TAKES("ptp4l", PTP4L), TAKES("diverted", DIVERTED),
+    ALONE("ptp4l-rules", PTP4L_RULES), ALONE("no-filter", NO_FILTER), TAKES("state", 's'), ALONE("help", 'h'), ALONE("version", VERSION),
+    { NULL, 0, NULL, 0 },
 };
 
 static const char help[] =
@@ -152,14 +148,14 @@ static void take_user(struct privileges *privileges) {
 }
 
 /* Root stays root only if it is named. The Unix socket stays one of root's group, and what root asks there can be answered. */
-static void leave_root(struct options *options) {
-    struct privileges *privileges = &options->privileges;
+static void leave_root(void) {
+    struct privileges *privileges = &given.privileges;
     if (geteuid() != 0 || privileges->user_name != NULL) return;
     gid_t group = getegid();
     privileges->is_by_default = find_user(privileges, "ptpm") || find_user(privileges, "nobody");
     if (!privileges->is_by_default) say("it stays root: there is no user ptpm or nobody");
-    bool has_socket = options->meeting.path != NULL || options->owner != NULL || options->ptp4l != NULL;
-    if (has_socket && options->meeting.group == (gid_t)-1) options->meeting.group = group;
+    bool has_socket = given.meeting.path != NULL || given.owner != NULL || given.ptp4l != NULL;
+    if (has_socket && given.meeting.group == (gid_t)-1) given.meeting.group = group;
 }
 
 /* UDP port 320 is for a ptp4l that ignores what comes in there. */
@@ -178,20 +174,19 @@ static const char *socket_path(const char *option) {
 
 /* IDENTITY/PORT, with every right. */
 static struct ptpm_manager_settings read_manager(const char *text) {
-    static const uint8_t every[8] = { 0xff, 0xff, 0xff, 0xff, 0xff, 0xff, 0xff, 0xff };
     struct ptpm_manager_settings manager = { .rights = PTPM_CLOCK_SET | PTPM_PORT_SET | PTPM_PORT_COMMAND };
     if (!ptpm_port_identity_parse(text, strlen(text), manager.clock, &manager.port)) {
         refuse_command_line("-m %s: it takes aabbccfffeddee01/1 or aabbcc.fffe.ddee01-1", text);
     }
-    if (manager.port == UINT16_MAX) refuse_command_line("-m %s: port 65535 means every port", text);
-    if (memcmp(manager.clock, every, sizeof every) == 0) refuse_command_line("-m %s: it means every clock", text);
+    if (manager.port == EVERY_PORT) refuse_command_line("-m %s: port 65535 means every port", text);
+    if (memcmp(manager.clock, every_clock, sizeof every_clock) == 0) refuse_command_line("-m %s: it means every clock", text);
     return manager;
 }
 
 /* Over UDP and IPv4 if it is not given. */
-static void take_transport(struct options *options, enum transport given) {
-    if (options->transport != UDP_IPV4 && options->transport != given) refuse_command_line("-2 and -6 exclude each other");
-    options->transport = given;
+static void take_transport(enum transport wanted) {
+    if (given.transport != UDP_IPV4 && given.transport != wanted) refuse_command_line("-2 and -6 exclude each other");
+    given.transport = wanted;
 }
 
 static const char *program_path(void) {
@@ -213,103 +208,103 @@ static struct value value_named(void) {
 }
 
 /* An id and the file of its value, which are two words. */
-static void take_value(struct options *options, char *const *rest) {
+static void take_value(char *const *rest) {
     struct value value = value_named();
     if (rest[optind] == NULL) refuse_command_line("--give %s: the file of its value is missing", optarg);
-    if (options->value_count == VALUES) refuse_command_line("--give: 64 values at most");
-    for (size_t i = 0; i < options->value_count; i++) {
-        const struct value *other = &options->values[i];
+    if (given.value_count == VALUES) refuse_command_line("--give: 64 values at most");
+    for (size_t i = 0; i < given.value_count; i++) {
+        const struct value *other = &given.values[i];
         bool is_twice = other->id == value.id && (other->port == value.port || other->port == 0 || value.port == 0);
         if (is_twice) refuse_command_line("--give %s: the id is given twice", optarg);
     }
     value.path = rest[optind++];
-    options->values[options->value_count++] = value;
+    given.values[given.value_count++] = value;
 }
 
 /* Options of what the host is to do. */
-static void take_limit(struct options *options, int option) {
+static void take_limit(int option) {
     switch (option) {
-    case HOPS: options->limits.hops = number("--hops", 0, 255); break;
-    case RATE: options->limits.rate = number("--rate", 1, MOST_RATE); break;
-    case MANAGER_RATE: options->limits.manager_rate = number("--manager-rate", 1, MOST_RATE); break;
-    case NO_FORWARD: options->limits.is_passed_on = false; break;
-    case TRANSIT: options->limits.is_passed_on_unread = true; break;
-    case ANY_SOURCE: options->limits.is_any_source = true; break;
-    case TTL_SECURITY: options->limits.is_near = true; break;
-    case USER: take_user(&options->privileges); break;
-    case UNIX_GROUP: options->meeting.group = group_named(); break;
-    case UNIX_MODE: options->meeting.mode = mode(); break;
-    case OWNER: options->owner = socket_path("--owner"); break;
-    case NO_FILTER: options->privileges.is_unfiltered = true; break;
-    case LIMITS: options->limits_file = optarg; break;
-    case ASK: options->device_program = program_path(); break;
-    case PTP4L: options->ptp4l = socket_path("--ptp4l"); break;
-    case DIVERTED: options->diverted_port = port_diverted_to(); break;
-    case PTP4L_RULES: options->is_asked_for_rules = true; break;
-    case ASK_TIME: options->device_seconds = number("--ask-time", 1, MOST_ASK_TIME); break;
+    case HOPS: given.limits.hops = number("--hops", 0, 255); break;
+    case RATE: given.limits.rate = number("--rate", 1, MOST_RATE); break;
+    case MANAGER_RATE: given.limits.manager_rate = number("--manager-rate", 1, MOST_RATE); break;
+    case NO_FORWARD: given.limits.is_passed_on = false; break;
+    case TRANSIT: given.limits.is_passed_on_unread = true; break;
+    case ANY_SOURCE: given.limits.is_any_source = true; break;
+    case TTL_SECURITY: given.limits.is_near = true; break;
+    case USER: take_user(&given.privileges); break;
+    case UNIX_GROUP: given.meeting.group = group_named(); break;
+    case UNIX_MODE: given.meeting.mode = mode(); break;
+    case OWNER: given.owner = socket_path("--owner"); break;
+    case NO_FILTER: given.privileges.is_unfiltered = true; break;
+    case LIMITS: given.limits_file = optarg; break;
+    case ASK: given.device_program = program_path(); break;
+    case PTP4L: given.ptp4l = socket_path("--ptp4l"); break;
+    case DIVERTED: given.diverted_port = port_diverted_to(); break;
+    case PTP4L_RULES: given.is_asked_for_rules = true; break;
+    case ASK_TIME: given.device_seconds = number("--ask-time", 1, MOST_ASK_TIME); break;
     default: usage();
     }
 }
 
-static void take_option(struct options *options, int option, char *const *words) {
+static void take_option(int option, char *const *words) {
     switch (option) {
-    case GIVE: take_value(options, words); break;
-    case '2': take_transport(options, ETHERNET); break;
-    case '6': take_transport(options, UDP_IPV6); break;
-    case 'f': options->limits.is_passed_on_from_host = true; break;
-    case 'v': options->is_verbose = true; break;
-    case 'u': options->meeting.path = socket_path("-u"); break;
-    case 's': options->state = optarg; break;
-    case 'o': options->source = optarg; break;
+    case GIVE: take_value(words); break;
+    case '2': take_transport(ETHERNET); break;
+    case '6': take_transport(UDP_IPV6); break;
+    case 'f': given.limits.is_passed_on_from_host = true; break;
+    case 'v': given.is_verbose = true; break;
+    case 'u': given.meeting.path = socket_path("-u"); break;
+    case 's': given.state = optarg; break;
+    case 'o': given.source = optarg; break;
     case 'd':
-        options->settings.domain = (uint8_t)number("-d", 0, 255);
-        options->has_domain = true;
+        given.settings.domain = (uint8_t)number("-d", 0, 255);
+        given.has_domain = true;
         break;
-    case 'n': options->end = milliseconds() + number("-n", 0, 1000000) * SECOND; break;
+    case 'n': given.end = milliseconds() + number("-n", 0, 1000000) * SECOND; break;
     case 'm':
-        if (options->manager_count <= MANAGERS) options->managers[options->manager_count++] = read_manager(optarg);
+        if (given.manager_count <= MANAGERS) given.managers[given.manager_count++] = read_manager(optarg);
         break;
     case 'h': exit(fputs(help, stdout) < 0 || fflush(stdout) != 0);
     case VERSION: exit(puts("ptpm-clock " PTPM_VERSION) < 0 || fflush(stdout) != 0);
-    default: take_limit(options, option);
+    default: take_limit(option);
     }
 }
 
-size_t ports_of(const struct options *options) { return options->interface_count > 0 ? options->interface_count : 1; }
+size_t clock_ports(void) { return options->interface_count > 0 ? options->interface_count : 1; }
 
 /* Two ports at one interface would forward to its link what comes from there. The interface may be given by another of its names. */
-static void refuse_twice(char *const *given, size_t count) {
-    for (size_t i = 1; i < count; i++) {
-        unsigned index = if_nametoindex(given[i]);
+static void refuse_twice(void) {
+    char *const *interfaces = options->interfaces;
+    for (size_t i = 1; i < options->interface_count; i++) {
+        unsigned index = if_nametoindex(interfaces[i]);
         for (size_t k = 0; k < i; k++) {
-            if (strcmp(given[i], given[k]) == 0) refuse_command_line("%s: the interface is named twice", given[i]);
-            if (index == 0 || index != if_nametoindex(given[k])) continue;
-            refuse_command_line("%s: the interface is named twice, as %s", given[i], given[k]);
+            if (strcmp(interfaces[i], interfaces[k]) == 0) refuse_command_line("%s: the interface is named twice", interfaces[i]);
+            if (index == 0 || index != if_nametoindex(interfaces[k])) continue;
+            refuse_command_line("%s: the interface is named twice, as %s", interfaces[i], interfaces[k]);
         }
     }
 }
 
 /* Linux takes a longer name of an interface only over netlink. */
-static void refuse_long(char *const *given, size_t count) {
-    for (size_t i = 0; i < count; i++) {
-        if (strlen(given[i]) < IFNAMSIZ) continue;
-        refuse_command_line("%s: it has over %d octets: ip link shows the short name of the interface", given[i], IFNAMSIZ - 1);
+static void refuse_long(void) {
+    for (size_t i = 0; i < options->interface_count; i++) {
+        const char *name = options->interfaces[i];
+        if (strlen(name) < IFNAMSIZ) continue;
+        refuse_command_line("%s: it has over %d octets: ip link shows the short name of the interface", name, IFNAMSIZ - 1);
     }
 }
 
 /* A clock drops what has its own identity as its source: it treats that as a message of its own that came back. */
-static void refuse_itself(const struct options *options) {
-    char identity[IDENTITY_TEXT];
+static void refuse_itself(void) {
     for (size_t i = 0; i < options->manager_count; i++) {
         const struct ptpm_manager_settings *manager = &options->managers[i];
         if (memcmp(manager->clock, options->settings.identity, sizeof manager->clock) != 0) continue;
-        write_identity(identity, manager->clock);
-        refuse_command_line("-m %s/%u: it has the identity of the clock, which hears no such manager", identity, manager->port);
+        refuse_command_line("-m %s/%u: it has the identity of the clock, which hears no such manager", identity_text(manager->clock), manager->port);
     }
 }
 
 /* Options that say how another one is done, which is missing. A group is only named by then. */
-static void refuse_alone(const struct options *options) {
+static void refuse_alone(void) {
     bool has_socket = options->meeting.path != NULL;
     const char *of_socket = options->limits.is_passed_on_from_host ? "-f" : options->meeting.mode != MODE_AT_FIRST ? "--unix-mode" : NULL;
     if (!has_socket && options->owner == NULL && options->ptp4l == NULL && options->meeting.group != (gid_t)-1) of_socket = "--unix-group";
@@ -319,17 +314,17 @@ static void refuse_alone(const struct options *options) {
     }
 }
 
-static void refuse_port(const struct options *options) {
+static void refuse_port(void) {
     for (size_t i = 0; i < options->value_count; i++) {
         unsigned port = options->values[i].port;
-        if (port > ports_of(options)) {
-            refuse_command_line("--give: there is no port %u; the number of ports is %zu", port, ports_of(options));
+        if (port > clock_ports()) {
+            refuse_command_line("--give: there is no port %u; the number of ports is %zu", port, clock_ports());
         }
     }
 }
 
 /* The ptp4l observes for itself, and is the device. */
-static void judge_ptp4l(const struct options *options) {
+static void judge_ptp4l(void) {
     const char *other = options->source != NULL ? "-o" : options->device_program != NULL ? "--ask" : options->owner != NULL ? "--owner" : NULL;
     if (options->ptp4l == NULL && options->diverted_port != DIVERTED_AT_FIRST) refuse_command_line("--diverted: --ptp4l PATH is missing");
     if (options->ptp4l == NULL) return;
@@ -340,8 +335,8 @@ static void judge_ptp4l(const struct options *options) {
     if (options->interface_count == 0) refuse_command_line("--ptp4l: the interfaces of the ptp4l are missing");
 }
 
-static void judge(const struct options *options) {
-    judge_ptp4l(options);
+static void judge(void) {
+    judge_ptp4l();
     if (options->interface_count > PORTS) refuse_command_line("it takes %d interfaces at most", PORTS);
     if (options->interface_count == 0 && options->meeting.path == NULL) {
         refuse_command_line("an interface is missing, or a Unix socket: -u PATH");
@@ -349,34 +344,32 @@ static void judge(const struct options *options) {
     if (options->owner != NULL && options->meeting.path != NULL && strcmp(options->owner, options->meeting.path) == 0) {
         refuse_command_line("--owner %s: -u has this path", options->owner);
     }
-    refuse_long(options->interfaces, options->interface_count);
-    refuse_twice(options->interfaces, options->interface_count);
-    refuse_itself(options);
-    refuse_port(options);
+    refuse_long();
+    refuse_twice();
+    refuse_itself();
+    refuse_port();
 }
 
-void read_options(struct options *options, int argc, char **argv) {
-    ptpm_clock_defaults(&options->settings);
-    options->limits = (struct limits){ .hops = HOPS_AT_FIRST, .rate = RATE_AT_FIRST, .manager_rate = MANAGER_RATE_AT_FIRST, .is_passed_on = true };
-    options->device_seconds = ASK_TIME_AT_FIRST;
-    options->diverted_port = DIVERTED_AT_FIRST;
-    options->meeting = (struct meeting){ .mode = MODE_AT_FIRST, .group = (gid_t)-1 };
-    for (int option; (option = getopt_long(argc, argv, "26fu:m:d:s:o:n:vh", names, NULL)) != -1;) take_option(options, option, argv);
-    if (options->is_asked_for_rules && options->diverted_port == GENERAL_PORT) refuse_command_line("--ptp4l-rules: none diverts to UDP port 320");
-    if (options->is_asked_for_rules) exit(!print_rules(options->diverted_port));
+void read_options(int argc, char **argv) {
+    ptpm_clock_defaults(&given.settings);
+    given.limits = (struct limits){ .hops = HOPS_AT_FIRST, .rate = RATE_AT_FIRST, .manager_rate = MANAGER_RATE_AT_FIRST, .is_passed_on = true };
+    given.device_seconds = ASK_TIME_AT_FIRST;
+    given.diverted_port = DIVERTED_AT_FIRST;
+    given.meeting = (struct meeting){ .mode = MODE_AT_FIRST, .group = (gid_t)-1 };
+    for (int option; (option = getopt_long(argc, argv, "26fu:m:d:s:o:n:vh", names, NULL)) != -1;) take_option(option, argv);
+    if (given.is_asked_for_rules && given.diverted_port == GENERAL_PORT) refuse_command_line("--ptp4l-rules: none diverts to UDP port 320");
+    if (given.is_asked_for_rules) exit(!print_rules(given.diverted_port));
     if (optind == argc) refuse_command_line("the clock's identity is missing");
-    if (!ptpm_identity_parse(argv[optind], strlen(argv[optind]), options->settings.identity)) {
+    if (!ptpm_identity_parse(argv[optind], strlen(argv[optind]), given.settings.identity)) {
         refuse_command_line("%s: it takes a clockIdentity, such as aabbccfffeddee01 or aabbcc.fffe.ddee01", argv[optind]);
     }
-    options->interfaces = argv + optind + 1;
-    options->interface_count = (size_t)(argc - optind - 1);
-    refuse_alone(options);
-    leave_root(options);
-    if (options->privileges.user_name != NULL && options->meeting.group == (gid_t)-1) {
-        options->meeting.group = options->privileges.group;
+    given.interfaces = argv + optind + 1;
+    given.interface_count = (size_t)(argc - optind - 1);
+    refuse_alone();
+    leave_root();
+    if (given.privileges.user_name != NULL && given.meeting.group == (gid_t)-1) {
+        given.meeting.group = given.privileges.group;
     }
-    options->privileges.socket_group = options->meeting.group;
-    options->limits.managers = options->managers;
-    options->limits.manager_count = options->manager_count;
-    judge(options);
+    given.privileges.socket_group = given.meeting.group;
+    judge();
 }

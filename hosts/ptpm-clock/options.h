@@ -1,6 +1,5 @@
 /* The command line of ptpm-clock. */
-#ifndef OPTIONS_H
-#define OPTIONS_H
+#pragma once
 
 #include "network_limits.h"
 #include "peers.h"
@@ -41,10 +40,11 @@ struct options {
     int64_t end;                        /* when it ends by itself, in milliseconds; 0 if it doesn't */
 };
 
+/* What the command line says. */
+extern const struct options *const options;
+
 /* How many ports the clock has. One that is heard only on its Unix socket has a port too. */
-size_t ports_of(const struct options *options);
+size_t clock_ports(void);
 
 /* Reads it whole, or ends the program: with status 2 if something is wrong, which is said. */
-void read_options(struct options *options, int argc, char **argv);
-
-#endif
+void read_options(int argc, char **argv);

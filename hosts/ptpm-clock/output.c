@@ -1,4 +1,3 @@
-#define _GNU_SOURCE
 #include "output.h"
 #include "monotonic.h"
 #include "program.h"
@@ -8,7 +7,6 @@
 #include <stdarg.h>
 #include <stdbool.h>
 #include <stdio.h>
-#include <string.h>
 #include <time.h>
 #include <unistd.h>
 

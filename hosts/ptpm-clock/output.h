@@ -1,8 +1,7 @@
 /* What ptpm-clock prints: lines on standard output, and on standard error after the program's name. Once it has started, a
    thread for each writes them, so that a reader that hangs stops nothing else. A line for which there is no room is counted,
    and not printed. */
-#ifndef OUTPUT_H
-#define OUTPUT_H
+#pragma once
 
 /* How many octets a line has at most. It says each port of a clock. */
 enum { LINE = 4096 };
@@ -24,5 +23,3 @@ unsigned long lines_lost(void);
 
 /* Waits for their readers, at most a second. */
 void end_output(void);
-
-#endif

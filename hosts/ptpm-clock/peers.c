@@ -1,7 +1,7 @@
-#define _GNU_SOURCE
 #include "peers.h"
 #include "monotonic.h"
 #include "program.h"
+#include "socket_option.h"
 #include "unix_socket.h"
 #include <errno.h>
 #include <limits.h>
@@ -44,11 +44,9 @@ static int meeting_socket = -1, owner_socket = -1;
 
 /* A socket that has the path for a moment only: then another one has it. */
 static int open_named(const struct meeting *meeting) {
-    int room = ROOM, opened = bind_unix(meeting->path, meeting->mode);
+    int opened = bind_unix(meeting->path, meeting->mode);
     if (unlink(meeting->path)) give_up(meeting->path);
-    if (setsockopt(opened, SOL_SOCKET, SO_SNDBUFFORCE, &room, sizeof room)) {
-        setsockopt(opened, SOL_SOCKET, SO_SNDBUF, &room, sizeof room);
-    }
+    if (!set_number(opened, SOL_SOCKET, SO_SNDBUFFORCE, ROOM)) set_number(opened, SOL_SOCKET, SO_SNDBUF, ROOM);
     return opened;
 }
 

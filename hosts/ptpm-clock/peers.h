@@ -1,8 +1,7 @@
 /* The Unix sockets of ptpm-clock, and the programs of this host that ask there, its peers. What a peer does not read stays in
    the socket that it was sent from. So each peer has a socket of its own, and little room there. The device's owner has a socket
    apart, where what is asked is carried out (--owner). */
-#ifndef PEERS_H
-#define PEERS_H
+#pragma once
 
 #include "rounds.h"
 #include <stdbool.h>
@@ -34,5 +33,3 @@ bool answer_peer(const struct ptpm_sent *message, const struct heard *answered);
 long answer_again(unsigned long *dropped);
 
 void close_peers(void);
-
-#endif

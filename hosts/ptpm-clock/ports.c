@@ -1,4 +1,3 @@
-#define _GNU_SOURCE
 #include "ports.h"
 #include "general_port.h"
 #include "netlink.h"

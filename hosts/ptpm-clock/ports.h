@@ -1,6 +1,5 @@
 /* The ports of ptpm-clock at this host's interfaces: a socket each, which stays with its interface's name. */
-#ifndef PORTS_H
-#define PORTS_H
+#pragma once
 
 #include "ethernet.h"
 #include "ptpm.h"
@@ -46,5 +45,3 @@ void renew_ports(int64_t now);
 void hear_of_links(void);
 
 void close_ports(void);
-
-#endif

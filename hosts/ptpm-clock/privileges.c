@@ -1,4 +1,3 @@
-#define _GNU_SOURCE
 #include "privileges.h"
 #include "program.h"
 #include <asm/ioctls.h>

@@ -1,6 +1,5 @@
 /* What ptpm-clock keeps of the rights that it was started with. */
-#ifndef PRIVILEGES_H
-#define PRIVILEGES_H
+#pragma once
 
 #include <stdbool.h>
 #include <sys/types.h>
@@ -24,5 +23,3 @@ void let_go_of_rights(const struct privileges *privileges, enum needs needs);
 /* From now on all system calls fail except those that the program makes. Does nothing if the kernel has no filters, or if those
    calls are not known for the machine. Comes before any thread. */
 void filter_calls(const struct privileges *privileges);
-
-#endif

@@ -1,5 +1,5 @@
-#define _GNU_SOURCE
 #include "ptp4l.h"
+#include "output.h"
 #include "ptp4l_change.h"
 #include "ptp4l_check.h"
 #include "ptp4l_mute.h"
@@ -9,14 +9,12 @@
 
 bool has_ptp4l;
 
-void start_ptp4l(const struct options *given, uint8_t domain) {
-    if (given->ptp4l == NULL) return;
+void start_ptp4l(uint8_t domain) {
+    if (options->ptp4l == NULL) return;
     has_ptp4l = true;
-    open_ptp4l(given->ptp4l, domain, take_answer_to_change);
-    start_check(given);
-    start_ptp4l_values(given, domain);
-    start_mute(given, domain);
-    start_changes(given);
+    open_ptp4l(options->ptp4l, domain, take_answer_to_change);
+    start_ptp4l_values();
+    if (options->state == NULL) say("without -s a SET may be made again after a restart of this program");
     if (find_ptp4l() == HAS_OTHER_PORTS) exit(2);
 }
 

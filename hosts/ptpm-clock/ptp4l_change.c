@@ -1,6 +1,6 @@
-#define _GNU_SOURCE
 #include "ptp4l_change.h"
 #include "device.h"
+#include "message_places.h"
 #include "monotonic.h"
 #include "output.h"
 #include "ptp4l_check.h"
@@ -13,13 +13,7 @@
 
 enum { LOOK_AGAIN = 500 };      /* milliseconds after which it is seen whether the ptp4l is still there */
 
-static const struct options *options;
 static struct { bool is_there; uint16_t number; unsigned life; int64_t look; struct ptpm_question asked; } under_way;
-
-void start_changes(const struct options *given) {
-    options = given;
-    if (options->state == NULL) say("without -s a SET may be made again after a restart of this program");
-}
 
 static bool is_of_ptp4l(const struct ptpm_question *asked) { return asked->action == PTPM_SET && id_at_ptp4l(asked->id) != 0; }
 

@@ -1,15 +1,12 @@
 /* A change of a manager beside a ptp4l, which is asked for it at most once. After a restart of this program nothing is asked again. A look
    at the value shows what became of a change that was under way. This is tested, and not proved. */
-#ifndef PTP4L_CHANGE_H
-#define PTP4L_CHANGE_H
+#pragma once
 
 #include "options.h"
 #include "ptp4l_socket.h"
 #include "ptpm.h"
 #include <stdbool.h>
 #include <stdint.h>
-
-void start_changes(const struct options *given);
 
 /* Whether the ptp4l may be asked for a change. It is not to be asked if `say` says it all. Or it can't be asked yet, or not at all. */
 enum judged { MAY_BE_ASKED, IS_SAID, IS_TOO_EARLY, IS_LOST };
@@ -27,5 +24,3 @@ void watch_change(int64_t now);
 /* Whether it has the value of a change that an earlier run may have asked it for. Waits for the ptp4l without end, unless its life is
    over. */
 bool has_ptp4l_changed(const struct ptpm_question *asked);
-
-#endif

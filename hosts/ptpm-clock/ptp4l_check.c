@@ -1,5 +1,5 @@
-#define _GNU_SOURCE
 #include "ptp4l_check.h"
+#include "message_places.h"
 #include "monotonic.h"
 #include "output.h"
 #include "ptp4l_socket.h"
@@ -12,40 +12,34 @@
 enum { NUMBER_PORTS_AT = 2, IDENTITY_AT = 10, DEFAULT_OCTETS = 20, PORT_PROPERTIES_NP = 0xc004, NAME_SIZE_AT = 12, NAME_AT = 13 };
 enum { CLOCK_DESCRIPTION = 0x0001, LAYER_SIZE_AT = 2, LAYER_AT = 3 };
 
-static const struct options *options;
 static unsigned life;                   /* the one that the verdict is about */
 static enum found verdict;
 static bool is_told_closed, is_told_silent, is_told_missing;
 
-void start_check(const struct options *given) { options = given; }
-
 /* Any clock has to answer, so that one with another identity shows itself. */
 static bool ask_any(uint16_t id, uint16_t *number) {
-    static const uint8_t every[8] = { 0xff, 0xff, 0xff, 0xff, 0xff, 0xff, 0xff, 0xff };
-    return ask_ptp4l(every, PTPM_GET, id, EVERY_PORT, NULL, 0, number);
+    return ask_ptp4l(every_clock, PTPM_GET, id, EVERY_PORT, NULL, 0, number);
 }
 
 static enum found judge_clock(void) {
     struct ptp4l_answer answer;
-    char own[IDENTITY_TEXT], other[IDENTITY_TEXT];
     uint16_t number;
     if (!ask_any(PTPM_ID_DEFAULT_DATA_SET, &number) || !hear_ptp4l(number, milliseconds() + PTP4L_PATIENCE, &answer)) return IS_SILENT;
     if (answer.size < DEFAULT_OCTETS) return IS_SILENT;
-    size_t ports_found = (size_t)answer.field[NUMBER_PORTS_AT] << 8 | answer.field[NUMBER_PORTS_AT + 1];
+    size_t ports_found = number_at(answer.field + NUMBER_PORTS_AT);
     if (memcmp(answer.field + IDENTITY_AT, options->settings.identity, sizeof options->settings.identity) != 0) {
-        write_identity(own, options->settings.identity);
-        write_identity(other, answer.field + IDENTITY_AT);
-        say("%s: the ptp4l is clock %s, and not %s: nothing is answered", options->ptp4l, other, own);
+        say("%s: the ptp4l is clock %s, and not %s: nothing is answered", options->ptp4l, identity_text(answer.field + IDENTITY_AT),
+            identity_text(options->settings.identity));
         return IS_ANOTHER_CLOCK;
     }
-    if (ports_found == ports_of(options)) return IS_OURS;
-    say("%s: the ptp4l has %zu port%s, and not %zu", options->ptp4l, ports_found, ports_found == 1 ? "" : "s", ports_of(options));
+    if (ports_found == clock_ports()) return IS_OURS;
+    say("%s: the ptp4l has %zu port%s, and not %zu", options->ptp4l, ports_found, ports_found == 1 ? "" : "s", clock_ports());
     return HAS_OTHER_PORTS;
 }
 
 static enum found judge_port(const struct ptp4l_answer *answer) {
     size_t size = answer->size > NAME_SIZE_AT ? answer->field[NAME_SIZE_AT] : 0;
-    if (answer->port == 0 || answer->port > ports_of(options) || NAME_AT + size > answer->size) return IS_SILENT;
+    if (answer->port == 0 || answer->port > clock_ports() || NAME_AT + size > answer->size) return IS_SILENT;
     const char *name = (const char *)answer->field + NAME_AT, *given = options->interfaces[answer->port - 1];
     if (strlen(given) == size && memcmp(name, given, size) == 0) return IS_OURS;
     say("%s: port %u of the ptp4l is at %.*s, and not at %s", options->ptp4l, answer->port, (int)size, name, given);
@@ -58,7 +52,7 @@ static enum found judge_ports(void) {
     int64_t end = milliseconds() + PTP4L_PATIENCE;
     uint16_t number;
     if (!ask_any(PORT_PROPERTIES_NP, &number)) return IS_SILENT;
-    for (size_t i = 0; i < ports_of(options); i++) {
+    for (size_t i = 0; i < clock_ports(); i++) {
         if (!hear_ptp4l(number, end, &answer)) return IS_SILENT;
         enum found one = judge_port(&answer);
         if (one != IS_OURS) found = one;
@@ -81,9 +75,9 @@ static void compare_transports(void) {
     int64_t end = milliseconds() + PTP4L_PATIENCE;
     uint16_t number;
     if (!ask_any(CLOCK_DESCRIPTION, &number)) return;
-    for (size_t i = 0; i < ports_of(options) && hear_ptp4l(number, end, &answer); i++) {
+    for (size_t i = 0; i < clock_ports() && hear_ptp4l(number, end, &answer); i++) {
         unsigned protocol = protocol_of(&answer);
-        if (answer.port == 0 || answer.port > ports_of(options) || protocol == 0 || protocol > sizeof names / sizeof *names) continue;
+        if (answer.port == 0 || answer.port > clock_ports() || protocol == 0 || protocol > sizeof names / sizeof *names) continue;
         if (protocol - 1 == (unsigned)options->transport) continue;
         say("the ptp4l is over %s at %s, and this program over %s: -2 and -6 say over what it is", names[protocol - 1],
             options->interfaces[answer.port - 1], names[options->transport]);

@@ -1,10 +1,10 @@
-#define _GNU_SOURCE
 #include "ptp4l_mute.h"
 #include "message_places.h"
 #include "monotonic.h"
 #include "output.h"
 #include "ptp4l_check.h"
 #include "ptp4l_socket.h"
+#include "socket_option.h"
 #include "udp.h"
 #include <string.h>
 #include <unistd.h>
@@ -17,17 +17,10 @@ enum { PORT_STATS_NP = 0xc005, COUNTS_AT = PORT_IDENTITY, COUNT = 8, TYPES = 16 
 
 enum { MOST_READS = 8 };                /* until what waited at the ports of the ptp4l is taken */
 
-static const struct options *options;
-static uint8_t domain;
 static unsigned probed_life;
 static uint64_t counts[PORTS];          /* as they were last */
 static int64_t due;
 static bool is_sent, is_mute, is_told;
-
-void start_mute(const struct options *given, uint8_t of_clock) {
-    options = given;
-    domain = of_clock;
-}
 
 static uint64_t count_in(const struct ptp4l_answer *answer, int type) {
     uint64_t count = 0;
@@ -42,9 +35,9 @@ static bool read_counts(uint64_t heard[PORTS], uint64_t *all) {
     uint16_t number;
     *all = 0;
     if (!get_from_ptp4l(PORT_STATS_NP, EVERY_PORT, &number)) return false;
-    for (size_t i = 0; i < ports_of(options); i++) {
+    for (size_t i = 0; i < clock_ports(); i++) {
         if (!hear_ptp4l(number, end, &answer)) return false;
-        if (answer.size < COUNTS_AT + TYPES * COUNT || answer.port == 0 || answer.port > ports_of(options)) return false;
+        if (answer.size < COUNTS_AT + TYPES * COUNT || answer.port == 0 || answer.port > clock_ports()) return false;
         heard[answer.port - 1] = count_in(&answer, MANAGEMENT_TYPE);
         for (int type = 0; type < TYPES; type++) *all += count_in(&answer, type);
     }
@@ -66,7 +59,7 @@ static bool read_all_counts(uint64_t heard[PORTS]) {
 /* Which port has heard something since its count was read; how many ports there are if none has. */
 static size_t port_that_heard(const uint64_t now[PORTS]) {
     size_t port = 0;
-    while (port < ports_of(options) && now[port] == counts[port]) port++;
+    while (port < clock_ports() && now[port] == counts[port]) port++;
     return port;
 }
 
@@ -84,7 +77,7 @@ static enum compared compare_counts(void) {
     if (!is_read || ptp4l_life() != probed_life) return NOT_KNOWN;
     size_t port = port_that_heard(now);
     if (diverted_port != 0) memcpy(counts, now, sizeof counts);
-    if (port == ports_of(options)) return ARE_SAME;
+    if (port == clock_ports()) return ARE_SAME;
     if (!is_told) say("the ptp4l still hears management messages at %s, and no change is taken: %s", options->interfaces[port], advice());
     is_told = true;
     return HAVE_RISEN;
@@ -93,20 +86,19 @@ static enum compared compare_counts(void) {
 /* A GET of no clock, by nobody, with no hops. Its TTL is 0, so only this host hears it. */
 static void send_probe_at(const struct port *port) {
     static const uint8_t nobody[PORT_IDENTITY] = { 0xff, 0xfe, 0xff, 0xfe, 0xff, 0xfe, 0xff, 0xfe, 0xff, 0xfe };
-    uint8_t octets[LEAST_MESSAGE] = { [TYPE_AT] = MANAGEMENT_TYPE, [VERSION_AT] = 2, [LENGTH_AT + 1] = LEAST_MESSAGE, [DOMAIN_AT] = domain,
+    uint8_t octets[LEAST_MESSAGE] = { [TYPE_AT] = MANAGEMENT_TYPE, [VERSION_AT] = 2, [LENGTH_AT + 1] = LEAST_MESSAGE, [DOMAIN_AT] = ptp4l_domain(),
                                       [32] = 4, [INTERVAL_AT] = 0x7f, [TLV_AT + 1] = 1, [TLV_AT + 3] = 2 };
     bool is_six = transport == UDP_IPV6;
     struct sockaddr_storage to;
-    const int index = (int)port->index, none = 0;
-    const struct ip_mreqn way = { .imr_ifindex = index };
+    const struct ip_mreqn way = { .imr_ifindex = (int)port->index };
     memcpy(octets + SOURCE_AT, nobody, sizeof nobody);
     memcpy(octets + TARGET_AT, nobody, sizeof nobody);
     int from = socket(is_six ? AF_INET6 : AF_INET, SOCK_DGRAM | SOCK_CLOEXEC, 0);
     if (from < 0) return;
-    bool is_set = is_six ? setsockopt(from, IPPROTO_IPV6, IPV6_MULTICAST_IF, &index, sizeof index) == 0
-                               && setsockopt(from, IPPROTO_IPV6, IPV6_MULTICAST_HOPS, &none, sizeof none) == 0
+    bool is_set = is_six ? set_number(from, IPPROTO_IPV6, IPV6_MULTICAST_IF, (int)port->index)
+                               && set_number(from, IPPROTO_IPV6, IPV6_MULTICAST_HOPS, 0)
                          : setsockopt(from, IPPROTO_IP, IP_MULTICAST_IF, &way, sizeof way) == 0
-                               && setsockopt(from, IPPROTO_IP, IP_MULTICAST_TTL, &none, sizeof none) == 0;
+                               && set_number(from, IPPROTO_IP, IP_MULTICAST_TTL, 0);
     if (is_set) sendto(from, octets, sizeof octets, MSG_DONTWAIT, (struct sockaddr *)&to, group(&to, is_six));
     close(from);
 }

@@ -1,14 +1,11 @@
 /* Whether the ptp4l is mute: it hears no management messages from the network, so that only this agent answers them. A rule of the
    firewall diverts them (ptp4l_rules.h). Or it ignores them itself: over Ethernet libptpm_mute.so sees to that. Whether it is mute is found by
    what it counts (PORT_STATS_NP). */
-#ifndef PTP4L_MUTE_H
-#define PTP4L_MUTE_H
+#pragma once
 
 #include "options.h"
 #include <stdbool.h>
 #include <stdint.h>
-
-void start_mute(const struct options *given, uint8_t domain);
 
 /* Probes it: at each of its starts, each minute, and every two seconds while it is not mute. A probe is a message to the group that does
    not leave this host. None is sent if nothing is diverted. */
@@ -23,5 +20,3 @@ bool is_probing(void);
 /* Whether the ptp4l has heard nothing until now. What waits at its ports it takes before what waits on its Unix socket. So if it has heard
    the request that is handled, it has counted that. */
 bool is_ptp4l_mute(void);
-
-#endif

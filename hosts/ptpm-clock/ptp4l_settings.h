@@ -1,7 +1,6 @@
 /* The SETs of a manager that a ptp4l takes. It lacks a SET of CLOCK_ACCURACY and of UTC_PROPERTIES. Their members are set by its own
    GRANDMASTER_SETTINGS_NP, whose other members are set to what they are. */
-#ifndef PTP4L_SETTINGS_H
-#define PTP4L_SETTINGS_H
+#pragma once
 
 #include "ptpm.h"
 #include <stdbool.h>
@@ -19,5 +18,3 @@ void put_members(uint8_t *field, const struct ptpm_question *asked);
 
 /* Whether a dataField of that id has them. */
 bool has_members(const uint8_t *field, size_t size, const struct ptpm_question *asked);
-
-#endif

@@ -1,8 +1,8 @@
-#define _GNU_SOURCE
 #include "ptp4l_socket.h"
 #include "message_places.h"
 #include "monotonic.h"
 #include "ptpm.h"
+#include "socket_option.h"
 #include <errno.h>
 #include <poll.h>
 #include <string.h>
@@ -32,6 +32,8 @@ void open_ptp4l(const char *path, uint8_t given, ptp4l_taker *taker) {
     latest = (uint16_t)milliseconds();
 }
 
+uint8_t ptp4l_domain(void) { return domain; }
+
 int ptp4l_socket(void) { return connected; }
 
 unsigned ptp4l_life(void) { return lives; }
@@ -50,11 +52,7 @@ static bool is_same(const struct life *one, const struct life *other) {
 
 static int connected_socket(void) {
     int opened = socket(AF_UNIX, SOCK_DGRAM | SOCK_CLOEXEC | SOCK_NONBLOCK, 0);
-    if (opened < 0 || connect(opened, (const struct sockaddr *)&address, sizeof address) == 0) return opened;
-    int failure = errno;
-    close(opened);
-    errno = failure;
-    return -1;
+    return opened < 0 || connect(opened, (const struct sockaddr *)&address, sizeof address) == 0 ? opened : closed(opened);
 }
 
 /* Others may send to a socket that has a name and is connected to nobody. So it is connected first, and then gets a name by which it can
@@ -94,26 +92,19 @@ bool is_ptp4l_gone(void) {
     return false;
 }
 
-static void put16(uint8_t *at, size_t value) {
-    at[0] = (uint8_t)(value >> 8);
-    at[1] = (uint8_t)value;
-}
-
-static uint16_t get16(const uint8_t *at) { return (uint16_t)(at[0] << 8 | at[1]); }
-
 static uint16_t own_port(void) { return (uint16_t)getpid(); }
 
 static bool read_answer(const uint8_t *octets, size_t size, struct ptp4l_answer *answer) {
     unsigned action = size < LEAST_MESSAGE ? 0 : octets[ACTION_AT] & LOWER_HALF;
     if (action != RESPONSE && action != ACKNOWLEDGE) return false;
-    if (get16(octets + TARGET_AT + CLOCK_IDENTITY) != own_port()) return false;
-    bool is_error = get16(octets + TLV_AT) == ERROR_TLV;
+    if (number_at(octets + TARGET_AT + CLOCK_IDENTITY) != own_port()) return false;
+    bool is_error = number_at(octets + TLV_AT) == ERROR_TLV;
     if (is_error && size < FIELD_AT + 2) return false;
     *answer = (struct ptp4l_answer){
-        .port = get16(octets + SOURCE_PORT_AT), .number = get16(octets + SEQUENCE_AT), .id = get16(octets + (is_error ? FIELD_AT : ID_AT)),
-        .error = is_error ? get16(octets + ID_AT) : 0, .field = octets + FIELD_AT, .size = is_error ? 0 : size - FIELD_AT,
+        .port = number_at(octets + SOURCE_PORT_AT), .number = number_at(octets + SEQUENCE_AT),
+        .id = number_at(octets + (is_error ? FIELD_AT : ID_AT)), .error = is_error ? number_at(octets + ID_AT) : 0,
+        .field = octets + FIELD_AT, .size = is_error ? 0 : size - FIELD_AT,
     };
-    memcpy(answer->clock, octets + SOURCE_AT, sizeof answer->clock);
     return true;
 }
 
@@ -152,18 +143,18 @@ static size_t write_question(uint8_t octets[LEAST_MESSAGE + PTPM_MOST_READ], con
     memset(octets, 0, LEAST_MESSAGE);
     octets[TYPE_AT] = MANAGEMENT_TYPE;
     octets[VERSION_AT] = VERSION;
-    put16(octets + LENGTH_AT, LEAST_MESSAGE + size);
+    put_number(octets + LENGTH_AT, LEAST_MESSAGE + size);
     octets[DOMAIN_AT] = domain;
-    put16(octets + SOURCE_PORT_AT, own_port());
-    put16(octets + SEQUENCE_AT, ++latest);
+    put_number(octets + SOURCE_PORT_AT, own_port());
+    put_number(octets + SEQUENCE_AT, ++latest);
     octets[CONTROL_AT] = CONTROL;
     octets[INTERVAL_AT] = INTERVAL;
     memcpy(octets + TARGET_AT, clock, CLOCK_IDENTITY);
-    put16(octets + TARGET_AT + CLOCK_IDENTITY, port);
+    put_number(octets + TARGET_AT + CLOCK_IDENTITY, port);
     octets[ACTION_AT] = action;
-    put16(octets + TLV_AT, MANAGEMENT_TLV);
-    put16(octets + TLV_AT + 2, size + 2);
-    put16(octets + ID_AT, id);
+    put_number(octets + TLV_AT, MANAGEMENT_TLV);
+    put_number(octets + TLV_AT + 2, size + 2);
+    put_number(octets + ID_AT, id);
     if (size > 0) memcpy(octets + FIELD_AT, field, size);
     return LEAST_MESSAGE + size;
 }

@@ -1,22 +1,18 @@
 /* A ptp4l of this host (--ptp4l PATH), which is asked on its Unix socket. The socket here is connected, so it belongs to one life of the
    ptp4l. It hears no other process, and after the end of that life each send is refused. A ptp4l waits for a client that does not
    read its answers, and its servo waits too. So there is one GET at a time, and no event is subscribed to. */
-#ifndef PTP4L_SOCKET_H
-#define PTP4L_SOCKET_H
+#pragma once
 
 #include <stdbool.h>
 #include <stddef.h>
 #include <stdint.h>
-
-enum { EVERY_PORT = 0xffff };
 
 /* How many milliseconds a GET waits for its answer. */
 enum { PTP4L_PATIENCE = 100 };
 
 /* An answer of the ptp4l. It stays until the next one is heard. */
 struct ptp4l_answer {
-    uint8_t clock[8];                   /* sourcePortIdentity: the clock, and the port, which is 0 for an id of the clock */
-    uint16_t port;
+    uint16_t port;                      /* of sourcePortIdentity, which is 0 for an id of the clock */
     uint16_t number, id;                /* sequenceId and managementId */
     uint16_t error;                     /* managementErrorId, or 0 */
     const uint8_t *field;               /* the dataField */
@@ -28,6 +24,9 @@ typedef void ptp4l_taker(const struct ptp4l_answer *answer);
 
 /* From now on the ptp4l at this path is asked, in this domain. */
 void open_ptp4l(const char *path, uint8_t domain, ptp4l_taker *taker);
+
+/* That domain. */
+uint8_t ptp4l_domain(void);
 
 /* What is to be polled; -1 while there is no ptp4l. */
 int ptp4l_socket(void);
@@ -53,5 +52,3 @@ bool hear_ptp4l(uint16_t number, int64_t end, struct ptp4l_answer *answer);
 
 /* Takes all answers that have come in. */
 void take_answers(void);
-
-#endif

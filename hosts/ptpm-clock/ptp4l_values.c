@@ -1,4 +1,3 @@
-#define _GNU_SOURCE
 #include "ptp4l_values.h"
 #include "message_places.h"
 #include "monotonic.h"
@@ -30,32 +29,24 @@ static const struct { uint16_t id; bool is_of_port; } ids[] = {
 };
 enum { IDS = sizeof ids / sizeof *ids };
 
-static const struct options *options;
-static uint8_t domain;
-
 static struct learned latest = { .place = IDS };
 
-void start_ptp4l_values(const struct options *given, uint8_t of_clock) {
-    options = given;
-    domain = of_clock;
-    latest.size = offsetof(struct learned, at) + (1 + ports_of(options)) * sizeof latest.at[0];
+void start_ptp4l_values(void) {
+    latest.size = offsetof(struct learned, at) + (1 + clock_ports()) * sizeof latest.at[0];
 }
-
-static uint16_t get16(const uint8_t *at) { return (uint16_t)(at[0] << 8 | at[1]); }
 
 static bool is_own(const uint8_t *identity) { return memcmp(identity, options->settings.identity, CLOCK_IDENTITY) == 0; }
 
-static uint16_t port_asked(const struct heard *heard) { return get16(heard->octets + TARGET_AT + CLOCK_IDENTITY); }
+static uint16_t port_asked(const struct heard *heard) { return number_at(heard->octets + TARGET_AT + CLOCK_IDENTITY); }
 
 /* Which of the ids a GET of this clock, or of every clock, names; IDS if it is none of them. A file of --give comes first. */
 static size_t id_asked(const struct heard *heard) {
-    static const uint8_t every[CLOCK_IDENTITY] = { 0xff, 0xff, 0xff, 0xff, 0xff, 0xff, 0xff, 0xff };
     const uint8_t *octets = heard->octets;
-    if (heard->size < LEAST_MESSAGE || (octets[ACTION_AT] & LOWER_HALF) != PTPM_GET || octets[DOMAIN_AT] != domain) return IDS;
-    if (!is_own(octets + TARGET_AT) && memcmp(octets + TARGET_AT, every, CLOCK_IDENTITY) != 0) return IDS;
+    if (heard->size < LEAST_MESSAGE || (octets[ACTION_AT] & LOWER_HALF) != PTPM_GET || octets[DOMAIN_AT] != ptp4l_domain()) return IDS;
+    if (!is_own(octets + TARGET_AT) && memcmp(octets + TARGET_AT, every_clock, CLOCK_IDENTITY) != 0) return IDS;
     uint16_t port = port_asked(heard);
-    if (port != EVERY_PORT && (port == 0 || port > ports_of(options))) return IDS;
-    uint16_t id = get16(octets + ID_AT);
+    if (port != EVERY_PORT && (port == 0 || port > clock_ports())) return IDS;
+    uint16_t id = number_at(octets + ID_AT);
     for (size_t i = 0; i < options->value_count; i++) {
         if (options->values[i].id == id) return IDS;
     }
@@ -65,7 +56,7 @@ static size_t id_asked(const struct heard *heard) {
 }
 
 /* How many answers there are of a port: one, or that of each. */
-static size_t answers_of(size_t place, uint16_t port) { return ids[place].is_of_port && port == EVERY_PORT ? ports_of(options) : 1; }
+static size_t answers_of(size_t place, uint16_t port) { return ids[place].is_of_port && port == EVERY_PORT ? clock_ports() : 1; }
 
 /* currentUtcOffset, and the flags that are UTC's of those of TIME_PROPERTIES_DATA_SET. A ptp4l lacks UTC_PROPERTIES. */
 static void make_utc_properties(uint8_t octets[4]) {
@@ -76,7 +67,7 @@ static void make_utc_properties(uint8_t octets[4]) {
 
 static bool take_value(size_t place, const struct ptp4l_answer *answer) {
     size_t at = ids[place].is_of_port ? answer->port : 0;
-    if (answer->error != 0 || answer->size > PTPM_MOST_READ || at > ports_of(options)) return false;
+    if (answer->error != 0 || answer->size > PTPM_MOST_READ || at > clock_ports()) return false;
     memcpy(latest.at[at].octets, answer->field, latest.at[at].size = answer->size);
     if (ids[place].id == PTPM_ID_UTC_PROPERTIES && answer->size == 4) make_utc_properties(latest.at[at].octets);
     return true;
@@ -106,7 +97,7 @@ static bool admit_question(struct heard *heard) {
 bool learn_value(struct heard *heard) {
     latest.place = id_asked(heard);
     if (latest.place == IDS) return true;
-    for (size_t i = 0; i <= ports_of(options); i++) latest.at[i].size = 0;
+    for (size_t i = 0; i <= clock_ports(); i++) latest.at[i].size = 0;
     latest.is_known = admit_question(heard) && ask_value(latest.place, port_asked(heard));
     return latest.is_known || !is_own(heard->octets + TARGET_AT);
 }
@@ -114,7 +105,7 @@ bool learn_value(struct heard *heard) {
 const struct learned *value_learned(void) { return &latest; }
 
 /* The place of the value for an answer of this port. */
-static size_t place_of(const struct learned *value, uint16_t port) { return ids[value->place].is_of_port && port <= ports_of(options) ? port : 0; }
+static size_t place_of(const struct learned *value, uint16_t port) { return ids[value->place].is_of_port && port <= clock_ports() ? port : 0; }
 
 const struct ptpm_say *learned_to_give(const struct ptpm_clock *clock, const struct heard *heard) {
     static struct ptpm_say say;
@@ -128,19 +119,14 @@ const struct ptpm_say *learned_to_give(const struct ptpm_clock *clock, const str
     return &say;
 }
 
-static void put16(uint8_t *at, size_t value) {
-    at[0] = (uint8_t)(value >> 8);
-    at[1] = (uint8_t)value;
-}
-
 /* Puts what was learned into an answer; whether it may be sent. An error stays as it is. */
 static bool fill_answer(const struct learned *value, struct ptpm_sent *answer) {
-    if (get16(answer->octets + TLV_AT) == ERROR_TLV) return true;
-    size_t place = place_of(value, get16(answer->octets + SOURCE_PORT_AT)), size = value->at[place].size;
+    if (number_at(answer->octets + TLV_AT) == ERROR_TLV) return true;
+    size_t place = place_of(value, number_at(answer->octets + SOURCE_PORT_AT)), size = value->at[place].size;
     if (size == 0) return false;
     memcpy(answer->octets + FIELD_AT, value->at[place].octets, size);
-    put16(answer->octets + TLV_AT + 2, size + 2);
-    put16(answer->octets + LENGTH_AT, LEAST_MESSAGE + size);
+    put_number(answer->octets + TLV_AT + 2, size + 2);
+    put_number(answer->octets + LENGTH_AT, LEAST_MESSAGE + size);
     answer->size = (uint16_t)(LEAST_MESSAGE + size);
     return true;
 }

@@ -1,15 +1,13 @@
 /* What GETs are answered with beside a ptp4l: the dataField that the ptp4l has, octet for octet. It is asked after a GET came in, and the
    answer that the clock makes gets these octets. So nothing that the clock holds itself is shown. */
-#ifndef PTP4L_VALUES_H
-#define PTP4L_VALUES_H
+#pragma once
 
 #include "options.h"
 #include "ptpm.h"
 #include "rounds.h"
 #include <stdbool.h>
 
-/* The values are those of the clock in this domain. */
-void start_ptp4l_values(const struct options *given, uint8_t domain);
+void start_ptp4l_values(void);
 
 /* What was learned for a datagram. */
 struct learned {
@@ -32,5 +30,3 @@ const struct ptpm_say *learned_to_give(const struct ptpm_clock *clock, const str
 
 /* Puts what was learned for a datagram into the answers to it, and leaves out those for which nothing was. How many messages are left. */
 size_t show_value(const struct learned *value, const struct heard *heard, struct ptpm_sent *sent, size_t count);
-
-#endif

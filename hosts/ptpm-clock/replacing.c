@@ -1,4 +1,3 @@
-#define _GNU_SOURCE
 #include "replacing.h"
 #include <errno.h>
 #include <pthread.h>

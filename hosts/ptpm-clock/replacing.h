@@ -1,6 +1,5 @@
 /* A file that a thread replaces, so that nobody else waits for the disk. */
-#ifndef REPLACING_H
-#define REPLACING_H
+#pragma once
 
 #include "kept_file.h"
 #include <stdbool.h>
@@ -17,5 +16,3 @@ bool begin_replacing(const struct kept_file *file, const uint8_t *octets, size_t
 
 /* Waits until it is done. What became of the file; if it isn't replaced for sure, errno says why. */
 enum replaced end_replacing(void);
-
-#endif

@@ -1,7 +1,5 @@
-#define _GNU_SOURCE
 #include "rounds.h"
 #include "general_port.h"
-#include "udp.h"
 #include <arpa/inet.h>
 #include <errno.h>
 #include <linux/udp.h>
@@ -21,18 +19,6 @@ static struct {
     struct outgoing waiting[PLACES];
     size_t used, waiting_count;
 } box;
-
-static void take_control(struct heard *heard, struct msghdr *head) {
-    for (struct cmsghdr *one = CMSG_FIRSTHDR(head); one != NULL; one = CMSG_NXTHDR(head, one)) {
-        if (one->cmsg_level == IPPROTO_IP && one->cmsg_type == IP_PKTINFO) {
-            memcpy(&heard->own_four, CMSG_DATA(one), sizeof heard->own_four);
-            heard->is_unicast = heard->own_four.ipi_addr.s_addr == heard->own_four.ipi_spec_dst.s_addr;
-        } else if (one->cmsg_level == IPPROTO_IPV6 && one->cmsg_type == IPV6_PKTINFO) {
-            memcpy(&heard->own_six, CMSG_DATA(one), sizeof heard->own_six);
-            heard->is_unicast = !IN6_IS_ADDR_MULTICAST(&heard->own_six.ipi6_addr);
-        }
-    }
-}
 
 /* Finds the message of a frame; whether there is one. */
 static bool take_frame(struct heard *heard, const struct port *port) {
@@ -58,7 +44,7 @@ static void take_head(struct heard *heard, const struct port *port, struct mmsgh
     heard->is_of_owner = heard->is_of_earlier_run = false;
     heard->is_unicast = port == NULL;
     heard->is_passed_on = false;
-    heard->ttl = 0;
+    heard->own.ttl = 0;
     heard->share = NO_SHARE_ASKED;
 }
 
@@ -92,19 +78,18 @@ static bool take_copy(struct heard *heard) {
 static bool is_to_group(const struct heard *heard) {
     union sender place;
     group(&place.room, transport == UDP_IPV6);
-    return transport == UDP_IPV6 ? IN6_ARE_ADDR_EQUAL(&heard->own_six.ipi6_addr, &place.six.sin6_addr)
-                                 : heard->own_four.ipi_addr.s_addr == place.four.sin_addr.s_addr;
+    return transport == UDP_IPV6 ? IN6_ARE_ADDR_EQUAL(&heard->own.six.ipi6_addr, &place.six.sin6_addr)
+                                 : heard->own.four.ipi_addr.s_addr == place.four.sin_addr.s_addr;
 }
 
 static bool take_of_host(struct heard *heard, const struct port *none, struct mmsghdr *message) {
     take_head(heard, none, message);
-    heard->own_four = (struct in_pktinfo){ 0 };
-    heard->own_six = (struct in6_pktinfo){ 0 };
-    take_control(heard, &message->msg_hdr);
-    heard->ttl = ttl_in(&message->msg_hdr);
+    heard->own = reported_in(&message->msg_hdr);
+    heard->is_unicast = transport == UDP_IPV6 ? !IN6_IS_ADDR_MULTICAST(&heard->own.six.ipi6_addr)
+                                              : heard->own.four.ipi_addr.s_addr == heard->own.four.ipi_spec_dst.s_addr;
     take_inner_address(heard);
     if (heard->sender.any.sa_family != (transport == UDP_IPV6 ? AF_INET6 : AF_INET)) return false;
-    heard->port = port_at(transport == UDP_IPV6 ? heard->own_six.ipi6_ifindex : (unsigned)heard->own_four.ipi_ifindex);
+    heard->port = port_at(transport == UDP_IPV6 ? heard->own.six.ipi6_ifindex : (unsigned)heard->own.four.ipi_ifindex);
     return heard->port != NULL && (diverted_port == 0 || heard->is_unicast || is_to_group(heard));
 }
 
@@ -192,9 +177,9 @@ static void address_datagram(struct msghdr *head, const struct heard *answered, 
     struct cmsghdr *own = CMSG_FIRSTHDR(head);
     if (transport == UDP_IPV6) {
         answer_port(&to->six.sin6_port);
-        put_control(own, IPPROTO_IPV6, IPV6_PKTINFO, &answered->own_six, sizeof answered->own_six);
+        put_control(own, IPPROTO_IPV6, IPV6_PKTINFO, &answered->own.six, sizeof answered->own.six);
     } else {
-        struct in_pktinfo from = { .ipi_spec_dst = answered->own_four.ipi_addr };
+        struct in_pktinfo from = { .ipi_spec_dst = answered->own.four.ipi_addr };
         answer_port(&to->four.sin_port);
         put_control(own, IPPROTO_IP, IP_PKTINFO, &from, sizeof from);
     }

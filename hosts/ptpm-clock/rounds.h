@@ -1,11 +1,10 @@
 /* Datagrams in rounds: what has come in at a socket by now, up to 64 at once, and what goes out after a round. Nothing waits for a
    round to be full. */
-#ifndef ROUNDS_H
-#define ROUNDS_H
+#pragma once
 
 #include "ports.h"
 #include "ptpm.h"
-#include <netinet/in.h>
+#include "udp.h"
 #include <stdbool.h>
 #include <stddef.h>
 #include <sys/socket.h>
@@ -35,10 +34,8 @@ struct heard {
     bool is_of_earlier_run;             /* it came in at an earlier run of the program */
     bool is_unicast;                    /* it was sent only to this host, and the answer goes only to its sender */
     bool is_passed_on;                  /* such a datagram came from another neighbour than the one who has its sender's address */
-    int ttl;                            /* 0 if it isn't known */
     enum { NO_SHARE_ASKED, HAS_SHARE, OVER_RATE } share;     /* whether its answer is within the rate, if that was asked ahead */
-    struct in_pktinfo own_four;         /* the address that it was sent to */
-    struct in6_pktinfo own_six;
+    struct reported own;                /* the address that it was sent to, and its TTL, 0 if it isn't known */
 };
 
 /* The number of the port that it came in at, which is 1 on the Unix socket. */
@@ -64,5 +61,3 @@ void use_places(size_t count);
 
 /* Sends what is to go out. How many messages were dropped, since a socket didn't accept them at once. */
 unsigned long send_round(void);
-
-#endif

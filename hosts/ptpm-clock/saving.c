@@ -1,4 +1,3 @@
-#define _GNU_SOURCE
 #include "saving.h"
 #include "askers.h"
 #include "kept_file.h"
@@ -26,7 +25,6 @@ enum { JOINED = 5 };        /* requests of managers for which there is one save 
 enum { SECOND = 1000, MOST_PAUSE = 5, PAUSE_PART = 20 };        /* milliseconds, and which part of the time of a save */
 
 static struct kept_file file = { .folder = -1, .mode = 0600 };
-static const struct options *options;
 static uint8_t octets[MOST_STATE_OCTETS];
 static uint64_t saves_of_file;      /* by its seal */
 static size_t size_of_file;         /* of what is saved */
@@ -115,12 +113,10 @@ static const char *reason(enum ptpm_restored refusal) {
 }
 
 _Noreturn static void refuse_octets(enum ptpm_restored refusal) {
-    char identity[IDENTITY_TEXT];
     const char *name = answer_name(refusal);
     if (refusal == PTPM_OTHER_CLOCK) {
-        int further = octets[KIND_AT] == WITH_CHANGE ? CHANGE_AT + (octets[CHANGE_SIZE_AT] << 8) + octets[CHANGE_SIZE_AT + 1] : 0;
-        write_identity(identity, octets + IDENTITY + further);
-        say("it does not start: %s: %s: it has the state of clock %s", name, options->state, identity);
+        int further = octets[KIND_AT] == WITH_CHANGE ? CHANGE_AT + number_at(octets + CHANGE_SIZE_AT) : 0;
+        say("it does not start: %s: %s: it has the state of clock %s", name, options->state, identity_text(octets + IDENTITY + further));
     } else say("it does not start: %s: %s: %s", name, options->state, reason(refusal));
     end_with(refusal == PTPM_RESTORE_NO_MEMORY ? NOT_OPENED : NOT_STARTED);
 }
@@ -130,7 +126,7 @@ static size_t restore(struct ptpm_clock *clock, size_t size) {
     size_t gone = 0;
     enum ptpm_restored answer = take_seal(octets, &size, &saves_of_file);
     if (answer != PTPM_RESTORED) refuse_octets(answer);
-    answer = ptpm_clock_restore(clock, options->settings.identity, ports_of(options), options->managers, options->manager_count,
+    answer = ptpm_clock_restore(clock, options->settings.identity, clock_ports(), options->managers, options->manager_count,
                                 octets, size, &gone);
     if (answer != PTPM_RESTORED) refuse_octets(answer);
     return gone;
@@ -151,9 +147,8 @@ static void tell_domain(const struct ptpm_clock *clock) {
     say("%s: -d %u counts only at the first start: the clock is in domain %u", options->state, options->settings.domain, *field);
 }
 
-bool restore_clock(struct ptpm_clock *clock, const struct options *given) {
+bool restore_clock(struct ptpm_clock *clock) {
     size_t size;
-    options = given;
     if (options->state == NULL) return false;
     if (!open_kept_folder(&file, options->state)) refuse_folder();
     take_file();
@@ -164,7 +159,7 @@ bool restore_clock(struct ptpm_clock *clock, const struct options *given) {
         tell_gone(restore(clock, size));
         tell_domain(clock);
     }
-    size_t most = PTPM_CLOCK_IMAGE_BOUND(ports_of(options), options->manager_count) + PTPM_SEAL_OCTETS;
+    size_t most = PTPM_CLOCK_IMAGE_BOUND(clock_ports(), options->manager_count) + PTPM_SEAL_OCTETS;
     if (!try_room(&file, octets, most)) refuse_file(NULL);
     return is_there;
 }
@@ -228,8 +223,6 @@ bool begin_save(struct ptpm_clock *clock) {
     if (!is_saving) fail();
     return is_saving;
 }
-
-int saving_event(void) { return replacing_event(); }
 
 enum ptpm_saved end_save(struct ptpm_clock *clock) {
     enum replaced answer = end_replacing();

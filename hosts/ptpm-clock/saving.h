@@ -1,8 +1,7 @@
 /* The state of the clock in a file (-s FILE): its data sets, and what is kept for each manager. So a start continues where the
    clock was. What a turn changed is saved before any message leaves that shows it. Without a file nothing is saved, and everything
    leaves at once. */
-#ifndef SAVING_H
-#define SAVING_H
+#pragma once
 
 #include "options.h"
 #include "ptpm.h"
@@ -11,18 +10,17 @@
 /* Takes the file only for this program, and reads it: whether there was one, so that its clock is in the handle. Ends the
    program with status 1, and says why, if the library refuses what the file has. It does so with status 2 if the file is a link
    or no file, is another program's, or can't be read or written. What the file has stays then. */
-bool restore_clock(struct ptpm_clock *clock, const struct options *options);
+bool restore_clock(struct ptpm_clock *clock);
 
 /* Has the clock keep its messages until it is saved, and saves it once, with the rights that the program keeps. Ends the program with
    status 2 if it can't. Does nothing without a file. */
 void save_at_start(struct ptpm_clock *clock);
 
-/* Begins to save the clock, which a thread does; whether it is begun. */
+/* Begins to save the clock, which a thread does (replacing.h); whether it is begun. */
 bool begin_save(struct ptpm_clock *clock);
 
-/* Whether a save was begun and not ended, and what can be read once it is done. Whether the latest one failed. */
+/* Whether a save was begun and not ended. Whether the latest one failed. */
 extern bool is_saving, is_failing;
-int saving_event(void);
 
 /* Ends the save, after a wait for the disk if it is not done. What ptpm_clock_saved returns, and then the clock gives out what waited. Or
    PTPM_OTHER_IMAGE if the clock is not saved, and standard error says why. */
@@ -40,5 +38,3 @@ bool may_save(void);
 struct saves { unsigned long long made, failed, least, most, all; };
 
 const struct saves *saves_so_far(void);
-
-#endif

@@ -1,7 +1,6 @@
 /* What is reported to the service manager, if one started this program (sd_notify(3)): that it is ready, is still running, and
    ends. */
-#ifndef SERVICE_H
-#define SERVICE_H
+#pragma once
 
 #include <stdint.h>
 
@@ -18,5 +17,3 @@ void report_stopping(void);
 
 /* In how many milliseconds it has to be reported again that the program is still running, at most `most`. */
 int64_t until_alive(int64_t now, int64_t most);
-
-#endif

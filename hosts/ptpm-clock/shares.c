@@ -1,6 +1,5 @@
-#define _GNU_SOURCE
 #include "shares.h"
-#include "ethernet.h"
+#include "route.h"
 #include <string.h>
 
 enum { KEPT = 1000 };       /* for how many milliseconds an address keeps its place at least */
@@ -13,12 +12,11 @@ void start_shares(struct shares *shares, uint64_t rate, size_t count, uint64_t l
 
 /* The address that a datagram came from; whether it came from one. */
 static bool read_address(uint8_t address[ADDRESS], const struct heard *heard) {
+    size_t size = STATION;
+    const uint8_t *octets = heard->station != NULL ? heard->station : address_octets(&heard->sender.any, &size);
     memset(address, 0, ADDRESS);
-    if (heard->station != NULL) memcpy(address, heard->station, STATION);
-    else if (heard->sender.any.sa_family == AF_INET) memcpy(address, &heard->sender.four.sin_addr, sizeof heard->sender.four.sin_addr);
-    else if (heard->sender.any.sa_family == AF_INET6) memcpy(address, &heard->sender.six.sin6_addr, ADDRESS);
-    else return false;
-    return true;
+    memcpy(address, octets, size);
+    return size > 0;
 }
 
 /* The place of an address. A new one gets the place whose address was heard longest ago, unless that was just now: NULL then. */

@@ -1,7 +1,6 @@
 /* A rate that those who send share. All of them have its tokens together, and the latest addresses have a few of their own besides.
    So one address that sends without end leaves others theirs. A sender with many addresses may still take the places of others. */
-#ifndef SHARES_H
-#define SHARES_H
+#pragma once
 
 #include "ptpm.h"
 #include "rounds.h"
@@ -26,5 +25,3 @@ void start_shares(struct shares *shares, uint64_t rate, size_t count, uint64_t l
 /* Takes a token of a datagram's sender, or else one of those of all; whether there is one. A program of this host has only those of
    all. */
 bool take_share(struct shares *shares, const struct heard *heard, uint64_t now);
-
-#endif

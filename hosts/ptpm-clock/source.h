@@ -1,6 +1,5 @@
 /* A file, or a pipe, that says something again and again. */
-#ifndef SOURCE_H
-#define SOURCE_H
+#pragma once
 
 #include <limits.h>
 #include <stdbool.h>
@@ -56,5 +55,3 @@ bool is_empty_file(const struct source *source);
 
    A text of 65,536 octets or more, and a file that can't be read, is said on standard error, and is none. */
 bool next_text(struct source *source, char **text);
-
-#endif

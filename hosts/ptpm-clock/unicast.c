@@ -1,11 +1,9 @@
-#define _GNU_SOURCE
 #include "unicast.h"
 #include "general_port.h"
 #include "output.h"
 #include "program.h"
 #include <stdbool.h>
 #include <stdio.h>
-#include <unistd.h>
 
 /* The port itself, from which nothing is read while copies are heard: anyone who asks gets no ICMP message that nobody is there. */
 static int general = -1, copies = -1, packets = -1;
@@ -61,7 +59,7 @@ int unicast_socket(void) { return copies >= 0 ? copies : general; }
 size_t hear_unicast(struct heard heard[ROUND]) { return hear_host(unicast_socket(), copies >= 0, packets, heard); }
 
 void close_unicast(void) {
-    if (general >= 0) close(general);
-    if (copies >= 0) close(copies);
-    if (packets >= 0) close(packets);
+    close_quietly(general);
+    close_quietly(copies);
+    close_quietly(packets);
 }

@@ -1,7 +1,6 @@
 /* What is sent by unicast to UDP port 320 of ptpm-clock's host, at the interfaces of its ports. Or all that is sent there, if it is diverted
    to another port. */
-#ifndef UNICAST_H
-#define UNICAST_H
+#pragma once
 
 #include "rounds.h"
 
@@ -19,5 +18,3 @@ int unicast_socket(void);
 size_t hear_unicast(struct heard heard[ROUND]);
 
 void close_unicast(void);
-
-#endif

@@ -1,4 +1,3 @@
-#define _GNU_SOURCE
 #include "values.h"
 #include "message_places.h"
 #include "network_limits.h"
@@ -9,31 +8,19 @@
 #include <sys/stat.h>
 #include <unistd.h>
 
-enum { EVERY_PORT = 0xFFFF, TARGET_PORT_AT = TARGET_AT + 8 };
+enum { TARGET_PORT_AT = TARGET_AT + CLOCK_IDENTITY };
 
-bool has_values;
-
-static const struct options *options;
 static bool is_told[VALUES];            /* that the file of this value has none */
 
 /* What the device says of the latest GET: of the clock (port 0), or of each port that answers. */
 static struct { uint16_t port; struct ptpm_say say; } said[PORTS];
 static size_t said_count;
 
-void start_values(const struct options *given) {
-    options = given;
-    has_values = given->value_count > 0;
-}
-
-static uint16_t number_at(const struct heard *heard, size_t place) {
-    return (uint16_t)(heard->octets[place] << 8 | heard->octets[place + 1]);
-}
-
 /* Whether a datagram is a GET of this value. */
 static bool is_asked(const struct heard *heard, const struct value *value) {
     bool is_get = heard->size >= LEAST_MESSAGE && (heard->octets[ACTION_AT] & LOWER_HALF) == PTPM_GET;
-    if (!is_get || number_at(heard, ID_AT) != value->id) return false;
-    uint16_t port = number_at(heard, TARGET_PORT_AT);
+    if (!is_get || number_at(heard->octets + ID_AT) != value->id) return false;
+    uint16_t port = number_at(heard->octets + TARGET_PORT_AT);
     return value->port == 0 || port == EVERY_PORT || port == value->port;
 }
 
@@ -99,7 +86,7 @@ const struct ptpm_say *value_to_give(const struct ptpm_clock *clock, struct hear
 uint16_t port_asked(const struct heard *heard) {
     for (size_t place = 0; place < options->value_count; place++) {
         const struct value *value = &options->values[place];
-        bool is_here = is_asked(heard, value) && value->port == number_at(heard, TARGET_PORT_AT);
+        bool is_here = is_asked(heard, value) && value->port == number_at(heard->octets + TARGET_PORT_AT);
         if (is_here && memcmp(heard->octets + TARGET_AT, options->settings.identity, 8) == 0) return value->port;
     }
     return ingress_of(heard);

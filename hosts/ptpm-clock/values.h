@@ -1,17 +1,11 @@
 /* Values of ids that the clock lacks, and its device gives (--give). The octets of a file are the dataField of the answer to a GET. */
-#ifndef VALUES_H
-#define VALUES_H
+#pragma once
 
 #include "options.h"
 #include "ptpm.h"
 #include "rounds.h"
 #include <stdbool.h>
 #include <stdint.h>
-
-/* Whether there are any. Each turn looks at it, so it is not a call. */
-extern bool has_values;
-
-void start_values(const struct options *given);
 
 /* What the device says of a datagram that came in at this clock. That is the value that it is asked for, as its file has
    it now, or the first of these. NULL if it says nothing. A file without a value is said once. What is returned stays until the
@@ -24,5 +18,3 @@ uint16_t port_asked(const struct heard *heard);
 
 /* After a turn with `value_to_give`: how many messages there are once each port whose value is given answers by itself. */
 size_t answer_from_ports(struct ptpm_clock *clock, const struct heard *heard, struct ptpm_sent *places, size_t count);
-
-#endif

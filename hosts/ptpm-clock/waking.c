@@ -1,4 +1,3 @@
-#define _GNU_SOURCE
 #include "waking.h"
 #include "program.h"
 #include <signal.h>

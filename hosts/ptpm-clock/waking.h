@@ -1,7 +1,6 @@
 /* What wakes ptpm-clock besides its sockets, as something to poll: signals, and a time. SIGHUP, SIGINT and SIGTERM ask it to end,
    SIGUSR1 for its counts. A time-out for each wait would cost a kernel timer for each datagram. */
-#ifndef WAKING_H
-#define WAKING_H
+#pragma once
 
 #include <stdint.h>
 
@@ -22,5 +21,3 @@ void wake_at(int64_t time);
 
 /* It has woken: no time is set any more. */
 void read_timer(void);
-
-#endif

@@ -1,4 +1,3 @@
-#define _GNU_SOURCE
 #include "notices.h"
 #include "program.h"
 #include <stdarg.h>
@@ -17,7 +16,7 @@ enum { UNKNOWN = 3 };
 static bool is_quiet, is_shown;
 
 /* What becomes of what is refused. */
-static enum status refused = NOT_ASKED, usage_refused = NOT_ASKED, storage_refused = NOT_ASKED;
+static enum status refused[REFUSALS] = { NOT_ASKED, NOT_ASKED, NOT_ASKED };
 static void (*say_refused)(enum status status, const char *why);
 
 /* What lines of progress begin with. */
@@ -37,35 +36,19 @@ void complain(const char *format, ...) {
     va_end(values);
 }
 
-_Noreturn static void end_refused(enum status status, const char *format, va_list values) {
+_Noreturn void end_refused(enum refused by, const char *format, ...) {
     char *why;
+    va_list values;
+    va_start(values, format);
     if (vasprintf(&why, format, values) < 0) give_up("a notice");
     complain("%s", why);
-    if (say_refused != NULL) say_refused(status, why);
-    exit((int)status);
-}
-
-_Noreturn void refuse(const char *format, ...) {
-    va_list values;
-    va_start(values, format);
-    end_refused(refused, format, values);
-}
-
-_Noreturn void refuse_usage(const char *format, ...) {
-    va_list values;
-    va_start(values, format);
-    end_refused(usage_refused, format, values);
-}
-
-_Noreturn void refuse_storage(const char *format, ...) {
-    va_list values;
-    va_start(values, format);
-    end_refused(storage_refused, format, values);
+    if (say_refused != NULL) say_refused(refused[by], why);
+    exit((int)refused[by]);
 }
 
 void refuse_as(enum status status) {
-    refused = status;
-    storage_refused = NOT_WRITTEN;
+    refused[BY_ANYTHING] = status;
+    refused[BY_STORAGE] = NOT_WRITTEN;
 }
 
 void refuse_also(void (*say_it)(enum status status, const char *why)) { say_refused = say_it; }
@@ -78,7 +61,7 @@ static void refuse_unknown(enum status status, const char *why) {
 }
 
 void be_plugin(void) {
-    refused = usage_refused = storage_refused = (enum status)UNKNOWN;
+    for (int by = 0; by < REFUSALS; by++) refused[by] = (enum status)UNKNOWN;
     refuse_also(refuse_unknown);
     end_otherwise(UNKNOWN, say_unknown);
 }

@@ -1,6 +1,5 @@
 /* What ptpm-manage says on standard error: a line for each fault, and its progress if that is a terminal. And the status with which it ends. */
-#ifndef NOTICES_H
-#define NOTICES_H
+#pragma once
 
 /* The status with which the program ends. Those from LEFT_OPEN to HAS_CHANGES are of `plan` and what follows it. */
 enum status {
@@ -11,12 +10,13 @@ enum status {
 /* A line after the program's name. */
 __attribute__((format(printf, 1, 2))) void complain(const char *format, ...);
 
-/* The same, and the program ends with status 2: nothing was asked or sent. */
-_Noreturn __attribute__((format(printf, 1, 2))) void refuse(const char *format, ...);
-
-/* The same for what the user asks, which is to be asked otherwise; and for a file that can't be read or written. */
-_Noreturn __attribute__((format(printf, 1, 2))) void refuse_usage(const char *format, ...);
-_Noreturn __attribute__((format(printf, 1, 2))) void refuse_storage(const char *format, ...);
+/* The same, and the program ends with status 2: nothing was asked or sent. Usage is what the user asks, which is to be asked otherwise, and
+   storage a file that can't be read or written. */
+enum refused { BY_ANYTHING, BY_USAGE, BY_STORAGE, REFUSALS };
+_Noreturn __attribute__((format(printf, 2, 3))) void end_refused(enum refused by, const char *format, ...);
+#define refuse(...) end_refused(BY_ANYTHING, __VA_ARGS__)
+#define refuse_usage(...) end_refused(BY_USAGE, __VA_ARGS__)
+#define refuse_storage(...) end_refused(BY_STORAGE, __VA_ARGS__)
 
 /* From now on the program ends with this status after `refuse`, and with NOT_WRITTEN after `refuse_storage`. */
 void refuse_as(enum status status);
@@ -41,5 +41,3 @@ __attribute__((format(printf, 1, 2))) void log_progress(const char *format, ...)
 
 /* Takes that line away. It comes before what is printed otherwise. */
 void clear_progress(void);
-
-#endif

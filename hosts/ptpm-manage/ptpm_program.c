@@ -1,4 +1,3 @@
-#define _GNU_SOURCE
 #include "ptpm_program.h"
 #include "notices.h"
 #include "program.h"
@@ -7,7 +6,6 @@
 #include <fcntl.h>
 #include <limits.h>
 #include <spawn.h>
-#include <stdbool.h>
 #include <stdio.h>
 #include <stdlib.h>
 #include <string.h>
@@ -80,22 +78,22 @@ static bool start_program(pid_t *process, char *const *arguments, const struct e
     return errno == 0;
 }
 
-/* Reads what it prints until its end, or until a signal asks this program to end. */
-static void read_all(int from, struct printed *printed) {
-    for (size_t room = 0; !stopped;) {
-        struct pollfd waits = { from, POLLIN, 0 };
-        if (wait_for(&waits, 1, TURN) <= 0) continue;
-        if (room - printed->size <= PART) {
-            char *more = realloc(printed->text, room + 2 * PART + room / 2);
-            if (more == NULL) give_up("what the program ptpm prints");
-            printed->text = more;
-            room += 2 * PART + room / 2;
-        }
-        ssize_t size = read(from, printed->text + printed->size, PART);
-        if (size <= 0) return;
-        printed->size += (size_t)size;
-        printed->text[printed->size] = '\0';      /* there is room for it: more than a part was left */
-    }
+/* Makes room for a part, and the end of the text after it. */
+static void make_room(struct printed *printed) {
+    if (printed->room - printed->size > PART) return;
+    printed->room += 2 * PART + printed->room / 2;
+    printed->text = needed(realloc(printed->text, printed->room), "what the program ptpm prints");
+}
+
+bool read_printed(int from, struct printed *printed) {
+    struct pollfd waits = { from, POLLIN, 0 };
+    while (!stopped && wait_for(&waits, 1, TURN) <= 0) continue;
+    if (stopped) return false;
+    make_room(printed);
+    ssize_t size = read(from, printed->text + printed->size, PART);
+    if (size > 0) printed->size += (size_t)size;
+    printed->text[printed->size] = '\0';
+    return size > 0;
 }
 
 static int status_of(pid_t process) {
@@ -157,7 +155,7 @@ int run_ptpm_program(char **arguments, const struct given *given, struct printed
     close_end(&ends.to);
     close_end(&ends.beside);
     if (has_started) {
-        read_all(output, printed);
+        while (read_printed(output, printed)) continue;
         status = status_of(process);
     }
     close_end(&output);

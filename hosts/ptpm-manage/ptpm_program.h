@@ -1,6 +1,5 @@
 /* The program `ptpm`, as a part of what this program does: it reads lines and prints what they show. Or it goes on, and both write and read. */
-#ifndef PTPM_PROGRAM_H
-#define PTPM_PROGRAM_H
+#pragma once
 
 #include <stdbool.h>
 #include <stddef.h>
@@ -10,7 +9,7 @@
 struct piece { const char *at; size_t size; };
 
 /* What it printed; an end of text follows. All zeros hold nothing. */
-struct printed { char *text; size_t size; };
+struct printed { char *text; size_t size, room; };
 
 /* Finds the program: beside this one, or else in the PATH. Ends the program with status 2 if it is nowhere. */
 void find_ptpm_program(void);
@@ -23,6 +22,10 @@ struct given { const struct piece *lines, *beside; };
    normally, which is said. */
 int run_ptpm_program(char **arguments, const struct given *given, struct printed *printed);
 
+/* Waits until a program has printed more there, and reads some of it. Whether it has, before its end, or before a signal asks this program to
+   end. */
+bool read_printed(int from, struct printed *printed);
+
 /* One that goes on: what it reads is written to `to`, and what it prints is read from `from`. */
 struct running { pid_t process; int to, from; };
 
@@ -34,5 +37,3 @@ int end_ptpm_program(struct running *running);
 
 /* Runs another program, without words. What it prints goes to standard error. Its status, or 1 if it did not end normally, which is said. */
 int run_check_program(const char *path);
-
-#endif

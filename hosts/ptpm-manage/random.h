@@ -1,6 +1,5 @@
 /* Octets that nobody can have foreseen. */
-#ifndef RANDOM_H
-#define RANDOM_H
+#pragma once
 
 #include <stddef.h>
 #include <stdint.h>
@@ -13,5 +12,3 @@ uint16_t draw_number(void);
 
 /* The sequenceId of a question by nobody: one after the other, from a drawn one on. */
 uint16_t next_number(void);
-
-#endif

@@ -1,12 +1,9 @@
 /* The checked ppoll of glibc 2.36 takes a time of 32 bits, also where times have 64. A wait of less than a second then ends at once. So this
    file has the one that is not checked. */
 #undef _FORTIFY_SOURCE
-#define _GNU_SOURCE
-#define _GNU_SOURCE
 #include "stopping.h"
 #include <errno.h>
 #include <limits.h>
-#include <poll.h>
 #include <stdbool.h>
 #include <stdio.h>
 #include <time.h>

@@ -1,6 +1,5 @@
 /* Signals that ask a program to end, and waits and writes that they end. */
-#ifndef STOPPING_H
-#define STOPPING_H
+#pragma once
 
 #include <poll.h>
 #include <signal.h>
@@ -24,5 +23,3 @@ ssize_t write_until_signal(int to, const void *octets, size_t size);
 /* From now on a signal of `catch_signals` also ends a write that waits for its reader, for example for a terminal that was stopped. What the
    reader does not take at once is then dropped, and the stream has an error. */
 void let_signals_end_writes(void);
-
-#endif

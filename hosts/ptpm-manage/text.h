@@ -1,6 +1,5 @@
 /* Texts that came in from a network. */
-#ifndef TEXT_H
-#define TEXT_H
+#pragma once
 
 #include <stddef.h>
 #include <stdint.h>
@@ -22,5 +21,3 @@ void print_json(FILE *to, const char *text, size_t size);
 /* Prints a text as a string of JSON, in quotes. Characters that a terminal does not show as they are come as \u and their number,
    and an octet that is not UTF-8 as U+FFFD. */
 void print_json_text(FILE *to, const uint8_t *octets, size_t size);
-
-#endif

@@ -1,4 +1,3 @@
-#define _GNU_SOURCE
 #include "transport.h"
 #include "domains.h"
 #include "ethernet.h"
@@ -9,6 +8,7 @@
 #include "netlink.h"
 #include "notices.h"
 #include "program.h"
+#include "route.h"
 #include "socket_option.h"
 #include "stopping.h"
 #include "udp.h"
@@ -21,7 +21,6 @@
 #include <linux/if_packet.h>
 #include <net/if.h>
 #include <netdb.h>
-#include <stdbool.h>
 #include <stdio.h>
 #include <stdlib.h>
 #include <string.h>
@@ -117,7 +116,7 @@ static bool write_own_identity(uint8_t identity[8], const char *interface) {
     snprintf(request.ifr_name, sizeof request.ifr_name, "%s", interface);
     int probe = socket(AF_INET, SOCK_DGRAM | SOCK_CLOEXEC, 0);
     bool is_read = probe >= 0 && ioctl(probe, SIOCGIFHWADDR, &request) == 0;
-    if (probe >= 0) close(probe);
+    close_quietly(probe);
     const uint8_t *a = (const uint8_t *)request.ifr_hwaddr.sa_data;
     memcpy(identity, (const uint8_t[]){ a[0], a[1], a[2], 0xff, 0xfe, a[3], a[4], a[5] }, 8);
     return is_read;
@@ -210,9 +209,7 @@ static bool open_end(struct end *end, const char **what) {
     end->asking = end->events = -1;
     end->socket = is_ethernet ? open_ethernet(end->interface, end->station, what) : open_udp(end->interface, is_six, what);
     if (end->socket < 0 || open_second_part(end, what)) return end->socket >= 0;
-    int failure = errno;
-    close(end->socket);
-    errno = failure;
+    close_quietly(end->socket);
     return false;
 }
 
@@ -273,7 +270,7 @@ static int open_beside(const char *path) {
 static bool is_answered_at(const struct sockaddr_un *address) {
     int probe = socket(AF_UNIX, SOCK_DGRAM | SOCK_CLOEXEC, 0);
     bool is_there = probe >= 0 && connect(probe, (const struct sockaddr *)address, sizeof *address) == 0;
-    if (probe >= 0) close(probe);
+    close_quietly(probe);
     return is_there;
 }
 
@@ -299,9 +296,7 @@ void open_transport(const struct task *task) {
 }
 
 static void widen(int socket) {
-    const int wanted = ROOM_FOR_MANY;
-    if (setsockopt(socket, SOL_SOCKET, SO_RCVBUFFORCE, &wanted, sizeof wanted) == 0) return;
-    setsockopt(socket, SOL_SOCKET, SO_RCVBUF, &wanted, sizeof wanted);
+    if (!set_number(socket, SOL_SOCKET, SO_RCVBUFFORCE, ROOM_FOR_MANY)) set_number(socket, SOL_SOCKET, SO_RCVBUF, ROOM_FOR_MANY);
 }
 
 void widen_transport(void) {
@@ -326,7 +321,7 @@ void tell_deaf_port(void) {
 }
 
 static void close_events(struct end *end) {
-    if (end->events >= 0) close(end->events);
+    close_quietly(end->events);
     end->events = -1;
 }
 
@@ -345,7 +340,7 @@ void renew_transport(void) {
         if (index == 0 || index == other.index || !open_end(&other, &what)) continue;
         renew_scope(ends[i].index, other.index);
         close(ends[i].socket);
-        if (ends[i].asking >= 0) close(ends[i].asking);
+        close_quietly(ends[i].asking);
         close_events(&ends[i]);
         ends[i] = other;
         complain("%s: the interface was created again", other.interface);
@@ -453,20 +448,6 @@ static bool next_arrival(struct arrival *arrival, int64_t wait) {
 /* Who sent a datagram, and the index of the interface at which it came in, and its TTL, if the kernel was to report them. */
 struct place { struct sockaddr_storage sender; unsigned index; int ttl; };
 
-static void take_index(struct place *from, struct msghdr *head) {
-    struct in_pktinfo four;
-    struct in6_pktinfo six;
-    for (struct cmsghdr *one = CMSG_FIRSTHDR(head); one != NULL; one = CMSG_NXTHDR(head, one)) {
-        if (one->cmsg_level == IPPROTO_IP && one->cmsg_type == IP_PKTINFO) {
-            memcpy(&four, CMSG_DATA(one), sizeof four);
-            from->index = (unsigned)four.ipi_ifindex;
-        } else if (one->cmsg_level == IPPROTO_IPV6 && one->cmsg_type == IPV6_PKTINFO) {
-            memcpy(&six, CMSG_DATA(one), sizeof six);
-            from->index = six.ipi6_ifindex;
-        }
-    }
-}
-
 static ssize_t receive_from(int socket, uint8_t *octets, size_t most, struct place *from) {
     _Alignas(struct cmsghdr) char control[CMSG_SPACE(sizeof(struct in6_pktinfo)) + CMSG_SPACE(sizeof(int))];
     struct iovec part = { octets, most };
@@ -477,8 +458,9 @@ static ssize_t receive_from(int socket, uint8_t *octets, size_t most, struct pla
     *from = (struct place){ .index = 0 };
     ssize_t found = recvmsg(socket, &head, MSG_DONTWAIT);
     if (found < 0) return found;
-    take_index(from, &head);
-    from->ttl = ttl_in(&head);
+    struct reported reported = reported_in(&head);
+    from->index = is_six ? reported.six.ipi6_ifindex : (unsigned)reported.four.ipi_ifindex;
+    from->ttl = reported.ttl;
     return found;
 }
 
@@ -493,10 +475,9 @@ static const struct end *end_at(unsigned index) {
 enum { MOST_STRANGERS = 8 };
 
 static void write_address(char address[INET6_ADDRSTRLEN], const struct sockaddr *sender) {
-    const void *octets = is_six ? (const void *)&((const struct sockaddr_in6 *)sender)->sin6_addr
-                                : (const void *)&((const struct sockaddr_in *)sender)->sin_addr;
+    size_t size;
     *address = '\0';
-    inet_ntop(sender->sa_family, octets, address, INET6_ADDRSTRLEN);
+    inet_ntop(sender->sa_family, address_octets(sender, &size), address, INET6_ADDRSTRLEN);
 }
 
 static void tell_stranger(const struct end *end, const struct sockaddr *sender, const char *why) {
@@ -596,15 +577,6 @@ const char *named_way(size_t place, bool *has_answer) {
     return end_name(end);
 }
 
-const char *silent_way(void) {
-    bool has_answer;
-    const char *way;
-    for (size_t i = 0; (way = named_way(i, &has_answer)) != NULL; i++) {
-        if (!has_answer) return way;
-    }
-    return NULL;
-}
-
 void tell_silent_ways(void) {
     struct end *end;
     for (size_t i = 0; (end = end_in_turn(i)) != NULL; i++) {
@@ -632,15 +604,10 @@ static const char *path_text(const struct sockaddr_un *sender) {
 
 const char *sender_text(void) {
     static char text[INET6_ADDRSTRLEN];
-    const struct sockaddr_storage *sender = &latest_place.sender;
-    *text = '\0';
-    switch (sender->ss_family) {
-    case AF_INET: inet_ntop(AF_INET, &((const struct sockaddr_in *)sender)->sin_addr, text, sizeof text); break;
-    case AF_INET6: inet_ntop(AF_INET6, &((const struct sockaddr_in6 *)sender)->sin6_addr, text, sizeof text); break;
-    case AF_PACKET: return station_text((const struct sockaddr_ll *)sender);
-    case AF_UNIX: return path_text((const struct sockaddr_un *)sender);
-    default: break;
-    }
+    const struct sockaddr *sender = (const struct sockaddr *)&latest_place.sender;
+    if (sender->sa_family == AF_PACKET) return station_text((const struct sockaddr_ll *)sender);
+    if (sender->sa_family == AF_UNIX) return path_text((const struct sockaddr_un *)sender);
+    write_address(text, sender);
     return text;
 }
 
@@ -674,13 +641,11 @@ static const uint8_t *message_at(const struct end *end, const struct arrival *ar
    has passed on. */
 static bool is_of_namesake(const struct arrival *arrival, const uint8_t *message, size_t size) {
     static bool is_told;
-    char identity[IDENTITY_TEXT];
     bool is_request = size > ACTION_AT && (message[TYPE_AT] & LOWER_HALF) == MANAGEMENT_TYPE
                       && (message[ACTION_AT] & LOWER_HALF) != RESPONSE && (message[ACTION_AT] & LOWER_HALF) != ACKNOWLEDGE;
     if (arrival->end == &own_clock || size < SOURCE_PORT_AT || is_request || memcmp(asker, nobody, sizeof asker) == 0) return false;
     if (memcmp(message + SOURCE_AT, asker, sizeof asker) != 0) return false;
-    write_identity(identity, asker);
-    if (!is_told) complain("a clock has this manager's identity %s: what it sends is ignored, and -m names another manager", identity);
+    if (!is_told) complain("a clock has this manager's identity %s: what it sends is ignored, and -m names another manager", identity_text(asker));
     return is_told = true;
 }
 

@@ -1,7 +1,6 @@
 /* The transport to the clocks that are asked, over UDP, over Ethernet or on a Unix socket: sockets, and where messages go from
    them. */
-#ifndef TRANSPORT_H
-#define TRANSPORT_H
+#pragma once
 
 #include "task.h"
 #include <stdbool.h>
@@ -77,10 +76,9 @@ struct way way_of_message(void);
 bool came_by(const struct way *way);
 
 /* If several interfaces were named, or one and a Unix socket: from now on no answer came at any of them. Then the message that came in last
-   is one. And the first of them at which none came; NULL if there is none. */
+   is one. */
 void forget_ways(void);
 void note_way(void);
-const char *silent_way(void);
 
 /* The first of these ways, the second and so on, and whether an answer came at it; NULL after the last. */
 const char *named_way(size_t place, bool *has_answer);
@@ -97,5 +95,3 @@ bool came_from_asked(void);
 /* The identity that this host has at an interface by its hardware address: at the first, the second and so on. Whether there is
    one. */
 bool own_identity(size_t place, uint8_t identity[8]);
-
-#endif

@@ -4,7 +4,6 @@
    look at the domain, nor at who asked. So nearly all that it takes is the kernel's. `calls` waits in a receive, and sends.
    `rounds` makes the calls of ptpm-clock, epoll_wait, recvmmsg and sendmmsg. `ring` sends, and waits for the next datagram, in one
    call of io_uring. */
-#define _GNU_SOURCE
 #include "message_places.h"
 #include "program.h"
 #include "ptpm.h"

@@ -1,6 +1,5 @@
 /* What holds in a test that is a program, and what doesn't: counted, and each failure reported. */
-#ifndef CHECKING_H
-#define CHECKING_H
+#pragma once
 
 #include <stdbool.h>
 #include <stdio.h>
@@ -8,12 +7,8 @@
 static unsigned passed, failed;
 
 static void check(bool holds, const char *what) {
-    if (holds) {
-        passed++;
-        return;
-    }
-    failed++;
-    printf("failed: %s\n", what);
+    if (holds) passed++;
+    else failed++, printf("failed: %s\n", what);
 }
 
 /* The last line of a test, and its status. */
@@ -21,5 +16,3 @@ static int print_checks(const char *name) {
     printf("%s: %u passed, %u failed\n", name, passed, failed);
     return failed > 0;
 }
-
-#endif

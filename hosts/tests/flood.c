@@ -3,7 +3,6 @@
    For trials: asks a clock for PRIORITY1 RATE times a second, over UDP and IPv4, at even times. Prints how many GETs were
    answered, and in how many microseconds the middle one and 99 of a hundred were. With a RATE of 0 it waits for each answer
    before it asks again. */
-#define _GNU_SOURCE
 #include "message_places.h"
 #include "monotonic.h"
 #include "program.h"

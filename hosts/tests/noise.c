@@ -3,7 +3,6 @@
    For trials: sends RATE datagrams a second to the group of PTP, over UDP and IPv4, at even times. Prints how many went out. They
    are random octets, Announce messages of one master, GETs for clocks that are not there, or GETs for every clock. No manager sends
    these. They come from that address of the interface, or from its first. It reads nothing. */
-#define _GNU_SOURCE
 #include "message_places.h"
 #include "monotonic.h"
 #include "program.h"

@@ -2,7 +2,6 @@
    passed on, and its stops. They try where a message is in a frame, which sdoId it has, and what the image of a session says. They try
    the seal of a file, and TimeIntervals and JSON as texts. They try that a wait takes its time, and who is answered once a clock is saved.
    Prints what does not hold, and `units: N passed, M failed`. */
-#define _GNU_SOURCE
 #include "checking.h"
 #include "domains.h"
 #include "ethernet.h"
@@ -282,12 +281,6 @@ static FILE *open_printed(void) {
     return open_memstream(&printed, &printed_size);
 }
 
-static bool prints_interval(int64_t interval, const char *text) {
-    FILE *to = open_printed();
-    print_interval(to, interval);
-    return fclose(to) == 0 && strcmp(printed, text) == 0;
-}
-
 static bool reads_interval(const char *text, int64_t interval) {
     int64_t read;
     return read_interval(text, &read) && read == interval;
@@ -304,9 +297,7 @@ static void intervals(void) {
         "140737488355327.9999999999999999", "1.00000000000000000", "1000000000000000",
     };
     int64_t read = 7;
-    for (size_t i = 0; i < sizeof both / sizeof *both; i++) {
-        check(prints_interval(both[i].interval, both[i].text) && reads_interval(both[i].text, both[i].interval), both[i].text);
-    }
+    for (size_t i = 0; i < sizeof both / sizeof *both; i++) check(reads_interval(both[i].text, both[i].interval), both[i].text);
     for (size_t i = 0; i < sizeof none / sizeof *none; i++) check(!read_interval(none[i], &read) && read == 7, none[i]);
     check(reads_interval("1250", 81920000) && reads_interval("-0", 0), "a whole number");
     check(reads_interval("0.0000076293945312", 0) && reads_interval("0.0000076293945313", 1), "half a unit");

@@ -6,11 +6,13 @@ import ctypes
 import os
 import threading
 from pathlib import Path
-from typing import Any, Callable, NoReturn, Tuple, Type
+from types import TracebackType
+from typing import Any, Callable, NoReturn, Optional, Tuple, Type, TypeVar
 
 from . import _header as header
 
 _SONAME = "libptpm.so.0"
+_Closing = TypeVar("_Closing", bound="Closing")
 
 
 def _path() -> str:
@@ -68,7 +70,23 @@ def octets_of(given: bytes) -> bytes:
     return memoryview(given).tobytes()
 
 
-class Handle:
+class Closing:
+    """What is closed when its `with` ends."""
+
+    def __enter__(self: _Closing) -> _Closing:
+        return self
+
+    def __exit__(
+        self, kind: Optional[Type[BaseException]], error: Optional[BaseException], trace: Optional[TracebackType]
+    ) -> None:
+        self.close()
+
+    def close(self) -> None:
+        """Closes it."""
+        raise NotImplementedError
+
+
+class Handle(Closing):
     """What owns a handle of the library. It is all zeros before its first call, and has one live copy. Only one thread at a
     time makes calls with it. A signal handler of that thread may make calls too: it runs between two calls of the library."""
 

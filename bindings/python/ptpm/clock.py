@@ -111,12 +111,6 @@ class Clock(Handle):
         are not in it."""
         return written(self._call, library.ptpm_clock_image, self._image_room)
 
-    def __enter__(self) -> Clock:
-        return self
-
-    def __exit__(self, *_: object) -> None:
-        self.close()
-
     def ask(self, port: int, octets: bytes) -> Optional[Asked]:
         """What a datagram would have the device do, if it came in now at this port. The device is asked to carry out a new SET or
         COMMAND of a manager, which the clock itself does not refuse. Or it is asked for the value of an id that the clock lacks,
@@ -152,7 +146,7 @@ class Clock(Handle):
         changed, error = header.ptpm_changed(), ctypes.c_uint16()
         field = octets_of(octets)
         words = (action, id_of(named), port_number(port), field, len(field), ctypes.byref(changed), ctypes.byref(error))
-        if judged(self._call(library.ptpm_clock_set, *words)) == header.PTPM_SET_REFUSED:
+        if judged(self._call(library.ptpm_clock_set, *words)) == header.PTPM_REFUSED:
             raise ChangeRefused(error.value)
         return Changed.of_library(changed)
 

@@ -6,7 +6,7 @@ import ctypes
 from typing import List, NamedTuple, Optional, Sequence, Set, Tuple, Type
 
 from . import _header as header
-from ._library import library
+from ._library import Closing, library
 from .answers import done, judged
 from .changed import Changed
 from .clock import Clock, Handled, came_in
@@ -24,7 +24,7 @@ class Saved(NamedTuple):
     act_now: bool
 
 
-class SavingClock:
+class SavingClock(Closing):
     """A Clock that outlasts a loss of power. It shows no change before that is saved. The messages of a change wait for a save,
     and so do those of all else that managers and the owner ask meanwhile. Anyone else is answered at once, from what was saved. A
     save has three steps: `image`, the storing of its octets, and `saved`. If storing fails, `saved` is not called: the next image
@@ -54,12 +54,6 @@ class SavingClock:
         other is not: it takes no datagram before its first save."""
         done(clock._call(library.ptpm_clock_saving, places))
         self._clock = clock
-
-    def __enter__(self) -> SavingClock:
-        return self
-
-    def __exit__(self, *_: object) -> None:
-        self.close()
 
     def close(self) -> None:
         """Stops the clock."""

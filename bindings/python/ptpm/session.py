@@ -82,9 +82,6 @@ class Session(Requests):
             self.earlier_domain = there
         self.retune(self.earlier_domain)
 
-    def __enter__(self) -> Session:
-        return self
-
     def __exit__(
         self, kind: Optional[Type[BaseException]], error: Optional[BaseException], trace: Optional[TracebackType]
     ) -> None:

@@ -14,6 +14,7 @@ from typing import Optional, Set, Union
 
 from . import _header as header
 from . import seal
+from ._library import Closing
 from .answers import Error
 from .errors import PtpmError
 from .identity import Identity, IdentityLike, PortIdentity, PortIdentityLike
@@ -108,7 +109,7 @@ def _refuse_usual_mark(manager: PortIdentityLike, target: IdentityLike) -> None:
     _has_past_mark(path)
 
 
-class SessionFile:
+class SessionFile(Closing):
     """The image in a session's file, or None if there is no file yet. While a process holds the file, others wait up to a minute.
     The file is held until it is closed, or its `with` ends."""
 
@@ -136,12 +137,6 @@ class SessionFile:
         except BaseException:
             self.close()
             raise
-
-    def __enter__(self) -> SessionFile:
-        return self
-
-    def __exit__(self, *_: object) -> None:
-        self.close()
 
     def _take_turn(self) -> int:
         with _own_turn:

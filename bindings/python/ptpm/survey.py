@@ -68,12 +68,6 @@ class Survey(Handle):
             done(self._call(library.ptpm_survey_start_at, ctypes.byref(struct), Identity.of(target).octets))
         self._id = struct.id
 
-    def __enter__(self) -> Survey:
-        return self
-
-    def __exit__(self, *_: object) -> None:
-        self.close()
-
     def send(self) -> bytes:
         """The message of the GET, the same each time."""
         return written(self._call, library.ptpm_survey_send, header.PTPM_MOST_OCTETS)

@@ -17,6 +17,7 @@ import sys
 import time
 from typing import Any, List, Mapping, Optional, Sequence, Tuple, Union
 
+from ._library import Closing
 from .identity import Identity
 from .link import FULL_TTL, GENERAL_PORT, MOST_DATAGRAM, Link, Packets, Way, attach_filter, filter_program, message_in_copy
 
@@ -28,16 +29,12 @@ _IPV6_CHECKSUM, _UDP_CHECKSUM_AT = 7, 6
 _SIOCGIFADDR = 0x8915
 _SIOCGIFHWADDR = 0x8927
 
-_DROP, _KEEP = (0x06, 0, 0, 0), (0x06, 0, 0, MOST_DATAGRAM - 1)
+# The last steps of a filter that has loaded the octet with the messageType. If the lower half of it is 0xD, for a management message, all
+# is kept, and otherwise nothing.
+_LETS_IN_MANAGEMENT = ((0x54, 0, 0, 0x0F), (0x15, 0, 1, 0x0D), (0x06, 0, 0, MOST_DATAGRAM - 1), (0x06, 0, 0, 0))
 
-# Of datagrams, which begin with their UDP header here, those whose messageType is 0xD: management messages.
-_WANTED = filter_program(
-    (0x30, 0, 0, 8),  # load the octet after the header
-    (0x54, 0, 0, 0x0F),  # its lower half
-    (0x15, 0, 1, 0x0D),  # if it is not 0xD, pass over the next
-    _KEEP,
-    _DROP,
-)
+# Of datagrams, which begin with their UDP header here, those whose octet after it is that of a management message.
+_WANTED = filter_program((0x30, 0, 0, 8), *_LETS_IN_MANAGEMENT)
 
 # Of copies over IPv4, which begin with their IP header, such messages to port 320 of no group.
 _WANTED_COPIES_4 = filter_program(
@@ -48,42 +45,23 @@ _WANTED_COPIES_4 = filter_program(
     (0x54, 0, 0, 0xF0),
     (0x15, 4, 0, 0xE0),
     (0x50, 0, 0, 8),  # the octet after the UDP header
-    (0x54, 0, 0, 0x0F),
-    (0x15, 0, 1, 0x0D),
-    _KEEP,
-    _DROP,
+    *_LETS_IN_MANAGEMENT,
 )
 
 # The same over IPv6, where they begin with their UDP header; the address is before it.
 _WANTED_COPIES_6 = filter_program(
-    (0x28, 0, 0, 2),
-    (0x15, 0, 6, GENERAL_PORT),
-    (0x30, 0, 0, 0xFFF00000 + 24),
-    (0x15, 4, 0, 0xFF),
-    (0x30, 0, 0, 8),
-    (0x54, 0, 0, 0x0F),
-    (0x15, 0, 1, 0x0D),
-    _KEEP,
-    _DROP,
+    (0x28, 0, 0, 2), (0x15, 0, 6, GENERAL_PORT), (0x30, 0, 0, 0xFFF00000 + 24), (0x15, 4, 0, 0xFF), (0x30, 0, 0, 8), *_LETS_IN_MANAGEMENT
 )
 
 # The same for packets of IPv6, which begin with their IP header.
 _WANTED_PACKETS_6 = filter_program(
-    (0x28, 0, 0, 40 + 2),
-    (0x15, 0, 6, GENERAL_PORT),
-    (0x30, 0, 0, 24),
-    (0x15, 4, 0, 0xFF),
-    (0x30, 0, 0, 40 + 8),
-    (0x54, 0, 0, 0x0F),
-    (0x15, 0, 1, 0x0D),
-    _KEEP,
-    _DROP,
+    (0x28, 0, 0, 40 + 2), (0x15, 0, 6, GENERAL_PORT), (0x30, 0, 0, 24), (0x15, 4, 0, 0xFF), (0x30, 0, 0, 40 + 8), *_LETS_IN_MANAGEMENT
 )
 
 Address = Union[str, Tuple[str, int], Tuple[str, int, int, int]]
 
 
-class Transport:
+class Transport(Closing):
     """A transport to clocks: sockets, and the address to which the first one sends. It is closed when its `with` ends."""
 
     identity = Identity(bytes(8))
@@ -114,12 +92,6 @@ class Transport:
         self._waiting: Optional[select.epoll] = None
         for one in self._heard:
             one.setblocking(False)
-
-    def __enter__(self) -> Transport:
-        return self
-
-    def __exit__(self, *_: object) -> None:
-        self.close()
 
     def close(self) -> None:
         """Closes the sockets."""
@@ -160,24 +132,19 @@ class Transport:
 
     def receive(self, until: float) -> Optional[bytes]:
         """The next datagram, or None if none comes in before a time of time.monotonic()."""
-        while True:
-            left = until - time.monotonic()
-            found = self._readable(left) if left > 0 else []
-            if not found:
-                return None
+        while (left := until - time.monotonic()) > 0 and (found := self._readable(left)):
             message = self._read(found[0])
             if message is not None:
                 return message
+        return None
 
     def take(self) -> Optional[bytes]:
         """A datagram that has come in, or None if there is none. The call does not wait."""
-        while True:
-            found = self._readable(0)
-            if not found:
-                return None
+        while found := self._readable(0):
             message = self._read(found[0])
             if message is not None:
                 return message
+        return None
 
     def _read(self, opened: socket.socket) -> Optional[bytes]:
         """The message that a socket has. None if it is not one, and for an error such as an ICMP message about an earlier

@@ -5,6 +5,7 @@ from __future__ import annotations
 import os
 import shutil
 import subprocess
+import sys
 import tempfile
 import time
 import unittest
@@ -14,6 +15,11 @@ from typing import Callable, List, Optional, Sequence
 TOP = Path(__file__).resolve().parents[3]
 CLOCK = "aabbccfffeddee01"
 MANAGER = "0011223344556677/1"
+
+
+def run_module(*words: str) -> "subprocess.CompletedProcess[str]":
+    """What `python -m ptpm` makes of these words."""
+    return subprocess.run([sys.executable, "-m", "ptpm", *words], capture_output=True, text=True, check=False)
 
 
 class Folder(unittest.TestCase):

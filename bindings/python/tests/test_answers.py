@@ -5,8 +5,6 @@ from __future__ import annotations
 import os
 import resource
 import socket
-import subprocess
-import sys
 import threading
 import time
 import unittest
@@ -15,7 +13,7 @@ from typing import Callable, List, Optional
 import ptpm
 from ptpm.asking import carry_out
 
-from . import CLOCK, MANAGER, Folder
+from . import CLOCK, MANAGER, Folder, run_module
 
 Answers = Callable[[bytes], bytes]
 
@@ -155,8 +153,7 @@ class AnswersOfOthers(Folder):
             for words in (["set", "LOG_SYNC_INTERVAL", "1"], ["get", "LOG_SYNC_INTERVAL"]):
                 clock = threading.Thread(target=answer)
                 clock.start()
-                words = [sys.executable, "-m", "ptpm", "-u", path, "-m", MANAGER, "-T", CLOCK, "-p", "300", *words]
-                ran = subprocess.run(words, capture_output=True, text=True, check=False)
+                ran = run_module("-u", path, "-m", MANAGER, "-T", CLOCK, "-p", "300", *words)
                 clock.join()
                 self.assertEqual((ran.returncode, ran.stdout, ran.stderr), (0, "logSyncInterval 1\n", ""))
         manager = bytes.fromhex(MANAGER.replace("/", "000"))
@@ -165,8 +162,7 @@ class AnswersOfOthers(Folder):
         self.assertFalse(os.path.exists(f"{self.folder}/state"))
         for words, why in ((["-k", f"{self.folder}/numbers"], "--numbers: a request to a port above 255 has no session"),
                            (["--give-up"], "--give-up: this request has no session")):
-            words = [sys.executable, "-m", "ptpm", "-u", path, *words, "-T", CLOCK, "-p", "300", "get", "LOG_SYNC_INTERVAL"]
-            ran = subprocess.run(words, capture_output=True, text=True, check=False)
+            ran = run_module("-u", path, *words, "-T", CLOCK, "-p", "300", "get", "LOG_SYNC_INTERVAL")
             self.assertEqual((ran.returncode, ran.stdout, ran.stderr), (2, "", f"ptpm: {why}\n"))
 
     def test_the_command_line(self) -> None:
@@ -180,8 +176,7 @@ class AnswersOfOthers(Folder):
 
             clock = threading.Thread(target=answer)
             clock.start()
-            words = [sys.executable, "-m", "ptpm", "-u", path, "set", "PRIORITY1", "100", "--target", CLOCK]
-            ran = subprocess.run(words, capture_output=True, text=True, check=False)
+            ran = run_module("-u", path, "set", "PRIORITY1", "100", "--target", CLOCK)
             clock.join()
         said = "ptpm: the answer is not what was asked: priority1 100\n"
         self.assertEqual((ran.returncode, ran.stdout, ran.stderr), (5, "priority1 7\n", said))

@@ -23,7 +23,7 @@ from ptpm.__main__ import Task
 from ptpm.__main__ import _parser as command_line
 from ptpm.session_file import usual_path
 
-from . import CLOCK, MANAGER, TOP, Folder
+from . import CLOCK, MANAGER, TOP, Folder, run_module
 
 
 HEAD = bytes.fromhex("01 02 02 01 000000fffe000010 0001 0001 01 6e 00")
@@ -315,8 +315,7 @@ class Asking(Folder):
     def test_a_request_is_finished_in_the_domain_in_which_it_was_asked(self) -> None:
         self.leave(24, 4)
         self.assertRaisesRegex(ptpm.NoAnswer, "request in domain 4: the request itself was not sent", self.goes_on, self.way)
-        words = ["-u", self.path, "-m", MANAGER, "-a", "2", "-t", "20", "get", "PRIORITY1", "--target", CLOCK]
-        ran = subprocess.run([sys.executable, "-m", "ptpm", *words], capture_output=True, text=True, check=False)
+        ran = run_module("-u", self.path, "-m", MANAGER, "-a", "2", "-t", "20", "get", "PRIORITY1", "--target", CLOCK)
         self.assertEqual((ran.returncode, ran.stdout), (3, ""))
         self.assertRegex(ran.stderr, "in domain 4: .* --give-up lets the earlier one go, and --domain 4 asks there\n$")
         self.assertEqual(ptpm.get(self.way, CLOCK, "PRIORITY1").members, {"priority1": 128})
@@ -450,8 +449,7 @@ class Asking(Folder):
             self.assertEqual(caught.exception.journal, journal)
         why = f"nothing was asked: the apply of {journal} is open: ptpm-manage resume goes on with it"
         self.assertEqual(str(caught.exception), why)
-        words = [sys.executable, "-m", "ptpm", "-u", self.path, "-m", MANAGER, "-k", path, "-T", CLOCK, "set", "PRIORITY1", "1"]
-        ran = subprocess.run(words, capture_output=True, text=True, check=False)
+        ran = run_module("-u", self.path, "-m", MANAGER, "-k", path, "-T", CLOCK, "set", "PRIORITY1", "1")
         self.assertEqual((ran.returncode, ran.stdout, ran.stderr), (2, "", f"ptpm: {why}\n"))
         self.assertEqual([name for name in sorted(os.listdir(self.folder)) if name.startswith("session")], ["session.apply"])
         os.unlink(f"{path}.apply")
@@ -573,8 +571,7 @@ class Asking(Folder):
 
     def test_the_command_line(self) -> None:
         def run(*words: str) -> "tuple[int, str]":
-            command = [sys.executable, "-m", "ptpm", "-u", self.path, *words]
-            ran = subprocess.run(command, capture_output=True, text=True, check=False)
+            ran = run_module("-u", self.path, *words)
             return ran.returncode, ran.stdout
 
         self.assertEqual(run("get", "PRIORITY1", "--target", CLOCK), (0, "priority1 128\n"))
@@ -610,9 +607,8 @@ class Asking(Folder):
             self.assertEqual((streams, words, self.run_with(streams, *words)), (streams, words, status))
 
     def test_what_is_wrong_is_named(self) -> None:
-        words = [sys.executable, "-m", "ptpm", "get", "PRIORITY1", "-T", CLOCK, "-u"]
         for path, why in ((f"{self.folder}/nobody", "No such file or directory"), ("/dev/null", "")):
-            ran = subprocess.run([*words, path], capture_output=True, text=True, check=False)
+            ran = run_module("get", "PRIORITY1", "-T", CLOCK, "-u", path)
             self.assertEqual((ran.returncode, ran.stdout), (2, ""))
             self.assertRegex(ran.stderr, f"^ptpm: {path}.*: {why}")
         words = [sys.executable, "-m", "ptpm", "set", "PRIORITY1", "1", "-T", CLOCK, "-u", self.path, "-m", MANAGER]

@@ -1,4 +1,3 @@
-#define _GNU_SOURCE
 #include "apply.h"
 #include "apply_report.h"
 #include "exchange.h"

@@ -1,4 +1,3 @@
-#define _GNU_SOURCE
 #include "apply_report.h"
 #include "answer.h"
 #include "field_text.h"
@@ -18,10 +17,8 @@ enum { PLAN_AT = sizeof "20260101-000000" };
 /* ---- members */
 
 void write_member_name(FILE *to, const struct step *step) {
-    char clock[IDENTITY_TEXT];
     const char *id = id_name(step->id);
-    write_identity(clock, step->clock);
-    fputs(clock, to);
+    fputs(identity_text(step->clock), to);
     if (step->port != 0) fprintf(to, "/%u", step->port);
     if (step->domain != 0) fprintf(to, " domain %u", step->domain);
     if (id != NULL) fprintf(to, " %s", id);
@@ -65,13 +62,9 @@ static void write_change(FILE *to, const struct step *step) {
 
 static void write_state(FILE *to, const struct journal *journal, size_t place) {
     const struct told *told = &journal->told[place];
-    const char *error = error_name(told->error);
     switch (told->outcome) {
     case DONE: fputs("done", to); break;
-    case IS_REFUSED:
-        if (error != NULL) fprintf(to, "refused %s", error);
-        else fprintf(to, "refused 0x%04x", told->error);
-        break;
+    case IS_REFUSED: fprintf(to, "refused %s", error_text(told->error)); break;
     case OTHER_VALUE:
         fputs("answered ", to);
         write_value(to, journal->steps[place].id, told->answer.octets, told->answer.size);
@@ -92,8 +85,7 @@ static void write_step_line(FILE *to, const struct journal *journal, size_t plac
 void say_step(const struct journal *journal, long place) {
     char *text = NULL;
     size_t size;
-    FILE *to = open_memstream(&text, &size);
-    if (to == NULL) give_up("a notice");
+    FILE *to = needed(open_memstream(&text, &size), "a notice");
     write_step_line(to, journal, (size_t)place);
     if (fclose(to)) give_up("a notice");
     log_progress("step %s", text);
@@ -156,21 +148,16 @@ static void print_value_as_json(const char *name, uint16_t id, const struct valu
 static void print_state_as_json(const struct journal *journal, size_t place) {
     static const char *const names[] = { "notAsked", "done", "refused", "answered" };
     const struct told *told = &journal->told[place];
-    const char *error = error_name(told->error);
     printf(",\"state\":\"%s\"", is_uncertain(journal, (long)place) ? "mayBe" : names[told->outcome]);
     if (told->time != 0) fputs(",\"time\":\"", stdout), print_time(told->time), putchar('"');
     if (told->outcome == OTHER_VALUE) print_value_as_json("answer", journal->steps[place].id, &told->answer);
-    if (told->outcome != IS_REFUSED) return;
-    if (error != NULL) printf(",\"managementErrorId\":\"%s\"", error);
-    else printf(",\"managementErrorId\":\"0x%04x\"", told->error);
+    if (told->outcome == IS_REFUSED) printf(",\"managementErrorId\":\"%s\"", error_text(told->error));
 }
 
 static void print_step_as_json(const struct journal *journal, size_t place) {
     const struct step *step = &journal->steps[place];
-    char clock[IDENTITY_TEXT];
     const char *id = id_name(step->id);
-    write_identity(clock, step->clock);
-    printf("{\"number\":%zu,\"domainNumber\":%u,\"clockIdentity\":\"%s\",\"portNumber\":", place + 1, step->domain, clock);
+    printf("{\"number\":%zu,\"domainNumber\":%u,\"clockIdentity\":\"%s\",\"portNumber\":", place + 1, step->domain, identity_text(step->clock));
     if (step->port == 0) fputs("null", stdout);
     else printf("%u", step->port);
     printf(",\"managementId\":\"%s\"", id == NULL ? "" : id);

@@ -1,6 +1,5 @@
 /* What became of an apply: a line for each step, or an object of JSON. */
-#ifndef APPLY_REPORT_H
-#define APPLY_REPORT_H
+#pragma once
 
 #include "journal.h"
 #include <stdbool.h>
@@ -37,5 +36,3 @@ void write_member_name(FILE *to, const struct step *step);
 
 /* Writes a dataField on one line: the value of its one member, or each member with its name. */
 void write_value(FILE *to, uint16_t id, const uint8_t *octets, size_t size);
-
-#endif

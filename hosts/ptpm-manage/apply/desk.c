@@ -1,7 +1,6 @@
 #include "desk.h"
 #include "exchange.h"
 #include "monotonic.h"
-#include "names.h"
 #include "notices.h"
 #include "stopping.h"
 #include "transport.h"
@@ -19,8 +18,6 @@ void open_desk(struct desk *desk, const struct task *task, const struct step *fi
     desk->driver = (struct driver){ .asker = &desk->session.asker, .task = &desk->task };
     if (!desk->session.has_file) desk->driver.opened = milliseconds();
 }
-
-void leave_desk(struct desk *desk) { ptpm_asker_stop(&desk->session.asker); }
 
 /* ---- events */
 
@@ -79,10 +76,9 @@ static void say_silence_at(const struct desk *desk, const struct step *step, boo
 }
 
 static void say_unanswered(const struct desk *desk, const struct journal *journal, bool is_uncertain) {
-    char clock[IDENTITY_TEXT];
-    write_identity(clock, desk->task.settings.target);
-    complain("no answer from %s at %s in domain %u to %ld message%s: %s", clock, transport_name(), desk->domain, desk->driver.sent,
-             desk->driver.sent == 1 ? "" : "s", is_uncertain ? "the step may have been carried out" : "the next step was not sent");
+    complain("no answer from %s at %s in domain %u to %ld message%s: %s", identity_text(desk->task.settings.target), transport_name(),
+             desk->domain, desk->driver.sent, desk->driver.sent == 1 ? "" : "s",
+             is_uncertain ? "the step may have been carried out" : "the next step was not sent");
     if (desk->step == NO_STEP) say_before_steps(&desk->session.earlier, &desk->task);
     else say_silence_at(desk, &journal->steps[desk->step], is_uncertain);
 }

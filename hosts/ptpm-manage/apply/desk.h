@@ -1,6 +1,5 @@
 /* A clock that an apply changes: its session, held from the first use to the end, and what becomes of what is asked there. */
-#ifndef DESK_H
-#define DESK_H
+#pragma once
 
 #include "answer.h"
 #include "driving.h"
@@ -41,7 +40,3 @@ struct event go_on_at_desk(struct desk *desk, struct journal *journal);
 
 /* Gives up the request that is still in the session, and saves that. Nothing is sent. */
 struct event let_go_at_desk(struct desk *desk, struct journal *journal);
-
-void leave_desk(struct desk *desk);
-
-#endif

@@ -1,4 +1,3 @@
-#define _GNU_SOURCE
 #include "journal.h"
 #include "kept_file.h"
 #include "names.h"
@@ -25,9 +24,8 @@ const char *ending_name(enum ending ending) {
 
 void give_steps(struct journal *journal, const struct step *steps, size_t count) {
     journal->count = count;
-    journal->steps = calloc(count + 1, sizeof *journal->steps);
-    journal->told = calloc(count + 1, sizeof *journal->told);
-    if (journal->steps == NULL || journal->told == NULL) give_up("the steps");
+    journal->steps = needed(calloc(count + 1, sizeof *journal->steps), "the steps");
+    journal->told = needed(calloc(count + 1, sizeof *journal->told), "the steps");
     if (steps != NULL) memcpy(journal->steps, steps, count * sizeof *steps);
 }
 
@@ -186,15 +184,12 @@ bool make_journal(struct journal *journal) {
     struct kept_file file = { .folder = -1, .mode = 0666 };
     char *octets = NULL;
     start_records(journal);
-    FILE *to = open_memstream(&octets, &journal->size);
-    if (to == NULL) give_up("the journal");
+    FILE *to = needed(open_memstream(&octets, &journal->size), "the journal");
     write_beginning(to, journal);
     if (fclose(to)) give_up("the journal");
     journal->octets = (uint8_t *)octets;
     bool is_made = open_kept_folder(&file, journal->path) && replace_kept(&file, journal->octets, journal->size) == REPLACED;
-    int failure = errno;
-    if (file.folder >= 0) close(file.folder);
-    errno = failure;
+    close_quietly(file.folder);
     return is_made && open_notes(journal);
 }
 
@@ -217,9 +212,7 @@ static uint8_t *read_file(const char *path, size_t *size) {
         free(octets);
         octets = NULL;
     }
-    int failure = errno;
-    if (file >= 0) close(file);
-    errno = failure;
+    close_quietly(file);
     return octets;
 }
 

@@ -1,7 +1,6 @@
 /* The journal of an apply: its steps, and what became of each. The library writes and reads its records, and refuses one that no run makes
    (docs/changing-a-site.md, "The journal"). What is noted is on the disk before anything else happens. */
-#ifndef JOURNAL_H
-#define JOURNAL_H
+#pragma once
 
 #include "ptpm.h"
 #include <limits.h>
@@ -102,5 +101,3 @@ const char *ending_name(enum ending ending);
 
 /* Closes its file, and frees what it holds. */
 void leave_journal(struct journal *journal);
-
-#endif

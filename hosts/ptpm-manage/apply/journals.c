@@ -1,4 +1,3 @@
-#define _GNU_SOURCE
 #include "journals.h"
 #include "kept_file.h"
 #include "notices.h"

@@ -1,6 +1,5 @@
 /* The folder of the journals: STATE/apply, where STATE is the folder of the sessions. */
-#ifndef JOURNALS_H
-#define JOURNALS_H
+#pragma once
 
 #include "journal.h"
 #include <stdbool.h>
@@ -36,5 +35,3 @@ void find_journal(struct journal *journal, const char *name);
 
 /* Gives a new journal its name and path: the time in UTC, a word, and four digits that are drawn. */
 void name_journal(struct journal *journal, const char *word);
-
-#endif

@@ -2,6 +2,7 @@
 #include "journal.h"
 #include "kept_file.h"
 #include "notices.h"
+#include "program.h"
 #include <errno.h>
 #include <limits.h>
 #include <stdint.h>
@@ -80,9 +81,7 @@ bool make_mark(const char *session) {
     char line[PATH_MAX + 1];
     int size = snprintf(line, sizeof line, "%s\n", own);
     bool is_made = find_mark(&mark, session) && replace_kept(&mark, (const uint8_t *)line, (size_t)size) == REPLACED;
-    int failure = errno;
-    if (mark.folder >= 0) close(mark.folder);
-    errno = failure;
+    close_quietly(mark.folder);
     return is_made;
 }
 

@@ -1,7 +1,6 @@
 /* The mark of an apply beside the file of a session, FILE.apply, which names the apply's journal. While that is open no other run may ask
    in the session. It would settle a step and print an answer that the journal then lacks. */
-#ifndef MARKS_H
-#define MARKS_H
+#pragma once
 
 #include <stdbool.h>
 
@@ -23,5 +22,3 @@ bool make_mark(const char *session);
 
 /* Takes the mark away, if it is this run's. */
 void remove_mark(const char *session);
-
-#endif

@@ -1,4 +1,3 @@
-#define _GNU_SOURCE
 #include "members.h"
 #include "apply_report.h"
 #include "exchange.h"
@@ -16,8 +15,7 @@
 static char *describe_member(const struct step *step, const struct answer *answer, const struct value *wanted) {
     char *text = NULL;
     size_t size;
-    FILE *to = open_memstream(&text, &size);
-    if (to == NULL) give_up("a notice");
+    FILE *to = needed(open_memstream(&text, &size), "a notice");
     write_member_name(to, step);
     if (answer != NULL) {
         fputs(" is ", to);
@@ -71,10 +69,9 @@ static bool is_read(const struct task *task, const struct step *step, uint8_t do
 }
 
 static int not_read(const struct step *step, uint8_t domain) {
-    char clock[IDENTITY_TEXT];
     if (stopped) return BY_SIGNAL + stopped;
-    write_identity(clock, step->clock);
-    complain("no answer from %s at %s in domain %u to a read of %s%s", clock, transport_name(), domain, id_name(step->id), why_unread());
+    complain("no answer from %s at %s in domain %u to a read of %s%s", identity_text(step->clock), transport_name(), domain, id_name(step->id),
+             why_unread());
     return NOT_ANSWERED;
 }
 

@@ -1,6 +1,5 @@
 /* The members that a journal sets are read, by nobody. */
-#ifndef MEMBERS_H
-#define MEMBERS_H
+#pragma once
 
 #include "answer.h"
 #include "journal.h"
@@ -25,5 +24,3 @@ int leave_needed_steps(const struct task *task, struct journal *back);
 /* After the rollback of a journal: whether each member that it left out is as before the apply. Each that is not is said, and noted in
    `told`. ANSWERED, NOT_ANSWERED if one is not, or the program's status. */
 int find_left_out(const struct task *task, struct journal *journal);
-
-#endif

@@ -1,4 +1,3 @@
-#define _GNU_SOURCE
 #include "plan.h"
 #include "apply_report.h"
 #include "collect.h"
@@ -16,7 +15,6 @@
 #include "transport.h"
 #include "words.h"
 #include <errno.h>
-#include <stdbool.h>
 #include <stdio.h>
 #include <stdlib.h>
 #include <string.h>
@@ -94,8 +92,7 @@ static int ask_clocks(const struct task *task, const struct collected *what, con
     survey = *task;
     survey.settings.port = port_of_nobody(PTPM_GET);
     *lines = (struct printed){ 0 };
-    FILE *to = open_memstream(&lines->text, &lines->size);
-    if (to == NULL) give_up("the answers");
+    FILE *to = needed(open_memstream(&lines->text, &lines->size), "the answers");
     int status = what->count == 0 ? ANSWERED : collect_answers(&survey, what, domains, to);
     bool is_whole = !ferror(to);
     if (fclose(to) != 0 || !is_whole) give_up("the answers");
@@ -136,8 +133,7 @@ static void read_steps(struct plan *plan) {
     end[1] = '\0';
     plan->text.size = (size_t)(end + 1 - plan->text.text);
     for (char *line = strtok_r(end + 2, "\n", &rest); line != NULL; line = strtok_r(NULL, "\n", &rest)) {
-        plan->steps = reallocarray(plan->steps, plan->count + 1, sizeof *plan->steps);
-        if (plan->steps == NULL) give_up("the steps");
+        plan->steps = needed(reallocarray(plan->steps, plan->count + 1, sizeof *plan->steps), "the steps");
         if (!take_step(&plan->steps[plan->count], line, plan->count + 1)) refuse("nothing was sent: ptpm plan --steps prints %s", line);
         plan->count++;
     }
@@ -154,9 +150,8 @@ static void read_id(struct plan *plan, const char *lead) {
 /* The lines below a heading of the text, without the two spaces before each; NULL if there are none. They are to be freed. */
 static char *lines_below(const char *text, const char *heading) {
     const char *at = strstr(text, heading);
-    char *lines = at == NULL ? NULL : malloc(strlen(at)), *end = lines;
     if (at == NULL) return NULL;
-    if (lines == NULL) give_up("the plan");
+    char *lines = needed(malloc(strlen(at)), "the plan"), *end = lines;
     for (at += strlen(heading); strncmp(at, "  ", 2) == 0; at = strchrnul(at, '\n') + 1) {
         const char *line = at + 2, *feed = strchrnul(line, '\n');
         end = mempcpy(end, line, (size_t)(feed - line));
@@ -249,7 +244,7 @@ void add_warning(struct plan *plan, const char *text, bool is_json) {
                                           : asprintf(&more, "%swarning: %s\n", old, text);
     if (size < 0) give_up("a warning");
     free(plan->text.text);
-    plan->text = (struct printed){ more, (size_t)size };
+    plan->text = (struct printed){ .text = more, .size = (size_t)size };
 }
 
 void print_plan(const struct plan *plan, bool is_json) {
@@ -328,11 +323,8 @@ static uint16_t port_of(const struct plan *plan, const struct step *first) {
 }
 
 static void add_refusal(struct plan *plan, const struct task *task, const char *clock) {
-    char text[128], number[8];
-    const char *error = error_name(refusal);
-    snprintf(number, sizeof number, "0x%04x", refusal);
-    snprintf(text, sizeof text, "%s refuses a SET that changes nothing (%s): it may take no SET from this manager", clock,
-             error != NULL ? error : number);
+    char text[128];
+    snprintf(text, sizeof text, "%s refuses a SET that changes nothing (%s): it may take no SET from this manager", clock, error_text(refusal));
     add_warning(plan, text, task->is_json);
 }
 
@@ -356,20 +348,18 @@ static int end_asked(struct run *run) {
 }
 
 static int end_probe(struct plan *plan, const struct probe *probe, const struct task *task) {
-    char clock[IDENTITY_TEXT];
-    write_identity(clock, probe->request.settings.target);
-    show_progress("%s: does it take SETs from this manager?", clock);
+    const uint8_t *clock = probe->request.settings.target;
+    show_progress("%s: does it take SETs from this manager?", identity_text(clock));
     int status = end_asked(probe->run);
-    if (status == ANSWERED && refusal != 0) add_refusal(plan, task, clock), say_of_ptp4l(refusal);
-    if (status == NOT_ANSWERED) complain("%s gave no answer: whether it takes SETs from this manager is not known", clock);
+    if (status == ANSWERED && refusal != 0) add_refusal(plan, task, identity_text(clock)), say_of_ptp4l(refusal);
+    if (status == NOT_ANSWERED) complain("%s gave no answer: whether it takes SETs from this manager is not known", identity_text(clock));
     return status;
 }
 
 int probe_clocks(struct plan *plan, const struct task *task) {
     int status = ANSWERED;
     size_t count = 0;
-    struct probe *probes = calloc(plan->count + 1, sizeof *probes);
-    if (probes == NULL) give_up("the probes");
+    struct probe *probes = needed(calloc(plan->count + 1, sizeof *probes), "the probes");
     if (plan->count > 0) state_folder();
     for (const struct step *first = NULL; (first = next_clock(plan->steps, plan->count, first)) != NULL;) {
         take_probe(&probes[count++], task, first, PTPM_ID_NULL_PTP_MANAGEMENT, port_of(plan, first));
@@ -393,11 +383,7 @@ static void take_standing(struct probe *probe, const struct task *task, const st
 }
 
 static void say_refusal(const struct task *task, const struct step *step) {
-    char clock[IDENTITY_TEXT], number[8];
-    const char *error = error_name(refusal);
-    write_identity(clock, step->clock);
-    snprintf(number, sizeof number, "0x%04x", refusal);
-    complain("%s refuses a SET of %s to the value that it has: %s", clock, id_name(step->id), error != NULL ? error : number);
+    complain("%s refuses a SET of %s to the value that it has: %s", identity_text(step->clock), id_name(step->id), error_text(refusal));
     say_right(task, refusal);
 }
 
@@ -417,8 +403,7 @@ static int end_standing(const struct probe *probe, const struct task *task, cons
 int probe_steps(const struct plan *plan, const struct task *task) {
     int status = ANSWERED;
     size_t refused = 0;
-    struct probe *probes = calloc(plan->count + 1, sizeof *probes);
-    if (probes == NULL) give_up("the probes");
+    struct probe *probes = needed(calloc(plan->count + 1, sizeof *probes), "the probes");
     if (plan->count > 0) state_folder();
     for (const struct step *first = NULL; (first = next_clock(plan->steps, plan->count, first)) != NULL;) {
         take_standing(&probes[first - plan->steps], task, first);

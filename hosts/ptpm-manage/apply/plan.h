@@ -1,6 +1,5 @@
 /* What a file would change at several clocks: they are asked what they have, and `ptpm plan` compares it with the file. */
-#ifndef PLAN_H
-#define PLAN_H
+#pragma once
 
 #include "journal.h"
 #include "ptpm_program.h"
@@ -47,5 +46,3 @@ int probe_clocks(struct plan *plan, const struct task *task);
    manager's session with it. If it has another value by now, it is not asked. A refusal is said. ANSWERED, REFUSED if a clock refuses, NOT_AS_ASKED if a
    value has changed, or the program's status. */
 int probe_steps(const struct plan *plan, const struct task *task);
-
-#endif

@@ -1,4 +1,3 @@
-#define _GNU_SOURCE
 #include "rollout.h"
 #include "answer.h"
 #include "apply_report.h"
@@ -28,10 +27,9 @@ static struct desk *desk_of(const struct step *step) {
 }
 
 static void take_session(const struct task *task, const struct step *first) {
-    struct desk **more = reallocarray(desks, desk_count + 1, sizeof *desks), *desk = malloc(sizeof *desk);
-    if (more == NULL || desk == NULL) give_up("the sessions");
+    struct desk *desk = needed(malloc(sizeof *desk), "the sessions");
     open_desk(desk, task, first);
-    desks = more;
+    desks = needed(reallocarray(desks, desk_count + 1, sizeof *desks), "the sessions");
     desks[desk_count++] = desk;
 }
 
@@ -64,7 +62,7 @@ static void remove_marks(void) {
 
 void leave_sessions(void) {
     for (size_t i = 0; i < desk_count; i++) {
-        leave_desk(desks[i]);
+        ptpm_asker_stop(&desks[i]->session.asker);
         free(desks[i]);
     }
     free(desks);

@@ -1,6 +1,5 @@
 /* A journal is carried out: what the library's rollout says is done, one action after the other. */
-#ifndef ROLLOUT_H
-#define ROLLOUT_H
+#pragma once
 
 #include "journal.h"
 #include "task.h"
@@ -17,5 +16,3 @@ int carry_out_journal(const struct task *task, struct journal *journal, uint32_t
 
 /* Notes how it ended, and takes the marks away; whether it could. */
 bool end_journal(struct journal *journal, enum ending ending);
-
-#endif

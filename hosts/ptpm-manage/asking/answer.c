@@ -1,4 +1,3 @@
-#define _GNU_SOURCE
 #include "answer.h"
 #include "field_text.h"
 #include "names.h"
@@ -6,8 +5,6 @@
 #include "text.h"
 #include "words.h"
 #include <inttypes.h>
-#include <stdbool.h>
-#include <stdio.h>
 #include <stdlib.h>
 #include <string.h>
 
@@ -51,11 +48,10 @@ static void print_members(FILE *to, const char *lead, uint16_t id, const uint8_t
 }
 
 void print_answer(FILE *to, const struct task *task, const char *lead, const struct answer *answer) {
-    const char *refusal = error_name(answer->error);
+    const char *unnamed = error_name(answer->error) == NULL ? ", an error without a name" : "";
     clear_progress();
     if (answer->outcome == PTPM_DONE) fprintf(to, "%sdone\n", lead);
-    else if (answer->outcome == PTPM_REFUSED && refusal != NULL) fprintf(to, "%srefused %s\n", lead, refusal);
-    else if (answer->outcome == PTPM_REFUSED) fprintf(to, "%srefused 0x%04x, an error without a name\n", lead, answer->error);
+    else if (answer->outcome == PTPM_REFUSED) fprintf(to, "%srefused %s%s\n", lead, error_text(answer->error), unnamed);
     else if (answer->outcome != PTPM_VALUE) complain("nothing is reported: %s", answer_name(answer->outcome));
     else if (task->is_in_octets) print_octets(to, lead, answer->octets, answer->size);
     else print_members(to, lead, task->id, answer->octets, answer->size);
@@ -149,21 +145,12 @@ void print_members_as_json(FILE *to, const char *name, uint16_t id, const uint8_
 
 /* Who answers what: the head of the object. */
 static void print_source_as_json(FILE *to, const struct task *task, const struct ptpm_source *source) {
-    char clock[IDENTITY_TEXT];
     const char *id = read_id_name(task->id);
-    write_identity(clock, source->clock);
-    fprintf(to, "{\"domainNumber\":%u,\"clockIdentity\":\"%s\",\"portNumber\":", task->settings.domain, clock);
+    fprintf(to, "{\"domainNumber\":%u,\"clockIdentity\":\"%s\",\"portNumber\":", task->settings.domain, identity_text(source->clock));
     if (source->port == 0) fputs("null", to);
     else fprintf(to, "%u", source->port);
     if (id != NULL) fprintf(to, ",\"managementId\":\"%s\"", id);
     else fprintf(to, ",\"managementId\":\"%04x\"", task->id);
-}
-
-static void print_error_as_json(FILE *to, uint16_t error) {
-    const char *name = error_name(error);
-    fputs(",\"status\":\"refused\",\"managementErrorId\":", to);
-    if (name != NULL) fprintf(to, "\"%s\"", name);
-    else fprintf(to, "\"0x%04x\"", error);
 }
 
 static void print_field_as_json(FILE *to, const struct task *task, const struct answer *answer) {
@@ -180,7 +167,7 @@ void print_answer_as_json(FILE *to, const struct task *task, const struct ptpm_s
     }
     print_source_as_json(to, task, source);
     if (answer->outcome == PTPM_DONE) fputs(",\"status\":\"done\"", to);
-    else if (answer->outcome == PTPM_REFUSED) print_error_as_json(to, answer->error);
+    else if (answer->outcome == PTPM_REFUSED) fprintf(to, ",\"status\":\"refused\",\"managementErrorId\":\"%s\"", error_text(answer->error));
     else print_field_as_json(to, task, answer);
     fputs(is_other(task, answer) ? ",\"isAsAsked\":false}\n" : "}\n", to);
 }
@@ -239,10 +226,9 @@ void say_of_ptp4l(uint16_t error) {
 
 /* Without a file the port of the manager is another one in each run. */
 void say_right(const struct task *task, uint16_t error) {
-    char identity[IDENTITY_TEXT], manager[IDENTITY_TEXT + 16] = "a request without --manager";
+    char manager[IDENTITY_TEXT + 16] = "a request without --manager";
     if (error != NOT_SUPPORTED) return;
-    write_identity(identity, task->settings.clock);
-    if (task->is_kept) snprintf(manager, sizeof manager, "manager %s/%u", identity, task->settings.port);
+    if (task->is_kept) snprintf(manager, sizeof manager, "manager %s/%u", identity_text(task->settings.clock), task->settings.port);
     complain("the clock lacks that id, or takes no change of it from %s", manager);
     say_of_ptp4l(error);
 }

@@ -1,6 +1,5 @@
 /* What an answer of a clock says, printed; and the members of its dataField (IEEE 1588-2019, 15.5.3), as an operator reads them. */
-#ifndef ANSWER_H
-#define ANSWER_H
+#pragma once
 
 #include "task.h"
 #include <stdbool.h>
@@ -48,5 +47,3 @@ void say_of_ptp4l(uint16_t error);
 
 /* Prints how many requests there were, and messages of them. */
 void print_count(long requests, long sent);
-
-#endif

@@ -106,11 +106,10 @@ static int taken_in_time(const uint8_t *message, long wait, long *lost) {
 /* The answers of a survey in the order in which they came. */
 static void print_answers(const struct task *task) {
     struct ptpm_source source;
-    char clock[IDENTITY_TEXT], lead[IDENTITY_TEXT + 8];
+    char lead[IDENTITY_TEXT + 8];
     for (size_t place = 0; place < ptpm_survey_count(&survey); place++) {
         answer.outcome = ptpm_survey_answer(&survey, place, &source, answer.octets, sizeof answer.octets, &answer.size, &answer.error);
-        write_identity(clock, source.clock);
-        snprintf(lead, sizeof lead, "%s/%u ", clock, source.port);
+        snprintf(lead, sizeof lead, "%s/%u ", identity_text(source.clock), source.port);
         if (task->is_json) print_answer_as_json(stdout, task, &source, &answer);
         else print_answer(stdout, task, lead, &answer);
     }

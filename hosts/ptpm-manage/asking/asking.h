@@ -1,6 +1,5 @@
 /* A task, carried out in no file: by a session or a survey of the library. */
-#ifndef ASKING_H
-#define ASKING_H
+#pragma once
 
 #include "task.h"
 
@@ -15,5 +14,3 @@ int ask_without_file(const struct task *task);
 /* Asks every port of every clock, or only of the task's clock. It ends if two rounds bring no new answer, or the attempts are
    used. Prints what each answer says, after the port that gave it; the program's status. */
 int ask_every_port(const struct task *task);
-
-#endif

@@ -6,11 +6,9 @@
 #include "stopping.h"
 #include "unanswered.h"
 #include <errno.h>
-#include <stdbool.h>
 #include <stdio.h>
 #include <string.h>
 #include <unistd.h>
-
 
 /* Who asks by the latest message, and its target as the session has it. And the port that takes the place of the session's last one,
    or 0. */
@@ -28,11 +26,8 @@ enum ptpm_begun begin_of_task(struct ptpm_session *session, const struct task *t
 
 /* Outside of the session its last port and the one that is named in its place are swapped. */
 static void swap_port(uint8_t *at) {
-    unsigned port = (unsigned)at[0] << 8 | at[1];
-    if (beyond == 0 || (port != beyond && port != SESSION_PORTS)) return;
-    port = port == beyond ? SESSION_PORTS : beyond;
-    at[0] = (uint8_t)(port >> 8);
-    at[1] = (uint8_t)port;
+    uint16_t port = number_at(at);
+    if (beyond != 0 && (port == beyond || port == SESSION_PORTS)) put_number(at, port == beyond ? SESSION_PORTS : beyond);
 }
 
 /* The latest numbers under which something was asked. */
@@ -40,7 +35,7 @@ enum { NUMBERS = 256, FEW = 16 };
 static uint16_t asked[NUMBERS];
 static size_t asked_count;
 
-static uint16_t number_in(const uint8_t *message) { return (uint16_t)(message[SEQUENCE_AT] << 8 | message[SEQUENCE_AT + 1]); }
+static uint16_t number_in(const uint8_t *message) { return number_at(message + SEQUENCE_AT); }
 
 static bool was_asked(uint16_t number) {
     for (size_t i = 0; i < NUMBERS && i < asked_count; i++) {

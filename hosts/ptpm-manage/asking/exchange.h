@@ -1,6 +1,5 @@
 /* A request is begun and goes out, and its answer comes in. And a GET by nobody, that is by no manager. */
-#ifndef EXCHANGE_H
-#define EXCHANGE_H
+#pragma once
 
 #include "answer.h"
 #include "task.h"
@@ -8,8 +7,8 @@
 #include <stdbool.h>
 #include <stdint.h>
 
-/* The last port that a session of the library names. And the portNumber of every port (IEEE 1588-2019, 15.4.1). */
-enum { SESSION_PORTS = 255, EVERY_PORT = 65535 };
+/* The last port that a session of the library names. */
+enum { SESSION_PORTS = 255 };
 
 /* Whether a port is above those. No clock of this project has it. So nothing that is asked of it is kept in a file. */
 bool is_beyond_session(uint16_t port);
@@ -58,5 +57,3 @@ bool read_by_nobody(const struct task *task, uint16_t id, uint8_t attempts, stru
 
 /* Why the latest read had no way, after a colon and a space; empty if it had one. The text is there until the next call. */
 const char *why_unread(void);
-
-#endif

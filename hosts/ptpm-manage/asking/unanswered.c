@@ -9,7 +9,6 @@
 #include "stopping.h"
 #include "transport.h"
 #include "words.h"
-#include <stdbool.h>
 #include <string.h>
 
 /* How often nobody asks. */
@@ -31,9 +30,8 @@ static bool say_value(const struct task *task) {
 /* Why a clock that answers reads may drop what this manager asks. The path is that of the session's file. */
 static void say_reason(const struct task *task, enum unanswered what, uint16_t number, const char *path) {
     static const char unsaved[] = ", or the clock can't save its state, for example since its disk is full, or its device has not agreed yet";
-    char manager[IDENTITY_TEXT];
+    const char *manager = identity_text(task->settings.clock);
     unsigned port = task->settings.port;
-    write_identity(manager, task->settings.clock);
     switch (what) {
     case REQUEST:
         complain("it dropped the request, since a copy of manager %s/%u asks too, or each answer was lost%s", manager, port, unsaved);
@@ -158,11 +156,9 @@ static bool is_of_form(uint32_t refusal) {
 
 bool tell_unreadable(uint32_t refusal, const uint8_t source[10], const uint8_t *datagram, size_t size) {
     static bool is_told;
-    char clock[IDENTITY_TEXT];
     if (!is_of_form(refusal) || size < LEAST_MESSAGE || memcmp(datagram + TARGET_AT, source, PORT_IDENTITY) != 0) return false;
     if (is_told) return true;
     is_told = true;
-    write_identity(clock, datagram + SOURCE_AT);
-    complain("malformed reply from %s ignored: %s", clock, answer_name(refusal));
+    complain("malformed reply from %s ignored: %s", identity_text(datagram + SOURCE_AT), answer_name(refusal));
     return true;
 }

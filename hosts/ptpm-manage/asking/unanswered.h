@@ -1,6 +1,5 @@
 /* What can be said if no answer came, or if one is not taken since the library can't read it. */
-#ifndef UNANSWERED_H
-#define UNANSWERED_H
+#pragma once
 
 #include "task.h"
 #include <stdbool.h>
@@ -25,5 +24,3 @@ void say_silence(const struct task *task, enum unanswered what, uint16_t number,
 
 /* Whether an answer to this sourcePortIdentity can't be read, and the library does not take the datagram for that. It is said once. */
 bool tell_unreadable(uint32_t refusal, const uint8_t source[10], const uint8_t *datagram, size_t size);
-
-#endif

@@ -1,12 +1,10 @@
 #include "collect.h"
 #include "heard.h"
-#include "lines.h"
 #include "message_places.h"
 #include "monotonic.h"
 #include "names.h"
 #include "notices.h"
 #include "random.h"
-#include "seen.h"
 #include "stopping.h"
 #include "transport.h"
 #include "unanswered.h"
@@ -87,8 +85,6 @@ static bool is_of_port(unsigned id) {
     return false;
 }
 
-static unsigned two_octets(const uint8_t *at) { return (unsigned)at[0] << 8 | at[1]; }
-
 /* Starts a request; whether the library would ask it. If not, that is said. */
 static bool start_request(const struct task *task, struct domain domain, unsigned id, bool is_census) {
     struct request *request = &requests[request_count];
@@ -152,20 +148,20 @@ static void take_present(const struct request *request, const uint8_t *message) 
 
 /* Records an answer that the library accepted, and prints it unless it is a copy. Octets may follow the message. */
 static void take_answer(const struct request *request, const uint8_t *message) {
-    size_t size = two_octets(message + LENGTH_AT);
+    size_t size = number_at(message + LENGTH_AT);
     struct seen_answer answer = {
         .clock = message + SOURCE_AT, .domain = request->domain, .id = request->id, .is_of_port = is_of_port(request->id),
-        .port = (uint16_t)two_octets(message + SOURCE_PORT_AT),
-        .is_refusal = two_octets(message + TLV_AT) == ERROR_TLV, .sum = sum_of_answer(message, size),
+        .port = number_at(message + SOURCE_PORT_AT),
+        .is_refusal = number_at(message + TLV_AT) == ERROR_TLV, .sum = sum_of_answer(message, size),
     };
     bool has_field = !answer.is_refusal && size >= FIELD_AT;
     uint16_t id = collected->ids[request->id];
     if (has_field && id == PTPM_ID_DEFAULT_DATA_SET && size == FIELD_AT + DEFAULT_SIZE) {
-        answer.port_count = (uint16_t)two_octets(message + PORT_COUNT_AT);
+        answer.port_count = number_at(message + PORT_COUNT_AT);
     }
     if (has_field && id == PTPM_ID_PORT_DATA_SET && size == FIELD_AT + PORT_SIZE) {
         bool is_own = memcmp(message + FIELD_AT, answer.clock, 8) == 0;
-        answer.port = is_own ? (uint16_t)two_octets(message + FIELD_PORT_AT) : 0;       /* 0 is not a port, and none is answered */
+        answer.port = is_own ? number_at(message + FIELD_PORT_AT) : 0;       /* 0 is not a port, and none is answered */
     }
     note_way();
     note_distance(message[STARTING_HOPS_AT], answer.port_count);
@@ -181,7 +177,7 @@ static void take_answer(const struct request *request, const uint8_t *message) {
 static struct request *asked_under(const uint8_t *datagram, size_t size) {
     if (size < LEAST_MESSAGE || (datagram[TYPE_AT] & LOWER_HALF) != MANAGEMENT_TYPE) return NULL;
     for (size_t i = 0; i < request_count; i++) {
-        bool is_number = requests[i].number == two_octets(datagram + SEQUENCE_AT);
+        bool is_number = requests[i].number == number_at(datagram + SEQUENCE_AT);
         if (is_number && requests[i].domain.sdo == domain_of(datagram).sdo) return &requests[i];
     }
     return NULL;
@@ -567,13 +563,12 @@ static bool write_lacking(char *names, size_t room, const struct seen_clock *clo
 }
 
 void tell_lacking(void) {
-    char identity[IDENTITY_TEXT], domain[DOMAIN_TEXT], names[MOST_COLLECTED * sizeof ", LOG_MIN_PDELAY_REQ_INTERVAL"];
+    char domain[DOMAIN_TEXT], names[MOST_COLLECTED * sizeof ", LOG_MIN_PDELAY_REQ_INTERVAL"];
     for (size_t place = 0; place < seen_count(); place++) {
         const struct seen_clock *clock = seen_clock(place);
         if (!write_lacking(names, sizeof names, clock)) continue;
-        write_identity(identity, clock->identity);
         write_domain(domain, clock->domain);
-        complain("no answer from %s in domain %s to a read of %s", identity, domain, names);
+        complain("no answer from %s in domain %s to a read of %s", identity_text(clock->identity), domain, names);
     }
 }
 

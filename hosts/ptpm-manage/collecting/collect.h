@@ -1,6 +1,5 @@
 /* Every clock of a site asked for several ids in one run, such as the six that `ptpm site` looks at. */
-#ifndef COLLECT_H
-#define COLLECT_H
+#pragma once
 
 #include "domains.h"
 #include "lines.h"
@@ -31,5 +30,3 @@ const struct sureness *sureness_of_collection(void);
 
 /* Carries out `collect`; the program's status. */
 int collect(const struct task *task);
-
-#endif

@@ -1,4 +1,3 @@
-#define _GNU_SOURCE
 #include "domains.h"
 #include "collect.h"
 #include "heard.h"
@@ -6,7 +5,6 @@
 #include "notices.h"
 #include "transport.h"
 #include "untaken.h"
-#include <stdio.h>
 #include <string.h>
 
 /* The standard's default, and that of SMPTE ST 2059-2. */

@@ -1,8 +1,7 @@
 /* A domain of a site: its domainNumber and its sdoId (IEEE 1588-2019, 7.1.1 and 7.1.4). The library asks and judges only in sdoId 0. So
    another one is written into what it sends, and taken out of what it judges. And the domains in which a site is asked: those that the
    command line names, or in which clocks are heard. */
-#ifndef DOMAINS_H
-#define DOMAINS_H
+#pragma once
 
 #include "message_places.h"
 #include "task.h"
@@ -63,5 +62,3 @@ bool next_domain(const struct domains *domains, size_t *place, struct domain *do
 
 /* The domains as a text, like that of `ptpm site`: `domain 5`, or `domain 0-7, 127, 4@0x100`. It is there until the next call. */
 const char *domains_text(const struct domains *domains);
-
-#endif

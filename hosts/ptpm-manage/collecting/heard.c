@@ -40,7 +40,7 @@ static uint64_t seed;                               /* which nobody else knows, 
 
 static unsigned type_of(const uint8_t *message) { return message[TYPE_AT] & LOWER_HALF; }
 
-static size_t length_of(const uint8_t *message) { return (size_t)message[LENGTH_AT] << 8 | message[LENGTH_AT + 1]; }
+static size_t length_of(const uint8_t *message) { return number_at(message + LENGTH_AT); }
 
 /* The place of a messageType among those that are kept; HEARD_TYPES if it is none of them. */
 static enum heard_type heard_type(const uint8_t *message) {
@@ -138,8 +138,7 @@ bool keep_heard(const uint8_t *datagram, size_t size) {
     kept->at = nanoseconds();
     kept->is_written = false;
     kept->size = length_of(datagram);
-    kept->message = realloc(kept->message, kept->size);
-    if (kept->message == NULL) give_up("what is heard");
+    kept->message = needed(realloc(kept->message, kept->size), "what is heard");
     memcpy(kept->message, datagram, kept->size);
     memcpy(kept->clock, datagram + SOURCE_AT, sizeof kept->clock);
     snprintf(kept->from, sizeof kept->from, "%s", sender_text());

@@ -1,8 +1,7 @@
 /* What clocks send by themselves, heard while a site is asked, or between two times. These are the latest Announce, Sync and Follow_Up of each
    port, and the latest Delay_Req of each clock. So a clock shows itself that answers no management message. Strangers may send without end. So
    each type has room for a number of messages, which no other type takes, and what comes after that is counted. */
-#ifndef HEARD_H
-#define HEARD_H
+#pragma once
 
 #include "domains.h"
 #include <stdbool.h>
@@ -30,5 +29,3 @@ void write_heard(FILE *to, bool is_of_all);
 /* The types, and how many messages of each found no room for the latest collection. */
 enum heard_type { ANNOUNCES, SYNCS, FOLLOW_UPS, DELAY_REQS, HEARD_TYPES };
 unsigned long unheard(enum heard_type type);
-
-#endif

@@ -1,10 +1,8 @@
-#define _GNU_SOURCE
 #include "lines.h"
 #include "monotonic.h"
 #include "transport.h"
 #include "words.h"
 #include <inttypes.h>
-#include <stdbool.h>
 #include <sys/timex.h>
 
 enum { SECOND = 1000000000 };
@@ -70,12 +68,8 @@ static void end_note(FILE *to) { fputs(is_synchronised() ? " clock=synchronised\
 
 void write_host_note(FILE *to) {
     uint8_t identity[8];
-    char text[IDENTITY_TEXT];
     fputs("#ptpm", to);
-    for (size_t i = 0; own_identity(i, identity); i++) {
-        write_identity(text, identity);
-        fprintf(to, "%s%s", i == 0 ? " own=" : ",", text);
-    }
+    for (size_t i = 0; own_identity(i, identity); i++) fprintf(to, "%s%s", i == 0 ? " own=" : ",", identity_text(identity));
     end_note(to);
 }
 

@@ -1,7 +1,6 @@
 /* The lines of a collection, which `ptpm site` reads: words NAME=VALUE, and then a message in hexadecimal. The word at= has
    when it came or was sent, in seconds since 1970, from= its sender, and on= the interface. */
-#ifndef LINES_H
-#define LINES_H
+#pragma once
 
 #include <stdbool.h>
 #include <stddef.h>
@@ -40,5 +39,3 @@ struct sureness { size_t clocks, rounds, late; unsigned long left_out; bool is_s
 
 /* The same as a line that begins with #ptpm. */
 void write_sureness_note(FILE *to, const struct sureness *known);
-
-#endif

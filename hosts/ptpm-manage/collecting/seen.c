@@ -1,6 +1,5 @@
 #include "seen.h"
 #include "random.h"
-#include <stdbool.h>
 #include <string.h>
 
 /* Half of the places stay free. */

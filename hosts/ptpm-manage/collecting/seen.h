@@ -1,8 +1,7 @@
 /* Which clocks answered in a collection, and what each of them still lacks. Strangers may answer without end. So there is room
    for a number of clocks and answers, and what comes after that is counted. A clock that answered in two collections has room in the
    next one, even if others come before it. */
-#ifndef SEEN_H
-#define SEEN_H
+#pragma once
 
 #include "domains.h"
 #include <stdbool.h>
@@ -95,5 +94,3 @@ double lost_share(void);
 /* How many answers found no room, here or where they are kept otherwise. */
 unsigned long unseen_answers(void);
 void add_unseen(unsigned long count);
-
-#endif

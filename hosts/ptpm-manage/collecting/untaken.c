@@ -3,7 +3,6 @@
 #include "lines.h"
 #include "message_places.h"
 #include "monotonic.h"
-#include "names.h"
 #include "notices.h"
 #include "seen.h"
 #include "transport.h"
@@ -62,12 +61,11 @@ void note_untaken(enum untaken why, const uint8_t *datagram, size_t size) {
 
 void tell_late(const struct task *task) {
     static bool is_told;
-    char text[IDENTITY_TEXT];
     for (size_t i = 0; i < count && !is_told; i++) {
         if (all[i].why != LATE || is_seen_by_now(all[i].message)) continue;
         is_told = true;
-        write_identity(text, all[i].message + SOURCE_AT);
-        complain("an answer from %s came too late, and is ignored: --timeout waits longer for each answer, %ld ms here", text, task->timeout);
+        complain("an answer from %s came too late, and is ignored: --timeout waits longer for each answer, %ld ms here",
+                 identity_text(all[i].message + SOURCE_AT), task->timeout);
     }
 }
 

@@ -1,6 +1,5 @@
 /* Answers that came in, and were not taken. Strangers may send without end, so there is room for a number of them. */
-#ifndef UNTAKEN_H
-#define UNTAKEN_H
+#pragma once
 
 #include "task.h"
 #include <stddef.h>
@@ -22,5 +21,3 @@ void tell_late(const struct task *task);
 
 /* Writes a line of each whose clock is not seen, and forgets them. Those that found no room are among the unseen answers then. */
 void write_untaken(FILE *to);
-
-#endif

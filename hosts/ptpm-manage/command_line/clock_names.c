@@ -1,4 +1,3 @@
-#define _GNU_SOURCE
 #include "clock_names.h"
 #include "notices.h"
 #include "program.h"
@@ -19,9 +18,8 @@ static size_t count;
 
 /* The place of a clock among the names; `count` if it has none yet. */
 static size_t place_of(const uint8_t identity[8]) {
-    char text[IDENTITY_TEXT];
+    const char *text = identity_text(identity);
     size_t place = 0;
-    write_identity(text, identity);
     while (place < count && memcmp(names[place], text, IDENTITY_TEXT - 1) != 0) place++;
     return place;
 }
@@ -35,9 +33,8 @@ static bool is_utf8(const char *name) {
 
 /* Names the clock at this place, which is `count` if it is a new one. */
 static void put_name(size_t place, const uint8_t identity[8], const char *name) {
-    char text[IDENTITY_TEXT], *named;
-    write_identity(text, identity);
-    if (asprintf(&named, "%s=%s", text, name) < 0) give_up("the names");
+    char *named;
+    if (asprintf(&named, "%s=%s", identity_text(identity), name) < 0) give_up("the names");
     free(names[place]);
     names[place] = named;
     if (place == count) count++;

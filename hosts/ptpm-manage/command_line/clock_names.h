@@ -1,7 +1,6 @@
 /* The names that a file gives to clocks: a line for each, with the clockIdentity and, after a space, the name. An empty line and one
    that begins with # count for nothing. */
-#ifndef CLOCK_NAMES_H
-#define CLOCK_NAMES_H
+#pragma once
 
 #include <stdbool.h>
 #include <stddef.h>
@@ -18,5 +17,3 @@ const char *clock_name(size_t place);
 
 /* The clock of a name; whether there is one. Ends the program with status 2 if several clocks have the name. */
 bool find_named_clock(const char *name, uint8_t identity[8]);
-
-#endif

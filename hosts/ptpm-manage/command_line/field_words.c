@@ -1,9 +1,7 @@
-#define _GNU_SOURCE
 #include "field_words.h"
 #include "field_text.h"
 #include "notices.h"
 #include "program.h"
-#include <stdbool.h>
 #include <stdio.h>
 #include <stdlib.h>
 #include <string.h>
@@ -106,8 +104,7 @@ static _Noreturn void refuse_words(const struct typed *typed, enum ptpm_parsed w
 static size_t join(char **joined, const char *const *words, size_t count) {
     size_t size = 0;
     for (size_t i = 0; i < count; i++) size += strlen(words[i]) + 1;
-    char *to = *joined = malloc(size + 1);
-    if (to == NULL) give_up("the value of a set");
+    char *to = *joined = needed(malloc(size + 1), "the value of a set");
     for (size_t i = 0; i < count; i++) to = stpcpy(to, words[i]) + 1;
     return size;
 }

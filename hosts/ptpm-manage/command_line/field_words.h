@@ -1,6 +1,5 @@
 /* The dataField of a SET (IEEE 1588-2019, 15.5.3) from the words of a command line. */
-#ifndef FIELD_WORDS_H
-#define FIELD_WORDS_H
+#pragma once
 
 #include "ptpm.h"
 #include <stdbool.h>
@@ -37,5 +36,3 @@ size_t read_field(uint16_t id, const char *named, const char *const *words, size
 
 /* The same if the last word is a text as it is, in which a backslash stands for itself. */
 size_t read_text_field(uint16_t id, const char *named, const char *const *words, size_t count, uint8_t octets[PTPM_MOST_READ]);
-
-#endif

@@ -1,4 +1,3 @@
-#define _GNU_SOURCE
 #include "task.h"
 #include "apply_report.h"
 #include "clock_names.h"
@@ -8,26 +7,23 @@
 #include "names.h"
 #include "notices.h"
 #include "program.h"
-#include "ptpm.h"
 #include "words.h"
 #include <errno.h>
 #include <getopt.h>
 #include <inttypes.h>
 #include <net/if.h>
-#include <stdbool.h>
 #include <stdio.h>
 #include <stdlib.h>
 #include <string.h>
 #include <strings.h>
 #include <unistd.h>
 
-/* Options without a letter of their own, and a word that is none: getopt's for a string that begins with a hyphen. */
-enum { WORD = 1, UDP = 256, TEXT, VERSION, GIVE_UP, JSON, ANY_SOURCE, TTL_SECURITY, NAMES, EXPECT, PROBE, STATUS_IF_CHANGES, SKIP_UNREACHED, LIMIT, CHECK, KEEP,
-    KEEP_GOING, DRY_RUN };
-
-/* The same, only for `collect` and `status`. */
-enum site_option {
-    LISTEN = 512, SDO, DRAW, HTML, OPENMETRICS, NAGIOS, OUTPUT, LINES, MAX_OFFSET, MAX_DELAY, TAI_UTC, SETTLE, PROFILE, IGNORE, ALL, ONCE, WATCH, FOR, FORGET
+/* Options without a letter of their own, and a word that is none: getopt's for a string that begins with a hyphen. Those from LISTEN on are
+   only for `collect` and `status`. */
+enum {
+    WORD = 1, UDP = 256, TEXT, VERSION, GIVE_UP, JSON, ANY_SOURCE, TTL_SECURITY, NAMES, EXPECT, PROBE, STATUS_IF_CHANGES, SKIP_UNREACHED, LIMIT,
+    CHECK, KEEP, KEEP_GOING, DRY_RUN, LISTEN, SDO, DRAW, HTML, OPENMETRICS, NAGIOS, OUTPUT, LINES, MAX_OFFSET, MAX_DELAY, TAI_UTC, SETTLE, PROFILE,
+    IGNORE, ALL, ONCE, WATCH, FOR, FORGET
 };
 
 enum { MOST_WORDS = 2 + MOST_FIELD_WORDS, MOST_FIELD = 1418, NOT_NAMED = -1 };
@@ -38,32 +34,25 @@ enum { HOPS = 1, ATTEMPTS = 30, SITE_ATTEMPTS = 10, LISTENED = 4000, PLAN_DIGITS
 enum { SECOND = 1000, DAY = 86400, YEAR = 366 * DAY };
 
 static const struct option options[] = {
-    { "interface", required_argument, NULL, 'i' }, { "udp", required_argument, NULL, UDP }, { "ipv6", no_argument, NULL, '6' },
-    { "ethernet", no_argument, NULL, '2' }, { "any-source", no_argument, NULL, ANY_SOURCE },
-    { "ttl-security", no_argument, NULL, TTL_SECURITY },
-    { "unix", required_argument, NULL, 'u' }, { "target", required_argument, NULL, 'T' },
-    { "port", required_argument, NULL, 'p' }, { "domain", required_argument, NULL, 'd' }, { "sdo", required_argument, NULL, SDO },
-    { "hops", required_argument, NULL, 'b' },
-    { "manager", required_argument, NULL, 'm' }, { "numbers", required_argument, NULL, 'k' },
-    { "wait", required_argument, NULL, 'w' }, { "attempts", required_argument, NULL, 'a' },
-    { "timeout", required_argument, NULL, 't' }, { "times", required_argument, NULL, 'n' },
-    { "give-up", no_argument, NULL, GIVE_UP }, { "listen", required_argument, NULL, LISTEN }, { "json", no_argument, NULL, JSON },
-    { "names", required_argument, NULL, NAMES }, { "expect", required_argument, NULL, EXPECT }, { "probe", no_argument, NULL, PROBE },
-    { "status-if-changes", no_argument, NULL, STATUS_IF_CHANGES }, { "skip-unreached", no_argument, NULL, SKIP_UNREACHED },
-    { "limit", required_argument, NULL, LIMIT }, { "check", required_argument, NULL, CHECK },
-    { "keep", required_argument, NULL, KEEP }, { "keep-going", no_argument, NULL, KEEP_GOING }, { "dry-run", no_argument, NULL, DRY_RUN },
-    { "draw", no_argument, NULL, DRAW }, { "html", no_argument, NULL, HTML },
-    { "openmetrics", no_argument, NULL, OPENMETRICS }, { "nagios", no_argument, NULL, NAGIOS },
-    { "output", required_argument, NULL, OUTPUT }, { "lines", required_argument, NULL, LINES },
-    { "max-offset", required_argument, NULL, MAX_OFFSET }, { "max-delay", required_argument, NULL, MAX_DELAY },
-    { "tai-utc", required_argument, NULL, TAI_UTC }, { "settle", required_argument, NULL, SETTLE },
-    { "profile", required_argument, NULL, PROFILE }, { "ignore", required_argument, NULL, IGNORE }, { "all", no_argument, NULL, ALL },
-    { "once", no_argument, NULL, ONCE }, { "watch", required_argument, NULL, WATCH },
-    { "for", required_argument, NULL, FOR }, { "forget", required_argument, NULL, FORGET },
-    { "hexadecimal", no_argument, NULL, 'x' }, { "text", no_argument, NULL, TEXT }, { "quiet", no_argument, NULL, 'q' },
-    { "help", no_argument, NULL, 'h' }, { "version", no_argument, NULL, VERSION },
+    TAKES("interface", 'i'), TAKES("udp", UDP), ALONE("ipv6", '6'), ALONE("ethernet", '2'), ALONE("any-source", ANY_SOURCE),
+    ALONE("ttl-security", TTL_SECURITY), TAKES("unix", 'u'), TAKES("target", 'T'), TAKES("port", 'p'), TAKES("domain", 'd'),
+    TAKES("sdo", SDO), TAKES("hops", 'b'), TAKES("manager", 'm'), TAKES("numbers", 'k'), TAKES("wait", 'w'), TAKES("attempts", 'a'),
+    TAKES("timeout", 't'), TAKES("times", 'n'), ALONE("give-up", GIVE_UP), TAKES("listen", LISTEN), ALONE("json", JSON),
+    TAKES("names", NAMES), TAKES("expect", EXPECT), ALONE("probe", PROBE), ALONE("status-if-changes", STATUS_IF_CHANGES),
+    ALONE("skip-unreached", SKIP_UNREACHED), TAKES("limit", LIMIT), TAKES("check", CHECK), TAKES("keep", KEEP),
+    ALONE("keep-going", KEEP_GOING), ALONE("dry-run", DRY_RUN), ALONE("draw", DRAW), ALONE("html", HTML), ALONE("openmetrics", OPENMETRICS),
+    ALONE("nagios", NAGIOS), TAKES("output", OUTPUT), TAKES("lines", LINES), TAKES("max-offset", MAX_OFFSET), TAKES("max-delay", MAX_DELAY),
+    TAKES("tai-utc", TAI_UTC), TAKES("settle", SETTLE), TAKES("profile", PROFILE), TAKES("ignore", IGNORE), ALONE("all", ALL),
+    ALONE("once", ONCE), TAKES("watch", WATCH), TAKES("for", FOR), TAKES("forget", FORGET), ALONE("hexadecimal", 'x'), ALONE("text", TEXT),
+    ALONE("quiet", 'q'), ALONE("help", 'h'), ALONE("version", VERSION),
     { NULL, 0, NULL, 0 },
 };
+
+static const char *name_of(int option) {
+    const struct option *one = options;
+    while (one->val != option) one++;
+    return one->name;
+}
 
 /* The words of the command line, and what options say that a later option may change. */
 struct words {
@@ -73,27 +62,23 @@ struct words {
     long port, target_port, hops, attempts;
 };
 
-static long number(const char *option, const char *text, long least, long most) {
+static long number(int option, const char *text, long least, long most) {
     long found = decimal(text, most);
-    if (found < least) refuse("--%s %s: it takes a number from %ld to %ld", option, text, least, most);
+    if (found < least) refuse("--%s %s: it takes a number from %ld to %ld", name_of(option), text, least, most);
     return found;
 }
 
-static int64_t seconds(const char *option, const char *text, long least, long most) {
-    long found = decimal(text, most);
-    if (found < least) refuse("%s %s: it takes a number from %ld to %ld", option, text, least, most);
-    return (int64_t)found * SECOND;
-}
+static int64_t seconds(int option, const char *text, long least, long most) { return (int64_t)number(option, text, least, most) * SECOND; }
 
 /* A whole number in the range that `ptpm site` takes, which gets it as it is written. A + may come before it, or a - if the range has
    numbers below 0. */
-static const char *for_site(const char *option, const char *text, const char *what, long least, uint64_t most) {
+static const char *for_site(int option, const char *text, const char *what, long least, uint64_t most) {
     const char *digits = text + (*text == '+' || (*text == '-' && least < 0));
     bool is_number = *digits != '\0' && digits[strspn(digits, "0123456789")] == '\0';
     errno = 0;
     uint64_t amount = strtoull(digits, NULL, 10), limit = *text == '-' ? (uint64_t)-least : most;
     if (is_number && errno == 0 && amount <= limit) return text;
-    refuse("%s %s: it takes %s from %ld to %" PRIu64, option, text, what, least, most);
+    refuse("--%s %s: it takes %s from %ld to %" PRIu64, name_of(option), text, what, least, most);
 }
 
 /* An sdoId as it is written with 0x before it; -1 if it is none. */
@@ -128,23 +113,17 @@ static void add_ignored(struct site_options *site, const char *names) {
 
 /* Takes an option of `collect` and `status`; whether it is one of these. */
 static bool take_site_option(struct site_options *site, int option, const char *value) {
-    static const char *const names[] = {
-        "--listen", "--sdo", "--draw", "--html", "--openmetrics", "--nagios", "--output", "--lines", "--max-offset", "--max-delay",
-        "--tai-utc", "--settle", "--profile", "--ignore", "--all", "--once", "--watch", "--for", "--forget",
-    };
     static const char or_none[] = "none, or a number of nanoseconds";
-    if (option < LISTEN || option > FORGET) return false;
-    const char *name = names[option - LISTEN];
-    switch ((enum site_option)option) {
-    case LISTEN: site->listen = (long)seconds(name, value, 0, DAY); break;
+    switch (option) {
+    case LISTEN: site->listen = (long)seconds(option, value, 0, DAY); break;
     case SDO: read_sdo(site, value); break;
-    case WATCH: site->watch = (long)seconds(name, value, 1, DAY); break;
-    case FOR: site->duration = (long)seconds(name, value, 1, DAY); break;
-    case FORGET: site->forget = seconds(name, value, 1, YEAR); break;
-    case MAX_OFFSET: site->max_offset = strcmp(value, "none") == 0 ? value : for_site(name, value, or_none, 0, UINT64_MAX); break;
-    case MAX_DELAY: site->max_delay = for_site(name, value, "a number of nanoseconds", 0, UINT64_MAX); break;
-    case TAI_UTC: site->tai_utc = for_site(name, value, "a number of seconds", INT16_MIN, INT16_MAX); break;
-    case SETTLE: site->settle = for_site(name, value, "a number of seconds", 0, UINT32_MAX); break;
+    case WATCH: site->watch = (long)seconds(option, value, 1, DAY); break;
+    case FOR: site->duration = (long)seconds(option, value, 1, DAY); break;
+    case FORGET: site->forget = seconds(option, value, 1, YEAR); break;
+    case MAX_OFFSET: site->max_offset = strcmp(value, "none") == 0 ? value : for_site(option, value, or_none, 0, UINT64_MAX); break;
+    case MAX_DELAY: site->max_delay = for_site(option, value, "a number of nanoseconds", 0, UINT64_MAX); break;
+    case TAI_UTC: site->tai_utc = for_site(option, value, "a number of seconds", INT16_MIN, INT16_MAX); break;
+    case SETTLE: site->settle = for_site(option, value, "a number of seconds", 0, UINT32_MAX); break;
     case PROFILE: site->profile = value; break;
     case IGNORE: add_ignored(site, value); break;
     case ALL: site->is_all = true; break;
@@ -155,8 +134,9 @@ static bool take_site_option(struct site_options *site, int option, const char *
     case OUTPUT: site->output = value; break;
     case LINES: site->lines = value; break;
     case ONCE: site->is_once = true; break;
+    default: return false;
     }
-    if (option > SDO) site->given = name;
+    if (option != LISTEN && option != SDO) site->given = name_of(option);
     return true;
 }
 
@@ -176,7 +156,7 @@ static void read_domains(struct site_options *site, const char *text) {
 
 /* Refuses options that exclude each other, or that what is asked does not take. */
 static void judge_site_options(const struct site_options *site) {
-    if (site->given != NULL && !site->is_shown) refuse("%s: only status takes it", site->given);
+    if (site->given != NULL && !site->is_shown) refuse("--%s: only status takes it", site->given);
     if (site->is_sdo_named && !site->is_collected) refuse("--sdo: only collect and status take it");
     if (site->listen >= 0 && !site->is_collected) refuse("--listen: only collect and status take it");
     if (site->duration > 0 && (site->is_once || site->watch > 0)) refuse("--for excludes --once and --watch");
@@ -207,7 +187,7 @@ static void read_target(struct task *task, struct words *words, const char *text
 
 static void read_port(struct words *words, const char *text) {
     words->is_every_port = strcasecmp(text, "all") == 0;
-    words->port = words->is_every_port ? NOT_NAMED : number("port", text, 0, 65535);
+    words->port = words->is_every_port ? NOT_NAMED : number('p', text, 0, 65535);
 }
 
 static void read_manager(struct task *task, const char *text) {
@@ -225,8 +205,8 @@ static void take_domain(struct words *words, const char *text) {
 }
 
 /* Nor would the earlier one of these count. */
-static void take_once(const char **at, const char *option, const char *value) {
-    if (*at != NULL) refuse("%s %s: %s %s is there already", option, value, option, *at);
+static void take_once(const char **at, int option, const char *value) {
+    if (*at != NULL) refuse("--%s %s: --%s %s is there already", name_of(option), value, name_of(option), *at);
     *at = value;
 }
 
@@ -257,8 +237,7 @@ static void judge_expected(struct task *task) {
 static void read_limits(struct plan_options *plan, const char *text) {
     for (const char *at = text, *end; at != NULL; at = *end == '\0' ? NULL : end + 1) {
         end = strchrnul(at, ',');
-        plan->limits = reallocarray(plan->limits, plan->limit_count + 1, sizeof *plan->limits);
-        if (plan->limits == NULL) give_up("the options");
+        plan->limits = needed(reallocarray(plan->limits, plan->limit_count + 1, sizeof *plan->limits), "the options");
         if (!ptpm_identity_parse(at, (size_t)(end - at), plan->limits[plan->limit_count++])) {
             refuse("--limit %s: it takes identities such as aabbccfffeddee01, with commas between them", text);
         }
@@ -267,7 +246,7 @@ static void read_limits(struct plan_options *plan, const char *text) {
 
 /* A later run, which may be in another folder, has the path too. */
 static void read_check(struct plan_options *plan, const char *path) {
-    take_once(&plan->check, "--check", path);
+    take_once(&plan->check, CHECK, path);
     plan->check = realpath(path, NULL);
     if (plan->check == NULL || access(plan->check, X_OK)) refuse("--check %s: %s", path, strerror(errno));
     if (strchr(plan->check, '\n') != NULL) refuse("--check: no line feed may be in the path");
@@ -276,35 +255,35 @@ static void read_check(struct plan_options *plan, const char *path) {
 static void take_option(struct task *task, struct words *words, int option, const char *value) {
     switch (option) {
     case 'i': take_interface(task, value); break;
-    case UDP: take_once(&task->address, "--udp", value); break;
+    case UDP: take_once(&task->address, option, value); break;
     case '6': task->is_six = true; break;
     case '2': task->is_ethernet = true; break;
     case ANY_SOURCE: task->is_any_source = true; break;
     case TTL_SECURITY: task->is_near_alone = true; break;
-    case 'u': take_once(&task->path, "--unix", value); break;
-    case 'T': take_once(&words->target, "--target", value); break;
+    case 'u': take_once(&task->path, option, value); break;
+    case 'T': take_once(&words->target, option, value); break;
     case NAMES:
         words->has_names = true;
         read_clock_names(value);
         break;
-    case EXPECT: take_once(&task->plan.expected, "--expect", value); break;
+    case EXPECT: take_once(&task->plan.expected, option, value); break;
     case PROBE: task->plan.is_probed = true; break;
     case STATUS_IF_CHANGES: task->plan.tells_changes = true; break;
     case SKIP_UNREACHED: task->plan.skips_unreached = true; break;
     case LIMIT: read_limits(&task->plan, value); break;
     case CHECK: read_check(&task->plan, value); break;
-    case KEEP: task->plan.kept = number("keep", value, 0, 1000000); break;
+    case KEEP: task->plan.kept = number(option, value, 0, 1000000); break;
     case KEEP_GOING: task->plan.keeps_going = true; break;
     case DRY_RUN: task->plan.is_dry = true; break;
     case 'p': read_port(words, value); break;
     case 'd': take_domain(words, value); break;
-    case 'b': words->hops = number("hops", value, 0, 255); break;
+    case 'b': words->hops = number(option, value, 0, 255); break;
     case 'm': read_manager(task, value); break;
     case 'k': task->numbers = value; break;
-    case 'w': task->wait = number("wait", value, 0, 100000); break;
-    case 'a': words->attempts = number("attempts", value, 1, 255); break;
-    case 't': task->timeout = number("timeout", value, 1, 100000); break;
-    case 'n': task->times = number("times", value, 1, 1000000); break;
+    case 'w': task->wait = number(option, value, 0, 100000); break;
+    case 'a': words->attempts = number(option, value, 1, 255); break;
+    case 't': task->timeout = number(option, value, 1, 100000); break;
+    case 'n': task->times = number(option, value, 1, 1000000); break;
     case GIVE_UP: task->is_letting_go = true; break;
     case 'x': task->is_in_octets = true; break;
     case JSON: task->is_json = true; break;
@@ -533,7 +512,7 @@ static void read_reach(struct task *task, const struct words *words) {
     bool is_site = task->site.is_collected;
     struct ptpm_session_settings *settings = &task->settings;
     if (words->domain != NULL && is_site) read_domains(&task->site, words->domain);
-    else if (words->domain != NULL) settings->domain = (uint8_t)number("domain", words->domain, 0, 255);
+    else if (words->domain != NULL) settings->domain = (uint8_t)number('d', words->domain, 0, 255);
     bool is_far = is_site || task->plan.verb != NO_PLAN;
     task->site.is_as_far_as_named = words->hops >= 0;
     settings->hops = (uint8_t)(words->hops >= 0 ? words->hops : is_far ? SITE_HOPS : HOPS);

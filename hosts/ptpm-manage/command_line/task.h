@@ -1,6 +1,5 @@
 /* What a command line of ptpm-manage asks for. */
-#ifndef TASK_H
-#define TASK_H
+#pragma once
 
 #include "ptpm.h"
 #include <stdbool.h>
@@ -28,8 +27,6 @@ struct site_options {
     const char *max_offset, *max_delay, *tai_utc, *settle, *profile, *inventory;               /* as they are written, or NULL */
     char *ignored;                              /* the names of all --ignore, or NULL */
     bool is_all;                                /* the text has what follows from a finding too */
-    bool is_without_changes;                    /* what differs from the look before is not a finding */
-    bool is_of_one_address;                     /* who is not seen may be a clock that is not asked, and is not a finding */
     const char *given;                          /* an option only of `status` that was given, or NULL */
 };
 
@@ -89,5 +86,3 @@ _Noreturn void print_help(void);
 
 /* Prints the version, and ends the program. */
 _Noreturn void print_version(void);
-
-#endif

@@ -42,7 +42,7 @@ static void set_wake(struct driver *driver) { driver->wake = (int64_t)driver->ha
 
 /* Counts how often a number goes out. */
 static void count_attempt(struct driver *driver, const uint8_t *message) {
-    uint16_t number = (uint16_t)(message[SEQUENCE_AT] << 8 | message[SEQUENCE_AT + 1]);
+    uint16_t number = number_at(message + SEQUENCE_AT);
     driver->attempt = number == driver->number && driver->attempt > 0 ? driver->attempt + 1 : 1;
     driver->number = number;
     if (driver->attempt > 1) show_progress("no answer yet: attempt %d of %d", driver->attempt, driver->task->settings.attempts);

@@ -1,7 +1,6 @@
 /* An asker of the library is driven: what it hands out is sent, what comes in is handed in, and it is woken in time. What is to be noted
    and saved is its owner's. */
-#ifndef DRIVING_H
-#define DRIVING_H
+#pragma once
 
 #include "task.h"
 #include "transport.h"
@@ -39,5 +38,3 @@ bool say_saved(struct driver *driver);
 /* Begins a request, or sends the one that an earlier run left again. */
 void ask_request(struct driver *driver, uint64_t tag, const struct task *request);
 void settle_request(struct driver *driver, uint64_t tag, uint8_t domain);
-
-#endif

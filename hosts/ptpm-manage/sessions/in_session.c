@@ -1,5 +1,4 @@
 #include "in_session.h"
-#include "answer.h"
 #include "driving.h"
 #include "monotonic.h"
 #include "notices.h"
@@ -53,11 +52,10 @@ static int end_unanswered(struct run *run) {
 /* Says at the first run how a clock knows this manager, if nobody named it: once, also for several clocks. */
 static void tell_first_run(const struct run *run) {
     static bool is_told;
-    char identity[IDENTITY_TEXT];
     complain("%s is new: the session begins at number %u", run->session.file->path, run->driver.handed.number);
     if (is_told || run->task->has_manager || run->task->path != NULL) return;
     is_told = true;
-    write_identity(identity, run->task->settings.clock);
+    const char *identity = identity_text(run->task->settings.clock);
     complain("this manager is %s/%u, from the MAC of the interface: ptpm-clock accepts its changes with -m %s/%u", identity,
              run->task->settings.port, identity, run->task->settings.port);
 }
@@ -166,8 +164,7 @@ int ask_in_session(const struct task *task) {
 }
 
 struct run *take_run(const struct task *task, reporting *report) {
-    struct run *run = malloc(sizeof *run);
-    if (run == NULL) give_up("a session");
+    struct run *run = needed(malloc(sizeof *run), "a session");
     open_run(run, task, report);
     if (!run->session.has_file) run->driver.opened = milliseconds();
     return run;

@@ -1,8 +1,7 @@
 /* A task, carried out in the session that its file keeps. The asker of the library says what is noted, saved and sent, and in which order;
    here that is done. So a request is in the file before it is sent. An answer is reported before the file has the session without the
    request. A run may be killed, or its machine lose power. Its request was then answered and reported, or the next run settles it. */
-#ifndef IN_SESSION_H
-#define IN_SESSION_H
+#pragma once
 
 #include "answer.h"
 #include "task.h"
@@ -21,5 +20,3 @@ struct run *take_run(const struct task *task, reporting *report);
 
 /* Asks, and leaves the session; the program's status. */
 int end_run(struct run *run);
-
-#endif

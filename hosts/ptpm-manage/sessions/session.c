@@ -1,6 +1,6 @@
 #include "session.h"
-#include "answer.h"
 #include "exchange.h"
+#include "message_places.h"
 #include "names.h"
 #include "notices.h"
 #include "random.h"
@@ -16,10 +16,7 @@ enum { OWNER = 2 * IDENTITY_TEXT + 32 };
 enum { DRAWN = 26 };
 
 static void write_owner(char text[OWNER], const uint8_t manager[8], uint16_t port, const uint8_t target[8]) {
-    char own[IDENTITY_TEXT], clock[IDENTITY_TEXT];
-    write_identity(own, manager);
-    write_identity(clock, target);
-    snprintf(text, OWNER, "manager %s/%u with clock %s", own, port, clock);
+    snprintf(text, OWNER, "manager %s/%u with clock %s", identity_text(manager), port, identity_text(target));
 }
 
 /* The image is of another session than the settings'. */

@@ -1,7 +1,6 @@
 /* The session of a manager with a clock, in an asker of the library, which continues from one run of this program to the next. A file
    keeps its image. */
-#ifndef SESSION_H
-#define SESSION_H
+#pragma once
 
 #include "answer.h"
 #include "session_file.h"
@@ -51,5 +50,3 @@ void say_let_go(const struct earlier *earlier, const struct task *task);
 
 /* Ends the program, status 2: the library refuses to abandon that request. */
 _Noreturn void refuse_to_let_go(uint32_t refusal, const struct earlier *earlier, const struct task *task);
-
-#endif

@@ -1,4 +1,3 @@
-#define _GNU_SOURCE
 #include "session_file.h"
 #include "marks.h"
 #include "monotonic.h"
@@ -8,7 +7,6 @@
 #include "words.h"
 #include <errno.h>
 #include <limits.h>
-#include <stdbool.h>
 #include <stdio.h>
 #include <stdlib.h>
 #include <string.h>
@@ -187,11 +185,9 @@ static size_t write_folder(void) {
 
 /* Adds the name of the session's file to the path of its folder; how many octets there are then, or would be. */
 static size_t add_name(size_t size, const struct ptpm_session_settings *settings) {
-    char manager[IDENTITY_TEXT], clock[IDENTITY_TEXT];
     if (size >= sizeof usual_path) return size;
-    write_identity(manager, settings->clock);
-    write_identity(clock, settings->target);
-    return size + (size_t)snprintf(usual_path + size, sizeof usual_path - size, "/%s-%u.%s", manager, settings->port, clock);
+    return size + (size_t)snprintf(usual_path + size, sizeof usual_path - size, "/%s-%u.%s", identity_text(settings->clock), settings->port,
+                                   identity_text(settings->target));
 }
 
 _Noreturn static void refuse_long_path(void) {

@@ -1,6 +1,5 @@
 /* The files that keep sessions of a manager with clocks from one run of this program to the next, as octets. */
-#ifndef SESSION_FILE_H
-#define SESSION_FILE_H
+#pragma once
 
 #include "kept_file.h"
 #include "ptpm.h"
@@ -61,5 +60,3 @@ const char *usual_file(const struct ptpm_session_settings *settings);
 
 /* Ends the program with status 2 if an apply has marked that file: a session with another file would go ahead of its numbers. */
 void refuse_usual_mark(const struct ptpm_session_settings *settings);
-
-#endif

@@ -1,5 +1,5 @@
 #include "session_image.h"
-#include "exchange.h"
+#include "message_places.h"
 #include <string.h>
 
 /* The places of the members, from the mark at the head on. Numbers of two octets are big-endian. */
@@ -8,15 +8,13 @@ enum {
     ACTION = 53, ID = 54, PORT = 56, SIZE = 58, OCTETS = 60,
 };
 
-static uint16_t number_at(const uint8_t *octets, size_t place) { return (uint16_t)(octets[place] << 8 | octets[place + 1]); }
-
 static void read_request(struct session_image *image, const uint8_t *octets, size_t size) {
-    if (size < OCTETS || number_at(octets, SIZE) > size - OCTETS) return;
+    if (size < OCTETS || number_at(octets + SIZE) > size - OCTETS) return;
     image->is_under_way = true;
     image->action = octets[ACTION];
-    image->id = number_at(octets, ID);
-    image->port = number_at(octets, PORT) == EVERY_PORT ? 0 : number_at(octets, PORT);
-    image->size = number_at(octets, SIZE);
+    image->id = number_at(octets + ID);
+    image->port = number_at(octets + PORT) == EVERY_PORT ? 0 : number_at(octets + PORT);
+    image->size = number_at(octets + SIZE);
     image->octets = octets + OCTETS;
 }
 
@@ -25,10 +23,10 @@ struct session_image read_image(const uint8_t *octets, size_t size) {
     if (size <= IS_UNDER_WAY) return image;
     memcpy(image.manager, octets + MANAGER, sizeof image.manager);
     memcpy(image.target, octets + TARGET, sizeof image.target);
-    image.manager_port = number_at(octets, MANAGER_PORT);
+    image.manager_port = number_at(octets + MANAGER_PORT);
     image.ports = octets[PORTS];
-    image.first = number_at(octets, FIRST);
-    image.number = (uint16_t)(image.first + number_at(octets, LOW_ISSUED) - 1);
+    image.first = number_at(octets + FIRST);
+    image.number = (uint16_t)(image.first + number_at(octets + LOW_ISSUED) - 1);
     if (octets[IS_UNDER_WAY] == 1) read_request(&image, octets, size);
     return image;
 }

@@ -1,7 +1,6 @@
 /* What this program itself reads of a session's image, which the library made (ptpm_session_image). The library decides whether octets are
    one. */
-#ifndef SESSION_IMAGE_H
-#define SESSION_IMAGE_H
+#pragma once
 
 #include <stdbool.h>
 #include <stddef.h>
@@ -21,5 +20,3 @@ struct session_image {
 
 /* Reads octets at the places of an image. If there are too few for one, all members are 0. */
 struct session_image read_image(const uint8_t *octets, size_t size);
-
-#endif

@@ -1,4 +1,3 @@
-#define _GNU_SOURCE
 #include "monitor.h"
 #include "clock_names.h"
 #include "notices.h"
@@ -7,7 +6,6 @@
 #include "stopping.h"
 #include "transport.h"
 #include <errno.h>
-#include <poll.h>
 #include <stdio.h>
 #include <stdlib.h>
 #include <string.h>
@@ -15,7 +13,7 @@
 #include <unistd.h>
 
 /* The words of its command line, without those of names; and room for a number. */
-enum { MOST_ARGUMENTS = 40, NUMBER = 24, PART = 65536, TURN = 1000 };
+enum { MOST_ARGUMENTS = 40, NUMBER = 24 };
 
 /* The version of the lines between the two. */
 static const char greeting[] = "monitor 1";
@@ -23,8 +21,8 @@ static const char greeting[] = "monitor 1";
 static struct running monitor;
 
 /* What it wrote: from `first` on it is not read yet. */
-static char *text;
-static size_t room, size, first;
+static struct printed printed;
+static size_t first;
 
 static size_t add_option(char **arguments, size_t count, const char *name, const char *value) {
     if (value == NULL) return count;
@@ -89,8 +87,7 @@ static void judge_inventory(const char *inventory) {
 }
 
 void start_monitor(const struct task *task) {
-    char **arguments = calloc(MOST_ARGUMENTS + 2 * clock_name_count(), sizeof *arguments);
-    if (arguments == NULL) give_up("the names");
+    char **arguments = needed(calloc(MOST_ARGUMENTS + 2 * clock_name_count(), sizeof *arguments), "the names");
     judge_inventory(task->site.inventory);
     arguments[1] = (char *)"monitor";
     add_looking(arguments, add_judging(arguments, 2, task), task);
@@ -106,40 +103,28 @@ void start_monitor(const struct task *task) {
 
 /* Waits until it has written more; whether it has. */
 static bool read_more(void) {
-    memmove(text, text + first, size - first);
-    size -= first;
+    if (first > 0) memmove(printed.text, printed.text + first, printed.size - first);
+    printed.size -= first;
     first = 0;
-    if (room - size < PART) {
-        text = realloc(text, room + 2 * PART + room / 2);
-        if (text == NULL) give_up("what the program ptpm prints");
-        room += 2 * PART + room / 2;
-    }
-    while (!stopped) {
-        struct pollfd waits = { monitor.from, POLLIN, 0 };
-        if (wait_for(&waits, 1, TURN) <= 0) continue;
-        ssize_t count = read(monitor.from, text + size, PART);
-        if (count > 0) size += (size_t)count;
-        return count > 0;
-    }
-    return false;
+    return read_printed(monitor.from, &printed);
 }
 
 char *read_from_monitor(void) {
     char *end = NULL;
-    while (size == first || (end = memchr(text + first, '\n', size - first)) == NULL) {
+    while (printed.size == first || (end = memchr(printed.text + first, '\n', printed.size - first)) == NULL) {
         if (!read_more()) return NULL;
     }
-    char *line = text + first;
+    char *line = printed.text + first;
     *end = '\0';
-    first = (size_t)(end + 1 - text);
+    first = (size_t)(end + 1 - printed.text);
     return line;
 }
 
 const char *read_octets_from_monitor(size_t count) {
-    while (size - first < count) {
+    while (printed.size - first < count) {
         if (!read_more()) return NULL;
     }
-    const char *octets = text + first;
+    const char *octets = printed.text + first;
     first += count;
     return octets;
 }

@@ -1,7 +1,6 @@
 /* The process `ptpm monitor`, which decides when a site is looked at, judged and printed. It writes what is to be done, a line each, and reads
    what came of it (docs/architecture.md, "A poll loop, line by line"). */
-#ifndef MONITOR_H
-#define MONITOR_H
+#pragma once
 
 #include "task.h"
 #include <stdbool.h>
@@ -21,5 +20,3 @@ bool tell_monitor(const char *octets, size_t size);
 
 /* Waits for its end; its status, or 1 if it did not end normally, which is said. */
 int end_monitor(void);
-
-#endif

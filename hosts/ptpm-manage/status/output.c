@@ -1,7 +1,5 @@
-#define _GNU_SOURCE
 #include "output.h"
 #include "notices.h"
-#include "program.h"
 #include <errno.h>
 #include <fcntl.h>
 #include <limits.h>

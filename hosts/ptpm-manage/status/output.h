@@ -1,6 +1,5 @@
 /* A file that is replaced by what `status` prints, or by the lines of a look. */
-#ifndef OUTPUT_H
-#define OUTPUT_H
+#pragma once
 
 #include "kept_file.h"
 #include <stdbool.h>
@@ -16,5 +15,3 @@ void find_output_file(struct output_file *file, const char *option, const char *
 
 /* Replaces the file by one with this text; whether that was done, and otherwise why not is said. */
 bool write_output_file(struct output_file *file, const char *text, size_t size);
-
-#endif

@@ -1,4 +1,3 @@
-#define _GNU_SOURCE
 #include "status.h"
 #include "collect.h"
 #include "heard.h"
@@ -14,7 +13,6 @@
 #include "text.h"
 #include "transport.h"
 #include "words.h"
-#include <errno.h>
 #include <libgen.h>
 #include <limits.h>
 #include <malloc.h>
@@ -45,7 +43,7 @@ static bool may_write_beside(const char *path) {
 
 /* Writes what is known of a look beside its lines: when it ended, what was left out, the ways, and the clocks that answered. */
 static void write_known(FILE *to, int status, int64_t step) {
-    char time_text[TIME_TEXT], identity[IDENTITY_TEXT];
+    char time_text[TIME_TEXT];
     time_t now = time(NULL);
     struct tm parts;
     bool is_answered;
@@ -61,8 +59,7 @@ static void write_known(FILE *to, int status, int64_t step) {
     }
     for (size_t i = 0; i < seen_count(); i++) {
         const struct seen_clock *clock = seen_clock(i);
-        write_identity(identity, clock->identity);
-        fprintf(to, "clock %u %u %s\n", clock->domain.number, clock->domain.sdo, identity);
+        fprintf(to, "clock %u %u %s\n", clock->domain.number, clock->domain.sdo, identity_text(clock->identity));
     }
 }
 

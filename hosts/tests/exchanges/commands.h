@@ -1,6 +1,5 @@
 /* The commands of a page: a word, and what it does with the words after it. Each table ends with a null name. */
-#ifndef COMMANDS_H
-#define COMMANDS_H
+#pragma once
 
 #include "settings.h"
 #include <stddef.h>
@@ -41,5 +40,3 @@ bool wrote_alone(size_t size);
 
 /* What a call answers that writes octets, and the octets. */
 void say_written(uint32_t answer, const char *done, size_t size, void (*say_it)(const uint8_t *octets, size_t size));
-
-#endif

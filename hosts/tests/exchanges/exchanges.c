@@ -2,7 +2,6 @@
    form of a page is in tests/library/README.md. Prints each case that is otherwise, how often memory was refused, and `exchanges: N
    passed, M failed`, of commands and rows; its status is 1 if one failed. With -p it prints the pages as they are now, and compares
    nothing. */
-#define _GNU_SOURCE
 #include "../checking.h"
 #include "commands.h"
 #include "refusing.h"

@@ -1,6 +1,5 @@
 /* What becomes of a datagram at port 1 of a clock, by the octets at each of its places (IEEE 1588-2019, 13.3, 15.3 and 15.4). The order of the answers, and numbers, are this project's profile. The library is not asked. */
-#ifndef PLACES_H
-#define PLACES_H
+#pragma once
 
 #include "settings.h"
 #include "words.h"
@@ -18,5 +17,3 @@ uint32_t due_answer(const struct start *clock, const struct octets *taken, const
 /* Whether these messages are due. At port 2 that is a copy of what is not only for the clock and has a hop left. Then at port 1 it is
    the replies to what is answered. */
 bool are_due(const struct start *clock, const struct octets *datagram, uint32_t answer, const struct ptpm_sent *sent, size_t count);
-
-#endif

@@ -1,6 +1,5 @@
 /* A call that asks for memory is made with its first request refused, then with its second, and so on, until none is refused. */
-#ifndef REFUSING_H
-#define REFUSING_H
+#pragma once
 
 #include <stddef.h>
 #include <stdint.h>
@@ -12,5 +11,3 @@ uint32_t refusing(uint32_t (*call)(void *given), void *given, size_t (*state)(ui
 
 /* How many requests were refused so far. */
 unsigned refused_so_far(void);
-
-#endif

@@ -1,6 +1,5 @@
 /* The structs that a host fills, by the names of their members: `priority1=100`. A member with a has_ flag has it set too. */
-#ifndef SETTINGS_H
-#define SETTINGS_H
+#pragma once
 
 #include "ptpm.h"
 #include <stdbool.h>
@@ -44,5 +43,3 @@ void read_record(char **words, struct ptpm_journal_record *record);
 
 /* Takes `target=K` too; whether it is there. */
 bool read_survey(char **words, struct ptpm_survey_settings *settings, uint8_t target[8]);
-
-#endif

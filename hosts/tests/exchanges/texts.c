@@ -35,27 +35,30 @@ static void run_id_of(char *words) {
     say_id(ptpm_id_named((const char *)name.at, name.size));
 }
 
-static void run_id_name(char *words) {
+/* The name that a call gives the number of these words. */
+static void say_name_by(size_t name(uint16_t number, char *text, size_t room), char *words) {
     size_t octets = next_room(&words, PTPM_MOST_NAME);
-    uint16_t id = next_hex(&words);
+    uint16_t number = next_hex(&words);
     clear_room();
-    say_name(ptpm_id_name(id, (char *)room, octets));
+    say_name(name(number, (char *)room, octets));
+}
+
+static void run_id_name(char *words) { say_name_by(ptpm_id_name, words); }
+
+/* All ids that a call gives, in their order. */
+static void say_ids(uint32_t id_at(size_t place)) {
+    for (size_t place = 0; id_at(place) != PTPM_NO_ID; place++) say("%s%04x", place == 0 ? "" : " ", id_at(place));
+    say("\n");
 }
 
 /* `other-id NAME`, `other-id-name ID` and `other-ids`: the same for the ids that other clocks have. */
 static void run_other_id(char *words) { say_id(ptpm_other_id_named(words == NULL ? "" : words, words == NULL ? 0 : strlen(words))); }
 
-static void run_other_id_name(char *words) {
-    size_t octets = next_room(&words, PTPM_MOST_NAME);
-    uint16_t id = next_hex(&words);
-    clear_room();
-    say_name(ptpm_other_id_name(id, (char *)room, octets));
-}
+static void run_other_id_name(char *words) { say_name_by(ptpm_other_id_name, words); }
 
 static void run_other_ids(char *words) {
     (void)words;
-    for (size_t place = 0; ptpm_other_id_at(place) != PTPM_NO_ID; place++) say("%s%04x", place == 0 ? "" : " ", ptpm_other_id_at(place));
-    say("\n");
+    say_ids(ptpm_other_id_at);
 }
 
 static void run_answer_name(char *words) {
@@ -63,17 +66,11 @@ static void run_answer_name(char *words) {
     say_name(ptpm_answer_name((uint32_t)next_number(&words, 0), (char *)room, PTPM_MOST_NAME));
 }
 
-static void run_error_name(char *words) {
-    size_t octets = next_room(&words, PTPM_MOST_NAME);
-    uint16_t error = next_hex(&words);
-    clear_room();
-    say_name(ptpm_error_name(error, (char *)room, octets));
-}
+static void run_error_name(char *words) { say_name_by(ptpm_error_name, words); }
 
 static void run_ids(char *words) {
     (void)words;
-    for (size_t place = 0; ptpm_id_at(place) != PTPM_NO_ID; place++) say("%s%04x", place == 0 ? "" : " ", ptpm_id_at(place));
-    say("\n");
+    say_ids(ptpm_id_at);
 }
 
 /* What a person types: the rest of the command, or after the word octets these octets. */

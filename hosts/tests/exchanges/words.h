@@ -1,6 +1,5 @@
 /* The words of a command in a page, and what is said of it: numbers, octets with names, and messages. */
-#ifndef WORDS_H
-#define WORDS_H
+#pragma once
 
 #include <stdbool.h>
 #include <stddef.h>
@@ -57,5 +56,3 @@ void say_octets(const uint8_t *octets, size_t size);
 
 /* The octets of a message, parted as its fields are (IEEE 1588-2019, 13.3 and 15.4), with the names of clocks. */
 void say_message(const uint8_t *octets, size_t size);
-
-#endif
