@@ -7,7 +7,7 @@ use Rattle.ptpm_apply.proofs.rollout.Rollout.go_on_in_row.Goals as goal
 pub returns-then-self : goal.returns-then-self
 returns-then-self c =
     Ends endings.Changed None c.end.ensures
-    (refl, sym (ap (λ (o : RolloutValue). o.is_changed) c.self.view_is) ∙ c.if-self.true) c.requires.seen
+    (refl, sym (ap (λ (o : RolloutValue). o.is_changed) c.self.view_is) ∙ c.if-self.true, λ keeps. cc (c.requires.stops, keeps)) c.requires.seen
 
 pub returns-in-Some : goal.returns-in-Some
 returns-in-Some c =
