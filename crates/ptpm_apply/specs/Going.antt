@@ -64,6 +64,13 @@ FirstLetGo ms count None = (step : ℕ) → step < count → slice_get ms step �
 FirstLetGo ms count (Some step) = (step < count) × (slice_get ms step ≡ Some marks.LetGo)
     × ((earlier : ℕ) → earlier < step → slice_get ms earlier ≡ Some marks.LetGo → ⊥)
 
+-- A run that gives up, or only settles what an earlier one left, asks no step.
+abbrev pub asks_steps : Choice → Bool
+asks_steps choices.Stop = true
+asks_steps choices.KeepGoing = true
+asks_steps choices.GiveUp = false
+asks_steps choices.Settle = false
+
 -- Why a run ends a change of itself. Of the first step that was refused, or answered by another value, that is the end, unless it keeps
 -- going. Then another program's change is the end only once all steps are done.
 abbrev pub EndsBy : RolloutValue → Ending → Option ℕ → Type 0
@@ -72,7 +79,8 @@ EndsBy o endings.Refused None = ⊥
 EndsBy o endings.Refused (Some step) = (o.choice ≡ choices.Stop) × (slice_get o.journal.marks step ≡ Some marks.Refused)
 EndsBy o endings.Answered None = ⊥
 EndsBy o endings.Answered (Some step) = (o.choice ≡ choices.Stop) × (slice_get o.journal.marks step ≡ Some marks.Answered)
-EndsBy o endings.Changed step = (step ≡ None) × (o.is_changed ≡ true) × (o.choice ≡ choices.KeepGoing → AreDone o.journal)
+EndsBy o endings.Changed step = (step ≡ None) × (o.is_changed ≡ true) × (asks_steps o.choice ≡ true)
+    × (o.choice ≡ choices.KeepGoing → AreDone o.journal)
 EndsBy o endings.GivenUp step = (o.choice ≡ choices.GiveUp) × FirstLetGo o.journal.marks (length o.steps) step
 EndsBy o endings.RolledBack step = ⊥
 EndsBy o endings.Stopped step = ⊥
@@ -125,13 +133,6 @@ pub record IsFaultless (o : RolloutValue) : Type 0 where
 -- a run that stops at the first fault has none
 abbrev pub MayGoOn : RolloutValue → Type 0
 MayGoOn o = o.choice ≡ choices.Stop → IsFaultless o
-
--- A run that gives up, or only settles what an earlier one left, asks for no step.
-abbrev pub asks_steps : Choice → Bool
-asks_steps choices.Stop = true
-asks_steps choices.KeepGoing = true
-asks_steps choices.GiveUp = false
-asks_steps choices.Settle = false
 
 -- First each lane is looked at, in order; then comes the first of the next steps, and after the last one its members are read. A run
 -- that only settles passes over each lane without a step that is begun or has an answer.
