@@ -28,6 +28,7 @@ u32 portable_ptpm_clock_decide(address a0, address a1, address a2, u64 a3, addre
 void portable_ptpm_clock_defaults(address a0);
 u64 portable_ptpm_clock_free(address a0);
 u32 portable_ptpm_clock_handle(address a0, u16 a1, address a2, u64 a3, address a4, u64 a5, address a6);
+u32 portable_ptpm_clock_handle_shared(address a0, u16 a1, address a2, u64 a3, address a4, u64 a5, address a6);
 u32 portable_ptpm_clock_image(address a0, address a1, u64 a2, address a3);
 u32 portable_ptpm_clock_image_of(address a0, address a1, u64 a2, address a3, address a4);
 u64 portable_ptpm_clock_most_sent(address a0);
@@ -130,6 +131,8 @@ static void fill(void) {
 #define swap_ptpm_observed_port(at) ((void)0)
 #define swap_ptpm_manager_settings(at) ((void)0)
 #define swap_ptpm_sent(at) ((void)0)
+#define swap_ptpm_answer(at) ((void)0)
+#define swap_ptpm_shared(at) ((void)0)
 #define swap_ptpm_changed(at) ((void)0)
 #define swap_ptpm_taken(at) ((void)0)
 #define swap_ptpm_question(at) ((void)0)
@@ -179,6 +182,15 @@ static void swap_ptpm_manager_settings(struct ptpm_manager_settings *at) {
 static void swap_ptpm_sent(struct ptpm_sent *at) {
     at->port = (uint16_t)swap16((u16)at->port);
     at->size = (uint16_t)swap16((u16)at->size);
+}
+static void swap_ptpm_answer(struct ptpm_answer *at) {
+    at->port = (uint16_t)swap16((u16)at->port);
+    at->size = (uint16_t)swap16((u16)at->size);
+}
+static void swap_ptpm_shared(struct ptpm_shared *at) {
+    at->ports = (uint64_t)swap64((u64)at->ports);
+    at->size = (uint64_t)swap64((u64)at->size);
+    at->count = (uint64_t)swap64((u64)at->count);
 }
 static void swap_ptpm_changed(struct ptpm_changed *at) {
     at->clock = (uint32_t)swap32((u32)at->clock);
@@ -316,6 +328,16 @@ enum ptpm_handled ptpm_clock_handle(struct ptpm_clock *clock, uint16_t port, con
     enum ptpm_handled answer = (enum ptpm_handled)portable_ptpm_clock_handle(ADDRESS(clock), port, ADDRESS(datagram), size, ADDRESS(sent), room, ADDRESS(&count_out));
     *count = (size_t)load64(ADDRESS(&count_out));
     for (size_t i = 0; i < *count; i++) swap_ptpm_sent(&sent[i]);
+    return answer;
+}
+
+enum ptpm_handled ptpm_clock_handle_shared(struct ptpm_clock *clock, uint16_t port, uint8_t *datagram, size_t size, struct ptpm_answer *answers, size_t room, struct ptpm_shared *shared) {
+    fill();
+    swap_ptpm_answer(answers);
+    swap_ptpm_shared(shared);
+    enum ptpm_handled answer = (enum ptpm_handled)portable_ptpm_clock_handle_shared(ADDRESS(clock), port, ADDRESS(datagram), size, ADDRESS(answers), room, ADDRESS(shared));
+    swap_ptpm_answer(answers);
+    swap_ptpm_shared(shared);
     return answer;
 }
 

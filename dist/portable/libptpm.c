@@ -699,7 +699,7 @@ static const union { u8 octets[13]; u64 aligned; } octets_of_c338 = { { 80,79,82
 #define c339 (octets_of_c339.octets)
 static const union { u8 octets[4]; u64 aligned; } octets_of_c339 = { { 32,32,32,32 } };
 #define c340 (octets_of_c340.octets)
-static const union { u8 octets[216]; u64 aligned; } octets_of_c340 = { { 16,0,0,0,0,0,0,0,216,0,0,0,0,0,0,0,16,0,0,0,0,0,0,0,88,0,0,0,0,0,0,0,16,0,0,0,0,0,0,0,12,0,0,0,0,0,0,0,196,5,0,0,0,0,0,0,68,0,0,0,0,0,0,0,16,0,0,0,0,0,0,0,26,0,0,0,0,0,0,0,16,0,0,0,0,0,0,0,16,0,0,0,0,0,0,0,10,0,0,0,0,0,0,0,8,0,3,0,0,0,0,0,24,0,0,0,0,0,0,0,16,0,0,0,0,0,0,0,36,0,0,0,0,0,0,0,24,0,0,0,0,0,0,0,150,0,0,0,0,0,0,0,144,5,0,0,0,0,0,0,36,0,0,0,0,0,0,0,88,0,0,0,0,0,0,0,16,0,0,0,0,0,0,0,48,0,0,0,0,0,0,0,16,0,0,0,0,0,0,0,16,0,0,0,0,0,0,0,12,0,0,0,0,0,0,0 } };
+static const union { u8 octets[232]; u64 aligned; } octets_of_c340 = { { 16,0,0,0,0,0,0,0,216,0,0,0,0,0,0,0,16,0,0,0,0,0,0,0,88,0,0,0,0,0,0,0,16,0,0,0,0,0,0,0,12,0,0,0,0,0,0,0,196,5,0,0,0,0,0,0,188,0,0,0,0,0,0,0,24,0,0,0,0,0,0,0,68,0,0,0,0,0,0,0,16,0,0,0,0,0,0,0,26,0,0,0,0,0,0,0,16,0,0,0,0,0,0,0,16,0,0,0,0,0,0,0,10,0,0,0,0,0,0,0,8,0,3,0,0,0,0,0,24,0,0,0,0,0,0,0,16,0,0,0,0,0,0,0,36,0,0,0,0,0,0,0,24,0,0,0,0,0,0,0,150,0,0,0,0,0,0,0,144,5,0,0,0,0,0,0,36,0,0,0,0,0,0,0,88,0,0,0,0,0,0,0,16,0,0,0,0,0,0,0,48,0,0,0,0,0,0,0,16,0,0,0,0,0,0,0,16,0,0,0,0,0,0,0,12,0,0,0,0,0,0,0 } };
 #if IS_LITTLE_ENDIAN
 static const struct form_of_c341 { slot slot0; u8 octets8[8]; } octets_of_c341;
 #define c341 ((const u8 *)&octets_of_c341)
@@ -765,55 +765,57 @@ static const union { u8 octets[72]; u64 aligned; } octets_of_c356 = { { 255,0,0,
 #define c357 (octets_of_c357.octets)
 static const union { u8 octets[20]; u64 aligned; } octets_of_c357 = { { 0,0,0,0,1,0,0,0,2,0,0,0,3,0,0,0,3,0,0,0 } };
 #define c358 (octets_of_c358.octets)
-static const union { u8 octets[72]; u64 aligned; } octets_of_c358 = { { 13,0,0,0,0,0,0,0,0,0,0,0,0,0,0,0,0,0,0,0,0,0,0,0,16,0,0,0,0,0,0,0,10,0,0,0,0,0,0,0,12,0,0,0,0,0,0,0,11,0,0,0,0,0,0,0,11,0,0,0,0,0,0,0,13,0,0,0,0,0,0,0 } };
-#if IS_LITTLE_ENDIAN
-static const struct form_of_c359 { slot slot0; u8 octets8[16]; slot slot24; slot slot32; slot slot40; slot slot48; slot slot56; slot slot64; } octets_of_c359;
-#define c359 ((const u8 *)&octets_of_c359)
-#else
-static union form_of_c359 { u8 octets[72]; u64 aligned; } octets_of_c359;
+static const union { u8 octets[72]; u64 aligned; } octets_of_c358 = { { 0,0,0,0,0,0,0,0,0,0,0,0,0,0,0,0,0,0,0,0,0,0,0,0,0,0,0,0,0,0,0,0,1,0,0,0,0,0,0,0,1,0,0,0,0,0,0,0,0,0,0,0,0,0,0,0,1,0,0,0,0,0,0,0,1,0,0,0,0,0,0,0 } };
 #define c359 (octets_of_c359.octets)
-#endif
+static const union { u8 octets[72]; u64 aligned; } octets_of_c359 = { { 13,0,0,0,0,0,0,0,0,0,0,0,0,0,0,0,0,0,0,0,0,0,0,0,16,0,0,0,0,0,0,0,10,0,0,0,0,0,0,0,12,0,0,0,0,0,0,0,11,0,0,0,0,0,0,0,11,0,0,0,0,0,0,0,13,0,0,0,0,0,0,0 } };
 #if IS_LITTLE_ENDIAN
-static const struct form_of_c360 { slot slot0; slot slot8; slot slot16; slot slot24; slot slot32; } octets_of_c360;
+static const struct form_of_c360 { slot slot0; u8 octets8[16]; slot slot24; slot slot32; slot slot40; slot slot48; slot slot56; slot slot64; } octets_of_c360;
 #define c360 ((const u8 *)&octets_of_c360)
 #else
-static union form_of_c360 { u8 octets[40]; u64 aligned; } octets_of_c360;
+static union form_of_c360 { u8 octets[72]; u64 aligned; } octets_of_c360;
 #define c360 (octets_of_c360.octets)
 #endif
+#if IS_LITTLE_ENDIAN
+static const struct form_of_c361 { slot slot0; slot slot8; slot slot16; slot slot24; slot slot32; } octets_of_c361;
+#define c361 ((const u8 *)&octets_of_c361)
+#else
+static union form_of_c361 { u8 octets[40]; u64 aligned; } octets_of_c361;
 #define c361 (octets_of_c361.octets)
-static const union { u8 octets[16]; u64 aligned; } octets_of_c361 = { { 127,0,0,0,128,0,0,0,34,0,0,0,35,0,0,0 } };
+#endif
 #define c362 (octets_of_c362.octets)
-static const union { u8 octets[12]; u64 aligned; } octets_of_c362 = { { 105,0,0,0,107,0,0,0,35,0,0,0 } };
+static const union { u8 octets[16]; u64 aligned; } octets_of_c362 = { { 127,0,0,0,128,0,0,0,34,0,0,0,35,0,0,0 } };
 #define c363 (octets_of_c363.octets)
-static const union { u8 octets[24]; u64 aligned; } octets_of_c363 = { { 9,0,0,0,0,0,0,0,5,0,0,0,0,0,0,0,9,0,0,0,0,0,0,0 } };
-#if IS_LITTLE_ENDIAN
-static const struct form_of_c364 { slot slot0; slot slot8; slot slot16; } octets_of_c364;
-#define c364 ((const u8 *)&octets_of_c364)
-#else
-static union form_of_c364 { u8 octets[24]; u64 aligned; } octets_of_c364;
+static const union { u8 octets[12]; u64 aligned; } octets_of_c363 = { { 105,0,0,0,107,0,0,0,35,0,0,0 } };
 #define c364 (octets_of_c364.octets)
-#endif
-#define c365 (octets_of_c365.octets)
-static const union { u8 octets[80]; u64 aligned; } octets_of_c365 = { { 17,0,0,0,0,0,0,0,4,0,0,0,0,0,0,0,23,0,0,0,0,0,0,0,20,0,0,0,0,0,0,0,15,0,0,0,0,0,0,0,14,0,0,0,0,0,0,0,23,0,0,0,0,0,0,0,16,0,0,0,0,0,0,0,18,0,0,0,0,0,0,0,13,0,0,0,0,0,0,0 } };
+static const union { u8 octets[24]; u64 aligned; } octets_of_c364 = { { 9,0,0,0,0,0,0,0,5,0,0,0,0,0,0,0,9,0,0,0,0,0,0,0 } };
 #if IS_LITTLE_ENDIAN
-static const struct form_of_c366 { slot slot0; slot slot8; slot slot16; slot slot24; slot slot32; slot slot40; slot slot48; slot slot56; slot slot64; slot slot72; } octets_of_c366;
-#define c366 ((const u8 *)&octets_of_c366)
+static const struct form_of_c365 { slot slot0; slot slot8; slot slot16; } octets_of_c365;
+#define c365 ((const u8 *)&octets_of_c365)
 #else
-static union form_of_c366 { u8 octets[80]; u64 aligned; } octets_of_c366;
-#define c366 (octets_of_c366.octets)
+static union form_of_c365 { u8 octets[24]; u64 aligned; } octets_of_c365;
+#define c365 (octets_of_c365.octets)
 #endif
+#define c366 (octets_of_c366.octets)
+static const union { u8 octets[80]; u64 aligned; } octets_of_c366 = { { 17,0,0,0,0,0,0,0,4,0,0,0,0,0,0,0,23,0,0,0,0,0,0,0,20,0,0,0,0,0,0,0,15,0,0,0,0,0,0,0,14,0,0,0,0,0,0,0,23,0,0,0,0,0,0,0,16,0,0,0,0,0,0,0,18,0,0,0,0,0,0,0,13,0,0,0,0,0,0,0 } };
+#if IS_LITTLE_ENDIAN
+static const struct form_of_c367 { slot slot0; slot slot8; slot slot16; slot slot24; slot slot32; slot slot40; slot slot48; slot slot56; slot slot64; slot slot72; } octets_of_c367;
+#define c367 ((const u8 *)&octets_of_c367)
+#else
+static union form_of_c367 { u8 octets[80]; u64 aligned; } octets_of_c367;
 #define c367 (octets_of_c367.octets)
-static const union { u8 octets[40]; u64 aligned; } octets_of_c367 = { { 1,0,0,0,15,32,0,0,18,32,0,0,19,32,0,0,21,32,0,0,0,192,0,0,1,192,0,0,2,192,0,0,4,192,0,0,5,192,0,0 } };
+#endif
 #define c368 (octets_of_c368.octets)
-static const union { u8 octets[24]; u64 aligned; } octets_of_c368 = { { 38,0,0,0,39,0,0,0,40,0,0,0,41,0,0,0,42,0,0,0,35,0,0,0 } };
+static const union { u8 octets[40]; u64 aligned; } octets_of_c368 = { { 1,0,0,0,15,32,0,0,18,32,0,0,19,32,0,0,21,32,0,0,0,192,0,0,1,192,0,0,2,192,0,0,4,192,0,0,5,192,0,0 } };
 #define c369 (octets_of_c369.octets)
-static const union { u8 octets[12]; u64 aligned; } octets_of_c369 = { { 51,0,0,0,52,0,0,0,35,0,0,0 } };
+static const union { u8 octets[24]; u64 aligned; } octets_of_c369 = { { 38,0,0,0,39,0,0,0,40,0,0,0,41,0,0,0,42,0,0,0,35,0,0,0 } };
 #define c370 (octets_of_c370.octets)
-static const union { u8 octets[16]; u64 aligned; } octets_of_c370 = { { 105,0,0,0,107,0,0,0,0,0,0,0,35,0,0,0 } };
+static const union { u8 octets[12]; u64 aligned; } octets_of_c370 = { { 51,0,0,0,52,0,0,0,35,0,0,0 } };
 #define c371 (octets_of_c371.octets)
-static const union { u8 octets[24]; u64 aligned; } octets_of_c371 = { { 104,0,0,0,105,0,0,0,106,0,0,0,107,0,0,0,110,0,0,0,35,0,0,0 } };
+static const union { u8 octets[16]; u64 aligned; } octets_of_c371 = { { 105,0,0,0,107,0,0,0,0,0,0,0,35,0,0,0 } };
 #define c372 (octets_of_c372.octets)
-static const union { u8 octets[14]; u64 aligned; } octets_of_c372 = { { 1,0,2,0,3,0,4,0,5,0,6,0,254,255 } };
+static const union { u8 octets[24]; u64 aligned; } octets_of_c372 = { { 104,0,0,0,105,0,0,0,106,0,0,0,107,0,0,0,110,0,0,0,35,0,0,0 } };
+#define c373 (octets_of_c373.octets)
+static const union { u8 octets[14]; u64 aligned; } octets_of_c373 = { { 1,0,2,0,3,0,4,0,5,0,6,0,254,255 } };
 #if IS_LITTLE_ENDIAN
 static const struct form_of_c146 octets_of_c146 = { SLOT(c146 + 8), { 0 } };
 #else
@@ -850,24 +852,24 @@ static const struct form_of_c354 octets_of_c354 = { SLOT(c304 + 0), SLOT(c305 + 
 static union form_of_c354 octets_of_c354 = { { 0 } };
 #endif
 #if IS_LITTLE_ENDIAN
-static const struct form_of_c359 octets_of_c359 = { SLOT(c156 + 0), { 0 }, SLOT(c150 + 0), SLOT(c151 + 0), SLOT(c152 + 0), SLOT(c153 + 0), SLOT(c154 + 0), SLOT(c155 + 0) };
-#else
-static union form_of_c359 octets_of_c359 = { { 0 } };
-#endif
-#if IS_LITTLE_ENDIAN
-static const struct form_of_c360 octets_of_c360 = { SLOT(c167 + 0), SLOT(c168 + 0), SLOT(c169 + 0), SLOT(c170 + 0), SLOT(c171 + 0) };
+static const struct form_of_c360 octets_of_c360 = { SLOT(c156 + 0), { 0 }, SLOT(c150 + 0), SLOT(c151 + 0), SLOT(c152 + 0), SLOT(c153 + 0), SLOT(c154 + 0), SLOT(c155 + 0) };
 #else
 static union form_of_c360 octets_of_c360 = { { 0 } };
 #endif
 #if IS_LITTLE_ENDIAN
-static const struct form_of_c364 octets_of_c364 = { SLOT(c177 + 0), SLOT(c178 + 0), SLOT(c179 + 0) };
+static const struct form_of_c361 octets_of_c361 = { SLOT(c167 + 0), SLOT(c168 + 0), SLOT(c169 + 0), SLOT(c170 + 0), SLOT(c171 + 0) };
 #else
-static union form_of_c364 octets_of_c364 = { { 0 } };
+static union form_of_c361 octets_of_c361 = { { 0 } };
 #endif
 #if IS_LITTLE_ENDIAN
-static const struct form_of_c366 octets_of_c366 = { SLOT(c329 + 0), SLOT(c330 + 0), SLOT(c331 + 0), SLOT(c332 + 0), SLOT(c333 + 0), SLOT(c334 + 0), SLOT(c335 + 0), SLOT(c336 + 0), SLOT(c337 + 0), SLOT(c338 + 0) };
+static const struct form_of_c365 octets_of_c365 = { SLOT(c177 + 0), SLOT(c178 + 0), SLOT(c179 + 0) };
 #else
-static union form_of_c366 octets_of_c366 = { { 0 } };
+static union form_of_c365 octets_of_c365 = { { 0 } };
+#endif
+#if IS_LITTLE_ENDIAN
+static const struct form_of_c367 octets_of_c367 = { SLOT(c329 + 0), SLOT(c330 + 0), SLOT(c331 + 0), SLOT(c332 + 0), SLOT(c333 + 0), SLOT(c334 + 0), SLOT(c335 + 0), SLOT(c336 + 0), SLOT(c337 + 0), SLOT(c338 + 0) };
+#else
+static union form_of_c367 octets_of_c367 = { { 0 } };
 #endif
 
 #if !IS_LITTLE_ENDIAN
@@ -908,31 +910,31 @@ void portable_fill(void) {
     store_address(ADDRESS(c354) + 48u, ADDRESS(c310) + 0u);
     store_address(ADDRESS(c354) + 56u, ADDRESS(c311) + 0u);
     store_address(ADDRESS(c354) + 64u, ADDRESS(c312) + 0u);
-    store_address(ADDRESS(c359) + 0u, ADDRESS(c156) + 0u);
-    store_address(ADDRESS(c359) + 24u, ADDRESS(c150) + 0u);
-    store_address(ADDRESS(c359) + 32u, ADDRESS(c151) + 0u);
-    store_address(ADDRESS(c359) + 40u, ADDRESS(c152) + 0u);
-    store_address(ADDRESS(c359) + 48u, ADDRESS(c153) + 0u);
-    store_address(ADDRESS(c359) + 56u, ADDRESS(c154) + 0u);
-    store_address(ADDRESS(c359) + 64u, ADDRESS(c155) + 0u);
-    store_address(ADDRESS(c360) + 0u, ADDRESS(c167) + 0u);
-    store_address(ADDRESS(c360) + 8u, ADDRESS(c168) + 0u);
-    store_address(ADDRESS(c360) + 16u, ADDRESS(c169) + 0u);
-    store_address(ADDRESS(c360) + 24u, ADDRESS(c170) + 0u);
-    store_address(ADDRESS(c360) + 32u, ADDRESS(c171) + 0u);
-    store_address(ADDRESS(c364) + 0u, ADDRESS(c177) + 0u);
-    store_address(ADDRESS(c364) + 8u, ADDRESS(c178) + 0u);
-    store_address(ADDRESS(c364) + 16u, ADDRESS(c179) + 0u);
-    store_address(ADDRESS(c366) + 0u, ADDRESS(c329) + 0u);
-    store_address(ADDRESS(c366) + 8u, ADDRESS(c330) + 0u);
-    store_address(ADDRESS(c366) + 16u, ADDRESS(c331) + 0u);
-    store_address(ADDRESS(c366) + 24u, ADDRESS(c332) + 0u);
-    store_address(ADDRESS(c366) + 32u, ADDRESS(c333) + 0u);
-    store_address(ADDRESS(c366) + 40u, ADDRESS(c334) + 0u);
-    store_address(ADDRESS(c366) + 48u, ADDRESS(c335) + 0u);
-    store_address(ADDRESS(c366) + 56u, ADDRESS(c336) + 0u);
-    store_address(ADDRESS(c366) + 64u, ADDRESS(c337) + 0u);
-    store_address(ADDRESS(c366) + 72u, ADDRESS(c338) + 0u);
+    store_address(ADDRESS(c360) + 0u, ADDRESS(c156) + 0u);
+    store_address(ADDRESS(c360) + 24u, ADDRESS(c150) + 0u);
+    store_address(ADDRESS(c360) + 32u, ADDRESS(c151) + 0u);
+    store_address(ADDRESS(c360) + 40u, ADDRESS(c152) + 0u);
+    store_address(ADDRESS(c360) + 48u, ADDRESS(c153) + 0u);
+    store_address(ADDRESS(c360) + 56u, ADDRESS(c154) + 0u);
+    store_address(ADDRESS(c360) + 64u, ADDRESS(c155) + 0u);
+    store_address(ADDRESS(c361) + 0u, ADDRESS(c167) + 0u);
+    store_address(ADDRESS(c361) + 8u, ADDRESS(c168) + 0u);
+    store_address(ADDRESS(c361) + 16u, ADDRESS(c169) + 0u);
+    store_address(ADDRESS(c361) + 24u, ADDRESS(c170) + 0u);
+    store_address(ADDRESS(c361) + 32u, ADDRESS(c171) + 0u);
+    store_address(ADDRESS(c365) + 0u, ADDRESS(c177) + 0u);
+    store_address(ADDRESS(c365) + 8u, ADDRESS(c178) + 0u);
+    store_address(ADDRESS(c365) + 16u, ADDRESS(c179) + 0u);
+    store_address(ADDRESS(c367) + 0u, ADDRESS(c329) + 0u);
+    store_address(ADDRESS(c367) + 8u, ADDRESS(c330) + 0u);
+    store_address(ADDRESS(c367) + 16u, ADDRESS(c331) + 0u);
+    store_address(ADDRESS(c367) + 24u, ADDRESS(c332) + 0u);
+    store_address(ADDRESS(c367) + 32u, ADDRESS(c333) + 0u);
+    store_address(ADDRESS(c367) + 40u, ADDRESS(c334) + 0u);
+    store_address(ADDRESS(c367) + 48u, ADDRESS(c335) + 0u);
+    store_address(ADDRESS(c367) + 56u, ADDRESS(c336) + 0u);
+    store_address(ADDRESS(c367) + 64u, ADDRESS(c337) + 0u);
+    store_address(ADDRESS(c367) + 72u, ADDRESS(c338) + 0u);
 }
 #endif
 
@@ -960,144 +962,153 @@ static void f20(address a0, address a1, address a2, u64 a3, u16 a4, u8 a5);
 static void f21(address a0, address a1, u16 a2, address a3, u64 a4);
 static void f22(address a0, address a1);
 static void f23(address a0, address a1, u16 a2, address a3, u64 a4, address a5, u64 a6);
-static void f24(address a0);
-static void f25(address a0, address a1, address a2, u64 a3);
+static void f24(address a0, address a1, u16 a2, address a3, address a4, u64 a5);
+static void f25(address a0);
 static void f26(address a0, address a1, address a2, u64 a3);
-static void f27(address a0, address a1, u64 a2);
-static u64 f28(address a0, u64 a1, u64 a2);
-static void f29(address a0, address a1);
-static void f30(address a0, u64 a1);
-static void f31(address a0, address a1);
-static void f32(address a0, address a1, u8 a2, address a3);
-static void f33(address a0, u16 a1, u16 a2, u16 a3, address a4);
-static u8 f34(address a0, address a1, u64 a2);
-static void f35(address a0, u8 a1, u8 a2, address a3);
-static void f36(address a0, u16 a1, address a2);
-static void f37(address a0, u8 a1, address a2);
+static void f27(address a0, address a1, address a2, u64 a3);
+static void f28(address a0, address a1, u64 a2);
+static u64 f29(address a0, u64 a1, u64 a2);
+static void f30(address a0, address a1);
+static void f31(address a0, u64 a1);
+static void f32(address a0, address a1);
+static void f33(address a0, address a1, u8 a2, address a3);
+static void f34(address a0, u16 a1, u16 a2, u16 a3, address a4);
+static u8 f35(address a0, address a1, u64 a2);
+static void f36(address a0, u8 a1, u8 a2, address a3);
+static void f37(address a0, u16 a1, address a2);
 static void f38(address a0, u8 a1, address a2);
-static void f39(address a0, address a1, address a2, u8 a3, u8 a4, address a5);
-static void f40(address a0, address a1, address a2);
-static u8 f41(address a0, u64 a1);
-static u8 f42(address a0, u64 a1, address a2, u64 a3);
-static void f43(address a0, address a1, u16 a2, address a3, u64 a4, address a5, u64 a6);
-static u8 f44(address a0, address a1);
+static void f39(address a0, u8 a1, address a2);
+static void f40(address a0, address a1, address a2, u8 a3, u8 a4, address a5);
+static void f41(address a0, address a1, address a2);
+static u8 f42(address a0, u64 a1);
+static u8 f43(address a0, u64 a1, address a2, u64 a3);
+static void f44(address a0, address a1, u16 a2, address a3, u64 a4, address a5, u64 a6);
 static u8 f45(address a0, address a1);
-static struct s1 f46(address a0, address a1, u16 a2, address a3);
-static void f47(address a0, address a1, u16 a2, address a3, u8 a4, address a5);
-static void f48(address a0, u16 a1, address a2, u8 a3, address a4);
-static void f49(address a0, address a1, u64 a2);
+static u8 f46(address a0, address a1);
+static struct s1 f47(address a0, address a1, u16 a2, address a3);
+static void f48(address a0, address a1, u16 a2, address a3, u8 a4, address a5);
+static void f49(address a0, u16 a1, address a2, u8 a3, address a4);
 static void f50(address a0, address a1, u64 a2);
 static void f51(address a0, address a1, u64 a2);
 static void f52(address a0, address a1, u64 a2);
-static void f53(address a0, address a1);
-static void f54(address a0, u64 a1, address a2, address a3, u16 a4, address a5);
-static void f55(address a0, u8 a1, u16 a2, address a3, address a4, address a5);
-static void f56(address a0, u16 a1, address a2, address a3);
-static void f57(address a0, address a1, address a2);
-static void f58(address a0, address a1, u16 a2, address a3, u64 a4, u8 a5, address a6, u64 a7);
-static u8 f59(address a0, address a1);
-static void f60(address a0, address a1, address a2);
-static void f61(address a0, u8 a1, address a2);
-static void f62(address a0, address a1, address a2, u8 a3, address a4);
-static void f63(address a0, address a1, u16 a2, address a3, u64 a4, address a5, u64 a6, address a7, u64 a8);
-static u8 f64(address a0);
-static u8 f65(address a0, address a1);
-static void f66(address a0, address a1, address a2, u64 a3);
-static void f67(address a0, address a1, u16 a2, address a3, address a4, u64 a5);
-static u64 f68(address a0, address a1);
-static void f69(address a0, address a1, u64 a2);
-static struct s2 f70(address a0, address a1, u64 a2);
-static struct s2 f71(address a0, address a1, u64 a2);
-static void f72(address a0, address a1);
-static void f73(address a0, address a1);
-static void f74(address a0, address a1);
-static struct s1 f75(address a0, address a1, u64 a2);
-static void f76(address a0, address a1, address a2, u64 a3);
-static u8 f77(address a0, address a1, address a2, u64 a3);
-static struct s1 f78(address a0, address a1, address a2, u64 a3);
-static void f79(address a0, address a1, address a2, u64 a3);
-static u8 f80(address a0, address a1, u64 a2);
-static u32 f81(address a0, u16 a1, address a2, u64 a3, address a4, u8 a5, address a6, u64 a7, address a8);
-static void f82(address a0, address a1, address a2, u64 a3);
-static u64 f83(u8 a0, u8 a1);
-static void f84(address a0, address a1, address a2, u64 a3, address a4);
-static struct s4 f85(u16 a0, address a1, u64 a2);
-static struct s1 f86(address a0, u64 a1);
-static void f87(address a0, u8 a1, u8 a2);
-static struct s1 f88(address a0, u64 a1);
-static struct s5 f89(address a0);
-static struct s5 f90(u8 a0, u8 a1);
-static u64 f91(u16 a0, address a1);
-static void f92(u8 a0, u8 a1, address a2);
-static struct s5 f93(u16 a0, address a1, u64 a2);
-static struct s5 f94(address a0, u64 a1);
-static void f95(address a0, u8 a1, u8 a2, address a3, u64 a4);
-static void f96(u64 a0, address a1);
-static struct s5 f97(address a0, u64 a1);
-static struct s4 f98(address a0, u64 a1);
-static struct s4 f99(address a0, u64 a1);
-static void f100(address a0, address a1, u64 a2);
-static u32 f101(address a0, u64 a1, address a2, u64 a3);
-static void f102(address a0, address a1, u64 a2);
-static void f103(address a0, address a1, address a2, address a3, u64 a4, address a5, u64 a6, address a7, u64 a8);
-static u8 f104(address a0, address a1);
-static u8 f105(address a0, address a1);
-static u8 f106(address a0);
-static u8 f107(address a0);
-static void f108(address a0, address a1, address a2, u64 a3);
-static void f109(address a0, address a1);
-static u8 f110(address a0, u64 a1, address a2);
-static void f111(address a0, address a1, u64 a2);
-static u8 f112(u64 a0, address a1, u64 a2, address a3, u64 a4, u64 a5);
-static void f113(address a0, u32 a1, address a2, u64 a3);
-static u64 f114(address a0, u64 a1, u64 a2);
-static void f115(address a0, u16 a1, address a2, u64 a3);
-static void f116(address a0, u64 a1, address a2);
-static void f117(u8 a0, address a1);
-static u8 f118(address a0, address a1, u64 a2);
-static u8 f119(address a0, u64 a1);
-static u8 f120(address a0, address a1, u64 a2);
-static void f121(u64 a0, address a1);
-static void f122(address a0, u64 a1);
-static void f123(address a0, u64 a1);
-static void f124(address a0, address a1, u64 a2);
-static void f125(address a0, u16 a1, u8 a2);
-static void f126(address a0, u64 a1, u8 a2, u16 a3, address a4, u64 a5);
-static void f127(address a0, u64 a1, u16 a2, u8 a3);
-static u8 f128(address a0);
-static u8 f129(address a0);
-static u8 f130(address a0, u64 a1);
-static void f131(address a0, address a1, u64 a2, address a3, address a4, u16 a5, u16 a6);
-static struct s1 f132(address a0, u64 a1);
-static void f133(address a0, address a1, u64 a2);
-static void f134(address a0, address a1, u64 a2, address a3, u64 a4, address a5, u64 a6);
-static void f135(address a0, address a1, u64 a2, address a3, u64 a4, address a5, u64 a6);
-static struct s1 f136(address a0, u64 a1, address a2);
-static struct s1 f137(address a0, u64 a1, address a2);
-static void f138(address a0, u16 a1);
-static u8 f139(address a0, address a1);
-static void f140(address a0, address a1, u64 a2, address a3);
-static u8 f141(u8 a0, u8 a1, address a2, u64 a3);
-static void f142(address a0, address a1, u16 a2, address a3, u64 a4);
-static void f143(address a0, address a1, u16 a2, address a3, u64 a4);
-static struct s3 f144(address a0, address a1);
-static struct s1 f145(address a0, u64 a1, address a2);
-static u8 f146(address a0, address a1, address a2);
-static u8 f147(address a0);
-static u8 f148(address a0);
-static u8 f149(address a0);
-static u8 f150(address a0);
-static u8 f151(address a0);
-static u8 f152(address a0);
-static void f153(address a0);
-static u32 f154(address a0, address a1);
-static void f155(address a0, address a1);
-static void f156(address a0, address a1, address a2, address a3, u64 a4);
-static void f157(address a0, address a1, address a2, address a3);
-static u64 f158(address a0, u16 a1, u64 a2);
-static void f159(address a0, address a1, u8 a2, u16 a3, u16 a4, address a5, u64 a6);
-static void f160(address a0, address a1, u16 a2, address a3, u64 a4);
-static void f161(address a0, address a1, u16 a2, address a3, u64 a4);
+static void f53(address a0, address a1, u64 a2);
+static u8 f54(address a0, u64 a1);
+static void f55(address a0, address a1);
+static void f56(address a0, u64 a1, address a2, address a3, u16 a4, address a5);
+static void f57(address a0, u8 a1, u16 a2, address a3, address a4, address a5);
+static void f58(address a0, u16 a1, address a2, address a3);
+static void f59(address a0, address a1, address a2);
+static void f60(address a0, address a1, u16 a2, address a3, u64 a4, u8 a5, address a6, u64 a7);
+static u8 f61(address a0, address a1);
+static void f62(address a0, address a1, address a2);
+static void f63(address a0, u8 a1, address a2);
+static void f64(address a0, address a1, address a2, u8 a3, address a4);
+static void f65(address a0, address a1, u16 a2, address a3, u64 a4, address a5, u64 a6, address a7, u64 a8);
+static u8 f66(address a0);
+static u8 f67(address a0, address a1);
+static void f68(address a0, address a1, address a2, u64 a3);
+static void f69(address a0, address a1, u16 a2, address a3, address a4, u64 a5);
+static u64 f70(address a0, address a1);
+static void f71(address a0, address a1, u64 a2);
+static void f72(address a0, address a1, u8 a2, address a3);
+static void f73(address a0, u8 a1, address a2);
+static void f74(address a0, address a1, address a2, u8 a3, u8 a4, address a5);
+static void f75(address a0, address a1);
+static void f76(address a0, address a1, address a2);
+static struct s2 f77(address a0, address a1, u64 a2);
+static struct s2 f78(address a0, address a1, u64 a2);
+static void f79(address a0, address a1);
+static void f80(address a0, address a1);
+static void f81(address a0, address a1);
+static void f82(address a0, address a1);
+static struct s1 f83(address a0, address a1, u64 a2);
+static void f84(address a0, address a1, address a2, u64 a3);
+static u8 f85(address a0, address a1, address a2, u64 a3);
+static struct s1 f86(address a0, address a1, address a2, u64 a3);
+static void f87(address a0, address a1, address a2, u64 a3);
+static u8 f88(address a0, address a1, u64 a2);
+static u32 f89(address a0, u16 a1, address a2, u64 a3, address a4, u8 a5, address a6, u64 a7, address a8);
+static void f90(address a0, address a1, address a2, u64 a3);
+static u64 f91(u8 a0, u8 a1);
+static void f92(address a0, address a1, address a2, u64 a3, address a4);
+static struct s4 f93(u16 a0, address a1, u64 a2);
+static struct s1 f94(address a0, u64 a1);
+static void f95(address a0, u8 a1, u8 a2);
+static struct s1 f96(address a0, u64 a1);
+static struct s5 f97(address a0);
+static struct s5 f98(u8 a0, u8 a1);
+static u64 f99(u16 a0, address a1);
+static void f100(u8 a0, u8 a1, address a2);
+static struct s5 f101(u16 a0, address a1, u64 a2);
+static struct s5 f102(address a0, u64 a1);
+static void f103(address a0, u8 a1, u8 a2, address a3, u64 a4);
+static void f104(u64 a0, address a1);
+static struct s5 f105(address a0, u64 a1);
+static struct s4 f106(address a0, u64 a1);
+static struct s4 f107(address a0, u64 a1);
+static void f108(address a0, address a1, u64 a2);
+static u32 f109(address a0, u64 a1, address a2, u64 a3);
+static void f110(address a0, address a1, u64 a2);
+static void f111(address a0, address a1, address a2, address a3, u64 a4, address a5, u64 a6, address a7, u64 a8);
+static u8 f112(address a0, address a1);
+static u8 f113(address a0, address a1);
+static u8 f114(address a0);
+static u8 f115(address a0);
+static void f116(address a0, address a1, address a2, u64 a3);
+static void f117(address a0, address a1);
+static u8 f118(address a0, u64 a1, address a2);
+static void f119(address a0, address a1, u64 a2);
+static u8 f120(u64 a0, address a1, u64 a2, address a3, u64 a4, u64 a5);
+static void f121(address a0, u32 a1, address a2, u64 a3);
+static u64 f122(address a0, u64 a1, u64 a2);
+static void f123(address a0, u16 a1, address a2, u64 a3);
+static void f124(address a0, u64 a1, address a2);
+static void f125(u8 a0, address a1);
+static u8 f126(address a0, address a1, u64 a2);
+static u8 f127(address a0, u64 a1);
+static u8 f128(address a0, address a1, u64 a2);
+static void f129(u64 a0, address a1);
+static void f130(address a0, u64 a1);
+static void f131(address a0, u64 a1);
+static void f132(address a0, address a1, u64 a2);
+static void f133(address a0, u16 a1, u8 a2);
+static void f134(address a0, u64 a1, u8 a2, u16 a3, address a4, u64 a5);
+static void f135(address a0, u64 a1, u16 a2, u8 a3);
+static u8 f136(address a0);
+static u8 f137(address a0);
+static u8 f138(address a0, u64 a1);
+static void f139(address a0, address a1, u64 a2, address a3, address a4, u16 a5, u16 a6);
+static struct s1 f140(address a0, u64 a1);
+static void f141(address a0, address a1, u64 a2, address a3, u64 a4, address a5, u64 a6);
+static void f142(address a0, address a1, u64 a2, address a3, u64 a4, address a5, u64 a6);
+static struct s1 f143(address a0, u64 a1, address a2);
+static struct s1 f144(address a0, u64 a1, address a2);
+static struct s1 f145(address a0, u16 a1);
+static void f146(address a0, u16 a1);
+static u8 f147(address a0, address a1);
+static void f148(address a0, address a1, u64 a2, address a3);
+static u8 f149(u8 a0, u8 a1, address a2, u64 a3);
+static void f150(address a0, address a1, u16 a2, address a3, u64 a4);
+static struct s3 f151(address a0, address a1);
+static struct s1 f152(address a0, u64 a1, address a2);
+static u8 f153(address a0, address a1, address a2);
+static void f154(address a0, address a1, address a2, u64 a3, address a4, u64 a5);
+static u8 f155(address a0);
+static u8 f156(address a0);
+static u8 f157(address a0);
+static u8 f158(address a0);
+static u8 f159(address a0);
+static u8 f160(address a0);
+static void f161(address a0);
+static u32 f162(address a0, address a1);
+static void f163(address a0, address a1, address a2, address a3, u64 a4);
+static void f164(address a0, address a1);
+static void f165(address a0, address a1, address a2, address a3, u64 a4);
+static void f166(address a0, address a1, address a2, address a3);
+static void f167(address a0, address a1, address a2, address a3, u64 a4);
+static void f168(address a0, address a1, u8 a2, u16 a3, u16 a4, address a5, u64 a6);
+static void f169(address a0, address a1, u16 a2, address a3, u64 a4);
+static void f170(address a0, address a1, u16 a2, address a3, u64 a4);
 u64 portable_ptpm_answer_name(u32 a0, address a1, u64 a2);
 u32 portable_ptpm_asker_ask(address a0, u64 a1, u64 a2, u8 a3, u16 a4, u16 a5, address a6, u64 a7, u8 a8, address a9);
 u32 portable_ptpm_asker_earlier(address a0, u8 a1, address a2);
@@ -1116,6 +1127,7 @@ u32 portable_ptpm_clock_decide(address a0, address a1, address a2, u64 a3, addre
 void portable_ptpm_clock_defaults(address a0);
 u64 portable_ptpm_clock_free(address a0);
 u32 portable_ptpm_clock_handle(address a0, u16 a1, address a2, u64 a3, address a4, u64 a5, address a6);
+u32 portable_ptpm_clock_handle_shared(address a0, u16 a1, address a2, u64 a3, address a4, u64 a5, address a6);
 u32 portable_ptpm_clock_image(address a0, address a1, u64 a2, address a3);
 u32 portable_ptpm_clock_image_of(address a0, address a1, u64 a2, address a3, address a4);
 u64 portable_ptpm_clock_most_sent(address a0);
@@ -3847,13 +3859,13 @@ L9:;
 
 static void f21(address a0, address a1, u16 a2, address a3, u64 a4) {
     u64 v5, v6, v7, v10, v18, v20, v28, v29, v30, v33, v34, v38, v44, v45, v48, v49;
-    u64 v50, v69, v71, v74, v77;
-    u8 v8, v11, v12, v14, v16, v17, v22, v35, v39, v43, v51, v52, v59, v62, v66, v67;
-    u8 v68, v73, v76, v79;
+    u64 v50, v52, v70, v72, v75, v78;
+    u8 v8, v11, v12, v14, v16, v17, v22, v35, v39, v43, v51, v53, v60, v63, v67, v68;
+    u8 v69, v74, v77, v80;
     address v9, v13, v15, v19, v23, v24, v25, v26, v27, v31, v36, v37, v40, v41, v42, v46;
-    address v47, v53, v54, v55, v56, v57, v58, v63, v70, v72, v75, v78, v80, v81, v82, v83;
-    address v84, v85;
-    u16 v21, v32, v60, v61, v64, v65;
+    address v47, v54, v55, v56, v57, v58, v59, v64, v71, v73, v76, v79, v81, v82, v83, v84;
+    address v85, v86;
+    u16 v21, v32, v61, v62, v65, v66;
     u64 block0[11];
     v13 = ADDRESS(block0);
     v14 = a2 == 0u;
@@ -3895,7 +3907,7 @@ L4:;
     v34 = v33 > v30 ? v33 : v30;
     v35 = v34 > a4;
     if (v35) { goto L5; }
-    else { goto L10; }
+    else { goto L11; }
 L5:;
     v36 = a1 + 384u * 1u;
     memory_set(v13, 0u, 88u);
@@ -3903,12 +3915,12 @@ L5:;
     v37 = v13 + 80u * 1u;
     v38 = load64(v37);
     v39 = v38 == 0u;
-    if (v39) { v7 = v30; goto L8; }
+    if (v39) { v7 = v30; goto L9; }
     else { goto L6; }
 L6:;
     v40 = v13 + 16u * 1u;
     v41 = load_address(v13);
-    v5 = v30; v6 = 0u; goto L7;
+    v5 = 0u; v6 = 0u; goto L7;
 L7:;
     v42 = v40 + v6 * 1u;
     v43 = load8(v42);
@@ -3920,80 +3932,83 @@ L7:;
     v49 = v5 > v48 ? v5 : v48;
     v50 = (u64)((u64)v6 + (u64)1u);
     v51 = v50 == v38;
-    if (v51) { v7 = v49; goto L8; }
+    if (v51) { goto L8; }
     else { v5 = v49; v6 = v50; goto L7; }
 L8:;
-    v52 = v7 > a4;
-    if (v52) { goto L9; }
-    else { goto L10; }
+    v52 = v49 > v30 ? v49 : v30;
+    v7 = v52; goto L9;
 L9:;
-    store8(a0, 1u);
-    v53 = a0 + 1u * 1u;
-    store8(v53, 0u);
-    v54 = a0 + 2u * 1u;
-    store8(v54, 1u);
-    v55 = a0 + 8u * 1u;
-    store8(v55, 0u);
-    v56 = a0 + 9u * 1u;
-    store8(v56, 0u);
-    v57 = a0 + 16u * 1u;
-    memory_set(v57, 0u, 16u);
-    goto L2;
+    v53 = v7 > a4;
+    if (v53) { goto L10; }
+    else { goto L11; }
 L10:;
-    v58 = a3 + 4u * 1u;
-    v59 = load8(v58);
-    switch (v59) {
-    case 0u: v8 = v59; v9 = 0u; v10 = 0u; v11 = v59; v12 = v59; goto L16;
-    case 1u: goto L11;
-    case 2u: goto L12;
-    default: goto L14;
-    }
+    store8(a0, 1u);
+    v54 = a0 + 1u * 1u;
+    store8(v54, 0u);
+    v55 = a0 + 2u * 1u;
+    store8(v55, 1u);
+    v56 = a0 + 8u * 1u;
+    store8(v56, 0u);
+    v57 = a0 + 9u * 1u;
+    store8(v57, 0u);
+    v58 = a0 + 16u * 1u;
+    memory_set(v58, 0u, 16u);
+    goto L2;
 L11:;
-    v60 = load16(a3);
-    v61 = (u16)((u32)v60 + (u32)2u);
-    v62 = v61 < 9u;
-    if (v62) { goto L15; }
-    else { v8 = 1u; v9 = 0u; v10 = 0u; v11 = 0u; v12 = 0u; goto L16; }
+    v59 = a3 + 4u * 1u;
+    v60 = load8(v59);
+    switch (v60) {
+    case 0u: v8 = v60; v9 = 0u; v10 = 0u; v11 = v60; v12 = v60; goto L17;
+    case 1u: goto L12;
+    case 2u: goto L13;
+    default: goto L15;
+    }
 L12:;
-    v63 = a3 + 2u * 1u;
-    v64 = load16(v63);
-    v65 = (u16)((u32)v64 & (u32)1u);
-    v66 = v65 == 0u;
-    v67 = v64 < 1419u;
-    v68 = (u8)(((u32)v67 & (u32)v66) & UINT64_C(1));
-    if (v68) { goto L13; }
-    else { goto L14; }
+    v61 = load16(a3);
+    v62 = (u16)((u32)v61 + (u32)2u);
+    v63 = v62 < 9u;
+    if (v63) { goto L16; }
+    else { v8 = 1u; v9 = 0u; v10 = 0u; v11 = 0u; v12 = 0u; goto L17; }
 L13:;
-    v69 = (u64)v64;
-    v70 = a3 + 5u * 1u;
-    v8 = 0u; v9 = v70; v10 = v69; v11 = 2u; v12 = 0u; goto L16;
+    v64 = a3 + 2u * 1u;
+    v65 = load16(v64);
+    v66 = (u16)((u32)v65 & (u32)1u);
+    v67 = v66 == 0u;
+    v68 = v65 < 1419u;
+    v69 = (u8)(((u32)v68 & (u32)v67) & UINT64_C(1));
+    if (v69) { goto L14; }
+    else { goto L15; }
 L14:;
-    v8 = 1u; v9 = 0u; v10 = 0u; v11 = 0u; v12 = 0u; goto L16;
+    v70 = (u64)v65;
+    v71 = a3 + 5u * 1u;
+    v8 = 0u; v9 = v71; v10 = v70; v11 = 2u; v12 = 0u; goto L17;
 L15:;
-    v71 = (u64)v61;
-    v72 = ADDRESS(c342) + v71 * 1u;
-    v73 = load8(v72);
-    v74 = (u64)v61;
-    v75 = ADDRESS(c343) + v74 * 1u;
-    v76 = load8(v75);
-    v77 = (u64)v61;
-    v78 = ADDRESS(c344) + v77 * 1u;
-    v79 = load8(v78);
-    v8 = v73; v9 = 0u; v10 = 0u; v11 = v76; v12 = v79; goto L16;
+    v8 = 1u; v9 = 0u; v10 = 0u; v11 = 0u; v12 = 0u; goto L17;
 L16:;
+    v72 = (u64)v62;
+    v73 = ADDRESS(c342) + v72 * 1u;
+    v74 = load8(v73);
+    v75 = (u64)v62;
+    v76 = ADDRESS(c343) + v75 * 1u;
+    v77 = load8(v76);
+    v78 = (u64)v62;
+    v79 = ADDRESS(c344) + v78 * 1u;
+    v80 = load8(v79);
+    v8 = v74; v9 = 0u; v10 = 0u; v11 = v77; v12 = v80; goto L17;
+L17:;
     store8(a0, v8);
-    v80 = a0 + 1u * 1u;
-    store8(v80, v8);
-    v81 = a0 + 2u * 1u;
-    store8(v81, 0u);
-    v82 = a0 + 8u * 1u;
-    store8(v82, v11);
-    v83 = a0 + 9u * 1u;
-    store8(v83, v12);
-    v84 = a0 + 16u * 1u;
-    store_address(v84, v9);
-    v85 = a0 + 24u * 1u;
-    store64(v85, v10);
+    v81 = a0 + 1u * 1u;
+    store8(v81, v8);
+    v82 = a0 + 2u * 1u;
+    store8(v82, 0u);
+    v83 = a0 + 8u * 1u;
+    store8(v83, v11);
+    v84 = a0 + 9u * 1u;
+    store8(v84, v12);
+    v85 = a0 + 16u * 1u;
+    store_address(v85, v9);
+    v86 = a0 + 24u * 1u;
+    store64(v86, v10);
     goto L2;
 }
 
@@ -4110,30 +4125,148 @@ L13:;
 }
 
 static void f23(address a0, address a1, u16 a2, address a3, u64 a4, address a5, u64 a6) {
-    u8 v7, v20, v21, v27, v29, v32, v33, v35, v36, v37, v39, v41, v42, v45, v49, v51;
-    u8 v56, v57, v58, v60, v61, v66, v69, v72, v74, v76, v78, v80, v82, v83, v87, v89;
-    u8 v90, v91, v121, v123, v147, v150, v151, v152, v155, v156, v157, v166;
-    address v8, v9, v10, v11, v12, v13, v14, v15, v16, v17, v18, v19, v22, v23, v24, v26;
-    address v28, v30, v34, v38, v40, v43, v46, v48, v50, v59, v63, v67, v68, v71, v73, v75;
-    address v77, v79, v81, v86, v88, v92, v94, v112, v113, v114, v115, v116, v117, v118, v119, v120;
-    address v124, v125, v126, v128, v130, v132, v133, v134, v136, v137, v142, v144, v146, v148, v153, v154;
-    address v158, v159, v160, v161, v162, v163, v164, v167, v168;
-    u64 v25, v31, v44, v47, v62, v64, v70, v84, v85, v93, v95, v145, v149, v165;
-    u16 v52, v53, v54, v55, v65, v96, v97, v98, v99, v100, v101, v102, v103, v104, v105, v106;
-    u16 v107, v108, v109, v110, v111, v127, v129, v131, v135, v143;
-    u32 v122, v138, v139, v140, v141;
+    u8 v7, v10, v11, v15, v18, v19, v21, v22, v23, v25, v27, v28, v31, v35, v37, v42;
+    u8 v43, v44, v46, v47, v52, v55;
+    address v8, v9, v12, v13, v14, v16, v20, v24, v26, v29, v32, v34, v36, v45, v49, v53;
+    address v56, v57;
+    u64 v17, v30, v33, v48, v50, v54;
+    u16 v38, v39, v40, v41, v51;
+    u64 block0[12];
+    u64 block1[4];
+    v8 = ADDRESS(block0);
+    v9 = ADDRESS(block1);
+    memory_set(v8, 0u, 96u);
+    memory_set(v9, 0u, 32u);
+    f8(v9, a3, a4);
+    v10 = load8(v9);
+    v11 = v10 == 0u;
+    if (v11) { goto L1; }
+    else { goto L11; }
+L1:;
+    v12 = v9 + 8u * 1u;
+    v13 = load_address(v12);
+    v14 = v9 + 24u * 1u;
+    v15 = load8(v14);
+    v16 = a1 + 384u * 1u;
+    v17 = load64(v16);
+    v18 = load8(v13);
+    v19 = (u8)((u32)v18 >> (4u & 7u));
+    v20 = v13 + 5u * 1u;
+    v21 = load8(v20);
+    v22 = (u8)((u32)v19 | (u32)v21);
+    v23 = v22 == 0u;
+    if (v23) { goto L2; }
+    else { v7 = 1u; goto L13; }
+L2:;
+    v24 = v13 + 4u * 1u;
+    v25 = load8(v24);
+    v26 = a1 + 8u * 1u;
+    v27 = load8(v26);
+    v28 = v25 == v27;
+    if (v28) { goto L3; }
+    else { v7 = 1u; goto L13; }
+L3:;
+    v29 = v13 + 20u * 1u;
+    v30 = load64(v29);
+    v31 = v30 == v17;
+    if (v31) { v7 = 2u; goto L13; }
+    else { goto L4; }
+L4:;
+    v32 = v13 + 34u * 1u;
+    v33 = load64(v32);
+    v34 = v13 + 42u * 1u;
+    v35 = load8(v34);
+    v36 = v13 + 43u * 1u;
+    v37 = load8(v36);
+    v38 = (u16)v35;
+    v39 = (u16)((u32)v38 << (8u & 15u));
+    v40 = (u16)v37;
+    v41 = (u16)((u32)v39 | (u32)v40);
+    v42 = v33 == v17;
+    v43 = v33 == UINT64_C(18446744073709551615);
+    v44 = (u8)(((u32)v43 | (u32)v42) & UINT64_C(1));
+    if (v44) { goto L5; }
+    else { v7 = 3u; goto L13; }
+L5:;
+    switch (v41) {
+    case 65535u: goto L7;
+    case 0u: v7 = 3u; goto L13;
+    default: goto L6;
+    }
+L6:;
+    v45 = a1 + 240u * 1u;
+    v46 = load8(v45);
+    v47 = v46 == 0u;
+    v48 = v47 ? 376u : 256u;
+    v49 = a1 + v48 * 1u;
+    v50 = load64(v49);
+    v51 = (u16)(v50);
+    v52 = v41 > v51;
+    if (v52) { v7 = 3u; goto L13; }
+    else { goto L7; }
+L7:;
+    switch (v15) {
+    case 2u: v7 = 4u; goto L13;
+    case 4u: v7 = 4u; goto L13;
+    case 0u: goto L9;
+    case 1u: goto L9;
+    case 3u: goto L9;
+    default: goto L8;
+    }
+L8:;
+    UNREACHABLE;
+L9:;
+    if (v42) { goto L12; }
+    else { v7 = 9u; goto L13; }
+L10:;
+    memory_cpy(a0, v8, 96u);
+    return;
+L11:;
+    f44(v8, a1, a2, a3, a4, a5, a6);
+    goto L10;
+L12:;
+    f24(v8, a1, a2, v12, a5, a6);
+    goto L10;
+L13:;
+    v53 = v13 + 34u * 1u;
+    v54 = load64(v53);
+    v55 = v54 == v17;
+    if (v55) { goto L14; }
+    else { goto L15; }
+L14:;
+    store8(v8, v7);
+    v56 = v8 + 1u * 1u;
+    store8(v56, 0u);
+    v57 = v8 + 8u * 1u;
+    memory_set(v57, 0u, 84u);
+    goto L10;
+L15:;
+    f44(v8, a1, a2, a3, a4, a5, a6);
+    goto L10;
+}
+
+static void f24(address a0, address a1, u16 a2, address a3, address a4, u64 a5) {
+    address v6, v8, v9, v10, v11, v12, v13, v14, v15, v16, v17, v18, v19, v21, v22, v23;
+    address v24, v26, v28, v30, v32, v34, v36, v38, v40, v42, v47, v49, v51, v53, v55, v57;
+    address v75, v76, v77, v78, v79, v80, v81, v82, v83, v87, v88, v89, v91, v93, v95, v96;
+    address v97, v99, v100, v105, v107, v110, v112, v117, v118, v122, v123, v124, v125, v126, v127;
+    u64 v7, v20, v27, v45, v46, v56, v58, v108, v113;
+    u8 v25, v29, v31, v33, v35, v37, v39, v41, v43, v44, v48, v50, v52, v54, v84, v86;
+    u8 v109, v111, v114, v115, v116, v119, v120, v121;
+    u16 v59, v60, v61, v62, v63, v64, v65, v66, v67, v68, v69, v70, v71, v72, v73, v74;
+    u16 v90, v92, v94, v98, v106;
+    u32 v85, v101, v102, v103, v104;
     u64 block0[48];
     u64 block1[3];
     u64 block2[9];
     u64 block3[3];
-    u64 block4[1];
-    u64 block5[48];
-    u64 block6[159];
-    u64 block7[9];
-    u64 block8[48];
+    u64 block4[9];
+    u64 block5[1];
+    u64 block6[48];
+    u64 block7[48];
+    u64 block8[9];
     u64 block9[159];
-    u64 block10[12];
-    u64 block11[4];
+    u64 block10[159];
     v8 = ADDRESS(block0);
     v9 = ADDRESS(block1);
     v10 = ADDRESS(block2);
@@ -4145,272 +4278,180 @@ static void f23(address a0, address a1, u16 a2, address a3, u64 a4, address a5, 
     v16 = ADDRESS(block8);
     v17 = ADDRESS(block9);
     v18 = ADDRESS(block10);
-    v19 = ADDRESS(block11);
-    memory_set(v18, 0u, 96u);
-    memory_set(v19, 0u, 32u);
-    f8(v19, a3, a4);
-    v20 = load8(v19);
-    v21 = v20 == 0u;
-    if (v21) { goto L1; }
-    else { goto L11; }
-L1:;
-    v22 = v19 + 8u * 1u;
-    v23 = load_address(v22);
-    v24 = v19 + 16u * 1u;
-    v25 = load64(v24);
-    v26 = v19 + 24u * 1u;
-    v27 = load8(v26);
-    v28 = v19 + 25u * 1u;
-    v29 = load8(v28);
-    v30 = a1 + 384u * 1u;
-    v31 = load64(v30);
-    v32 = load8(v23);
-    v33 = (u8)((u32)v32 >> (4u & 7u));
-    v34 = v23 + 5u * 1u;
-    v35 = load8(v34);
-    v36 = (u8)((u32)v33 | (u32)v35);
-    v37 = v36 == 0u;
-    if (v37) { goto L2; }
-    else { v7 = 1u; goto L15; }
-L2:;
-    v38 = v23 + 4u * 1u;
-    v39 = load8(v38);
-    v40 = a1 + 8u * 1u;
-    v41 = load8(v40);
-    v42 = v39 == v41;
-    if (v42) { goto L3; }
-    else { v7 = 1u; goto L15; }
-L3:;
-    v43 = v23 + 20u * 1u;
-    v44 = load64(v43);
-    v45 = v44 == v31;
-    if (v45) { v7 = 2u; goto L15; }
-    else { goto L4; }
-L4:;
-    v46 = v23 + 34u * 1u;
-    v47 = load64(v46);
-    v48 = v23 + 42u * 1u;
-    v49 = load8(v48);
-    v50 = v23 + 43u * 1u;
-    v51 = load8(v50);
-    v52 = (u16)v49;
-    v53 = (u16)((u32)v52 << (8u & 15u));
-    v54 = (u16)v51;
-    v55 = (u16)((u32)v53 | (u32)v54);
-    v56 = v47 == v31;
-    v57 = v47 == UINT64_C(18446744073709551615);
-    v58 = (u8)(((u32)v57 | (u32)v56) & UINT64_C(1));
-    if (v58) { goto L5; }
-    else { v7 = 3u; goto L15; }
-L5:;
-    switch (v55) {
-    case 65535u: goto L7;
-    case 0u: v7 = 3u; goto L15;
-    default: goto L6;
-    }
-L6:;
-    v59 = a1 + 240u * 1u;
-    v60 = load8(v59);
-    v61 = v60 == 0u;
-    v62 = v61 ? 376u : 256u;
-    v63 = a1 + v62 * 1u;
-    v64 = load64(v63);
-    v65 = (u16)(v64);
-    v66 = v55 > v65;
-    if (v66) { v7 = 3u; goto L15; }
-    else { goto L7; }
-L7:;
-    switch (v27) {
-    case 2u: v7 = 4u; goto L15;
-    case 4u: v7 = 4u; goto L15;
-    case 0u: goto L9;
-    case 1u: goto L9;
-    case 3u: goto L9;
-    default: goto L8;
-    }
-L8:;
-    UNREACHABLE;
-L9:;
-    if (v56) { goto L12; }
-    else { v7 = 9u; goto L15; }
-L10:;
-    memory_cpy(a0, v18, 96u);
-    return;
-L11:;
-    f43(v18, a1, a2, a3, a4, a5, a6);
-    goto L10;
-L12:;
-    memory_set(v12, 0u, 6u);
-    memory_set(v15, 0u, 68u);
-    memory_set(v16, 0u, 384u);
+    memory_set(v13, 0u, 6u);
+    memory_set(v15, 0u, 384u);
+    memory_set(v16, 0u, 68u);
     memory_set(v17, 0u, 1272u);
-    f24(v16);
-    memory_cpy(v13, a1, 384u);
-    memory_cpy(a1, v16, 384u);
-    f31(v17, v13);
-    memory_cpy(v14, v17, 1272u);
-    store_address(v11, a5);
-    v67 = v11 + 8u * 1u;
-    store64(v67, a6);
-    v68 = v11 + 16u * 1u;
-    store64(v68, 0u);
-    v69 = load8(v38);
-    v70 = load64(v43);
-    v71 = v23 + 28u * 1u;
-    v72 = load8(v71);
-    v73 = v23 + 29u * 1u;
-    v74 = load8(v73);
-    v75 = v23 + 30u * 1u;
-    v76 = load8(v75);
-    v77 = v23 + 31u * 1u;
-    v78 = load8(v77);
-    v79 = v23 + 44u * 1u;
-    v80 = load8(v79);
-    v81 = v23 + 45u * 1u;
-    v82 = load8(v81);
-    v83 = v29 == 0u;
-    v84 = v83 ? 52u : 54u;
-    v85 = v83 ? 53u : 55u;
-    v86 = v23 + v84 * 1u;
-    v87 = load8(v86);
-    v88 = v23 + v85 * 1u;
-    v89 = load8(v88);
-    v90 = load8(v48);
-    v91 = load8(v50);
-    v92 = v23 + 54u * 1u;
-    v93 = (u64)((u64)v25 + (u64)UINT64_C(18446744073709551562));
-    v94 = v83 ? v92 : ADDRESS(c148);
-    v95 = v83 ? v93 : 0u;
-    v96 = (u16)v76;
-    v97 = (u16)((u32)v96 << (8u & 15u));
-    v98 = (u16)v78;
-    v99 = (u16)((u32)v97 | (u32)v98);
-    v100 = (u16)v72;
-    v101 = (u16)((u32)v100 << (8u & 15u));
-    v102 = (u16)v74;
-    v103 = (u16)((u32)v101 | (u32)v102);
-    v104 = (u16)v90;
-    v105 = (u16)((u32)v104 << (8u & 15u));
-    v106 = (u16)v91;
-    v107 = (u16)((u32)v105 | (u32)v106);
-    v108 = (u16)v87;
-    v109 = (u16)((u32)v108 << (8u & 15u));
-    v110 = (u16)v89;
-    v111 = (u16)((u32)v109 | (u32)v110);
-    store8(v9, v27);
-    v112 = v9 + 1u * 1u;
-    store8(v112, 0u);
-    v113 = v9 + 2u * 1u;
-    store16(v113, v111);
-    v114 = v9 + 4u * 1u;
-    store16(v114, v107);
-    v115 = v9 + 6u * 1u;
-    store16(v115, 0u);
-    v116 = v9 + 8u * 1u;
-    store_address(v116, v94);
-    v117 = v9 + 16u * 1u;
-    store64(v117, v95);
-    v118 = v10 + 54u * 1u;
-    v119 = v10 + 56u * 1u;
-    v120 = v10 + 64u * 1u;
+    v19 = a1 + 384u * 1u;
+    v20 = load64(v19);
+    f25(v15);
+    memory_cpy(v14, a1, 384u);
+    memory_cpy(a1, v15, 384u);
+    f32(v17, v14);
+    memory_cpy(v18, v17, 1272u);
+    memory_set(v12, 0u, 68u);
+    store_address(v11, a4);
+    v21 = v11 + 8u * 1u;
+    store64(v21, a5);
+    v22 = v11 + 16u * 1u;
+    store64(v22, 0u);
+    v23 = load_address(a3);
+    v24 = v23 + 4u * 1u;
+    v25 = load8(v24);
+    v26 = v23 + 20u * 1u;
+    v27 = load64(v26);
+    v28 = v23 + 28u * 1u;
+    v29 = load8(v28);
+    v30 = v23 + 29u * 1u;
+    v31 = load8(v30);
+    v32 = v23 + 30u * 1u;
+    v33 = load8(v32);
+    v34 = v23 + 31u * 1u;
+    v35 = load8(v34);
+    v36 = v23 + 44u * 1u;
+    v37 = load8(v36);
+    v38 = v23 + 45u * 1u;
+    v39 = load8(v38);
+    v40 = a3 + 16u * 1u;
+    v41 = load8(v40);
+    v42 = a3 + 17u * 1u;
+    v43 = load8(v42);
+    v44 = v43 == 0u;
+    v45 = v44 ? 52u : 54u;
+    v46 = v44 ? 53u : 55u;
+    v47 = v23 + v45 * 1u;
+    v48 = load8(v47);
+    v49 = v23 + v46 * 1u;
+    v50 = load8(v49);
+    v51 = v23 + 42u * 1u;
+    v52 = load8(v51);
+    v53 = v23 + 43u * 1u;
+    v54 = load8(v53);
+    if (v44) { goto L1; }
+    else { v6 = ADDRESS(c148); v7 = 0u; goto L2; }
+L1:;
+    v55 = a3 + 8u * 1u;
+    v56 = load64(v55);
+    v57 = v23 + 54u * 1u;
+    v58 = (u64)((u64)v56 + (u64)UINT64_C(18446744073709551562));
+    v6 = v57; v7 = v58; goto L2;
+L2:;
+    v59 = (u16)v33;
+    v60 = (u16)((u32)v59 << (8u & 15u));
+    v61 = (u16)v35;
+    v62 = (u16)((u32)v60 | (u32)v61);
+    v63 = (u16)v29;
+    v64 = (u16)((u32)v63 << (8u & 15u));
+    v65 = (u16)v31;
+    v66 = (u16)((u32)v64 | (u32)v65);
+    v67 = (u16)v52;
+    v68 = (u16)((u32)v67 << (8u & 15u));
+    v69 = (u16)v54;
+    v70 = (u16)((u32)v68 | (u32)v69);
+    v71 = (u16)v48;
+    v72 = (u16)((u32)v71 << (8u & 15u));
+    v73 = (u16)v50;
+    v74 = (u16)((u32)v72 | (u32)v73);
+    store8(v9, v41);
+    v75 = v9 + 1u * 1u;
+    store8(v75, 0u);
+    v76 = v9 + 2u * 1u;
+    store16(v76, v74);
+    v77 = v9 + 4u * 1u;
+    store16(v77, v70);
+    v78 = v9 + 6u * 1u;
+    store16(v78, 0u);
+    v79 = v9 + 8u * 1u;
+    store_address(v79, v6);
+    v80 = v9 + 16u * 1u;
+    store64(v80, v7);
+    v81 = v10 + 54u * 1u;
+    v82 = v10 + 56u * 1u;
+    v83 = v10 + 64u * 1u;
     memory_set(v10, 0u, 64u);
-    store_address(v120, v11);
-    v121 = v27 > 2u;
-    v122 = v121 ? UINT32_C(262144) : UINT32_C(131072);
-    v123 = v80 > v82 ? (u8)((u32)v80 - (u32)v82) : 0u;
-    store16(v118, v111);
-    store16(v119, a2);
-    v124 = v10 + 48u * 1u;
+    store_address(v83, v11);
+    v84 = v41 > 2u;
+    v85 = v84 ? UINT32_C(262144) : UINT32_C(131072);
+    v86 = v37 > v39 ? (u8)((u32)v37 - (u32)v39) : 0u;
+    store16(v81, v74);
+    store16(v82, a2);
+    v87 = v10 + 48u * 1u;
     store16(v10, 4621u);
-    v125 = v10 + 2u * 1u;
-    store16(v125, 13824u);
-    v126 = v10 + 4u * 1u;
-    v127 = (u16)v69;
-    store16(v126, v127);
-    v128 = v10 + 20u * 1u;
-    store64(v128, v31);
-    v129 = swap16(a2);
-    v130 = v10 + 28u * 1u;
-    store16(v130, v129);
-    v131 = swap16(v99);
-    v132 = v10 + 30u * 1u;
-    store16(v132, v131);
-    v133 = v10 + 32u * 1u;
-    store16(v133, 32516u);
-    v134 = v10 + 34u * 1u;
-    store64(v134, v70);
-    v135 = swap16(v103);
-    v136 = v10 + 42u * 1u;
-    store16(v136, v135);
-    v137 = v10 + 44u * 1u;
-    v138 = (u32)v123;
-    v139 = (u32)((u32)v138 << (8u & 31u));
-    v140 = (u32)((u32)v139 | (u32)v122);
-    v141 = (u32)((u32)v140 | (u32)v138);
-    store32(v137, v141);
-    store16(v124, 256u);
-    v142 = v10 + 50u * 1u;
-    store16(v142, 512u);
-    v143 = swap16(v111);
-    v144 = v10 + 52u * 1u;
-    store16(v144, v143);
-    f32(v13, v9, 7u, v10);
-    v145 = load64(v68);
-    f40(v15, v13, v14);
+    v88 = v10 + 2u * 1u;
+    store16(v88, 13824u);
+    v89 = v10 + 4u * 1u;
+    v90 = (u16)v25;
+    store16(v89, v90);
+    v91 = v10 + 20u * 1u;
+    store64(v91, v20);
+    v92 = swap16(a2);
+    v93 = v10 + 28u * 1u;
+    store16(v93, v92);
+    v94 = swap16(v62);
+    v95 = v10 + 30u * 1u;
+    store16(v95, v94);
+    v96 = v10 + 32u * 1u;
+    store16(v96, 32516u);
+    v97 = v10 + 34u * 1u;
+    store64(v97, v27);
+    v98 = swap16(v66);
+    v99 = v10 + 42u * 1u;
+    store16(v99, v98);
+    v100 = v10 + 44u * 1u;
+    v101 = (u32)v86;
+    v102 = (u32)((u32)v101 << (8u & 31u));
+    v103 = (u32)((u32)v85 | (u32)v102);
+    v104 = (u32)((u32)v103 | (u32)v101);
+    store32(v100, v104);
+    store16(v87, 256u);
+    v105 = v10 + 50u * 1u;
+    store16(v105, 512u);
+    v106 = swap16(v74);
+    v107 = v10 + 52u * 1u;
+    store16(v107, v106);
+    f33(v14, v9, 7u, v10);
+    v108 = load64(v22);
+    f41(v12, v14, v18);
+    memory_cpy(v16, v12, 68u);
     memory_cpy(v8, a1, 384u);
-    memory_cpy(a1, v13, 384u);
-    memory_cpy(v13, v8, 384u);
-    v146 = v13 + 240u * 1u;
-    v147 = load8(v146);
-    v148 = v13 + 264u * 1u;
-    v149 = load64(v148);
-    v150 = v147 != 1u;
-    v151 = v149 == 0u;
-    v152 = v150 ? 1u : v151;
-    if (v152) { goto L14; }
-    else { goto L13; }
-L13:;
-    v153 = v13 + 248u * 1u;
-    v154 = load_address(v153);
-    portable_rattle_dealloc(v154);
-    goto L14;
-L14:;
-    v155 = (u8)((u32)v27 & (u32)253u);
-    v156 = v155 == 1u;
-    v157 = v156 ? 5u : 9u;
-    store8(v18, v157);
-    v158 = v18 + 1u * 1u;
-    store8(v158, 0u);
-    v159 = v18 + 2u * 1u;
-    memory_cpy(v159, v12, 6u);
-    v160 = v18 + 8u * 1u;
-    store64(v160, v145);
-    v161 = v18 + 16u * 1u;
-    store64(v161, 0u);
-    v162 = v18 + 24u * 1u;
-    memory_cpy(v162, v15, 68u);
-    v163 = v18 + 92u * 1u;
-    store32(v163, 0u);
-    goto L10;
-L15:;
-    v164 = v23 + 34u * 1u;
-    v165 = load64(v164);
-    v166 = v165 == v31;
-    if (v166) { goto L16; }
-    else { goto L17; }
-L16:;
-    store8(v18, v7);
-    v167 = v18 + 1u * 1u;
-    store8(v167, 0u);
-    v168 = v18 + 8u * 1u;
-    memory_set(v168, 0u, 84u);
-    goto L10;
-L17:;
-    f43(v18, a1, a2, a3, a4, a5, a6);
-    goto L10;
+    memory_cpy(a1, v14, 384u);
+    memory_cpy(v14, v8, 384u);
+    v109 = load8(v40);
+    v110 = v14 + 240u * 1u;
+    v111 = load8(v110);
+    v112 = v14 + 264u * 1u;
+    v113 = load64(v112);
+    v114 = v111 != 1u;
+    v115 = v113 == 0u;
+    v116 = v114 ? 1u : v115;
+    if (v116) { goto L4; }
+    else { goto L3; }
+L3:;
+    v117 = v14 + 248u * 1u;
+    v118 = load_address(v117);
+    portable_rattle_dealloc(v118);
+    goto L4;
+L4:;
+    v119 = (u8)((u32)v109 & (u32)253u);
+    v120 = v119 == 1u;
+    v121 = v120 ? 5u : 9u;
+    store8(a0, v121);
+    v122 = a0 + 1u * 1u;
+    store8(v122, 0u);
+    v123 = a0 + 2u * 1u;
+    memory_cpy(v123, v13, 6u);
+    v124 = a0 + 8u * 1u;
+    store64(v124, v108);
+    v125 = a0 + 16u * 1u;
+    store64(v125, 0u);
+    v126 = a0 + 24u * 1u;
+    memory_cpy(v126, v16, 68u);
+    v127 = a0 + 92u * 1u;
+    store32(v127, 0u);
+    return;
 }
 
-static void f24(address a0) {
+static void f25(address a0) {
     address v1, v2, v3, v4, v5, v6, v7, v8, v9, v10, v11, v12, v13, v14, v15, v16;
     address v17, v18, v19, v20, v21, v22, v23, v24, v25, v28;
     u8 v26, v27;
@@ -4467,7 +4508,7 @@ static void f24(address a0) {
     store8(v24, 1u);
     v25 = v3 + 20u * 1u;
     store32(v25, 0u);
-    f25(v2, v1, v3, 1u);
+    f26(v2, v1, v3, 1u);
     v26 = load8(v2);
     v27 = v26 == 0u;
     if (v27) { goto L1; }
@@ -4481,7 +4522,7 @@ L2:;
     UNREACHABLE;
 }
 
-static void f25(address a0, address a1, address a2, u64 a3) {
+static void f26(address a0, address a1, address a2, u64 a3) {
     u64 v4, v15, v32, v33, v34, v35, v38, v41, v42, v45, v51, v53, v70, v72;
     address v5, v6, v7, v8, v9, v10, v11, v14, v16, v18, v20, v22, v24, v26, v28, v30;
     address v31, v37, v39, v40, v47, v48, v50, v52, v54, v56, v57, v58, v60, v61, v63, v65;
@@ -4513,7 +4554,7 @@ static void f25(address a0, address a1, address a2, u64 a3) {
     memory_set(v9, 0u, 144u);
     memory_set(v10, 0u, 10u);
     memory_set(v11, 0u, 150u);
-    f26(v8, a1, a2, a3);
+    f27(v8, a1, a2, a3);
     v12 = load8(v8);
     v13 = v12 == 0u;
     if (v13) { goto L1; }
@@ -4547,7 +4588,7 @@ L1:;
     else { goto L2; }
 L2:;
     v37 = v7 + 136u * 1u;
-    f30(v7, v35);
+    f31(v7, v35);
     v38 = load64(v37);
     v4 = v38; goto L3;
 L3:;
@@ -4757,7 +4798,7 @@ L9:;
     goto L8;
 }
 
-static void f26(address a0, address a1, address a2, u64 a3) {
+static void f27(address a0, address a1, address a2, u64 a3) {
     address v4, v6, v8, v9, v10, v11, v12, v16, v17, v18, v19, v20, v23, v24, v29, v44;
     address v45, v46, v47, v48, v49, v50, v51, v52, v53, v54, v55, v56, v57, v58, v59, v60;
     address v61, v62, v63, v64, v65, v66, v67, v68, v69, v70, v71, v72, v73, v74, v75, v76;
@@ -4811,7 +4852,7 @@ L2:;
     else { goto L3; }
 L3:;
     memory_set(v10, 0u, 24u);
-    f27(v10, v19, v25);
+    f28(v10, v19, v25);
     v27 = load8(v10);
     v28 = v27 == 0u;
     if (v28) { goto L4; }
@@ -5014,7 +5055,7 @@ L13:;
     v120 = (u64)((u64)v7 * (u64)24u);
     v121 = a2 + v120 * 1u;
     store32(v8, 0u);
-    f29(v8, v121);
+    f30(v8, v121);
     v122 = load8(v8);
     v123 = v122 == 0u;
     if (v123) { goto L14; }
@@ -5175,7 +5216,7 @@ L20:;
     goto L10;
 }
 
-static void f27(address a0, address a1, u64 a2) {
+static void f28(address a0, address a1, u64 a2) {
     u64 v3, v4, v5, v6, v7, v8, v9, v10, v11, v12, v13, v14, v15, v17, v21, v33;
     u64 v43, v57, v58, v59, v60, v61, v62, v63, v64, v65, v66, v67, v68, v69, v70, v71;
     u64 v72, v73, v74, v75, v76, v77, v78, v79, v81, v82, v83, v84, v85, v87, v105, v106;
@@ -5469,7 +5510,7 @@ L11:;
     else { v7 = v6; goto L13; }
 L12:;
     v246 = (u64)((u64)v6 + (u64)32u);
-    v247 = f28(v18, v246, a2);
+    v247 = f29(v18, v246, a2);
     v248 = (u64)((u64)a2 - (u64)v247);
     v249 = v248 > 31u;
     if (v249) { v6 = v247; goto L11; }
@@ -5723,7 +5764,7 @@ L45:;
     v13 = 0u; v14 = v403; v15 = a2; goto L36;
 }
 
-static u64 f28(address a0, u64 a1, u64 a2) {
+static u64 f29(address a0, u64 a1, u64 a2) {
     u64 v3, v4, v5, v24, v25, v26, v27, v28, v29, v30, v31, v32, v33, v34, v35, v36;
     u64 v37, v38, v55, v56, v57, v58, v59, v60, v61, v62, v63, v64, v65, v66, v67, v68;
     u64 v69, v86, v87, v88, v89, v90, v91, v92, v93, v94, v95, v96, v97, v98, v99, v100;
@@ -6079,7 +6120,7 @@ L4:;
     return v4;
 }
 
-static void f29(address a0, address a1) {
+static void f30(address a0, address a1) {
     address v2, v7, v12, v13, v14, v15, v16, v17, v18, v19, v20, v21, v22, v23, v24, v25;
     address v26, v27, v28, v29, v30, v31, v32, v33, v34, v37, v48, v64, v66, v67, v68;
     u64 v3, v35, v47;
@@ -6259,7 +6300,7 @@ L17:;
     return;
 }
 
-static void f30(address a0, u64 a1) {
+static void f31(address a0, u64 a1) {
     u64 v2, v3, v5, v8, v9, v10, v13, v14, v19;
     address v4, v7, v12, v16, v17;
     u8 v6, v11, v15, v18, v20;
@@ -6306,7 +6347,7 @@ L7:;
     return;
 }
 
-static void f31(address a0, address a1) {
+static void f32(address a0, address a1) {
     u64 v2, v3, v5, v6, v7, v15, v25, v33, v35, v36, v37, v38, v40, v43, v47, v51;
     u64 v52, v53, v54, v56, v59, v60, v63;
     address v4, v8, v9, v10, v11, v12, v13, v14, v16, v17, v18, v19, v20, v21, v22, v23;
@@ -6411,7 +6452,7 @@ L10:;
     v53 = (u64)((u64)v52 & (u64)1u);
     v54 = (u64)((u64)v53 + (u64)v52);
     v55 = v9 + 136u * 1u;
-    f30(v9, v54);
+    f31(v9, v54);
     v56 = load64(v55);
     v57 = v9 + 1u * 1u;
     v58 = v57 + v7 * 1u;
@@ -6457,7 +6498,7 @@ L14:;
     return;
 }
 
-static void f32(address a0, address a1, u8 a2, address a3) {
+static void f33(address a0, address a1, u8 a2, address a3) {
     address v4, v27, v28, v29, v30, v31, v33, v34, v35, v36, v37, v38, v39, v40, v50, v51;
     address v52, v78, v79, v80, v82, v83, v85, v86, v90, v92, v93, v96, v97, v98, v103, v104;
     address v106, v107, v108, v109, v112, v113, v114, v119, v120, v124, v126, v127, v130, v132, v133, v135;
@@ -6726,7 +6767,7 @@ L48:;
     store8(v79, v17);
     v80 = v27 + 3u * 1u;
     store8(v80, v18);
-    v81 = f34(v27, v51, v53);
+    v81 = f35(v27, v51, v53);
     if (v81) { goto L51; }
     else { v19 = 3u; goto L49; }
 L49:;
@@ -6735,7 +6776,7 @@ L49:;
 L50:;
     goto L51;
 L51:;
-    f35(a0, v12, v13, a1);
+    f36(a0, v12, v13, a1);
     if (v8) { goto L53; }
     else { v25 = 0u; v26 = 0u; goto L68; }
 L52:;
@@ -6759,7 +6800,7 @@ L52:;
     v97 = v96 + 2u * 1u;
     store16(v97, 60u);
     v98 = v96 + 4u * 1u;
-    f33(a3, v84, v89, v91, v98);
+    f34(a3, v84, v89, v91, v98);
     v99 = load64(v93);
     v100 = (u64)((u64)v99 + (u64)1u);
     store64(v93, v100);
@@ -6896,10 +6937,10 @@ L66:;
     store64(v138, v160);
     goto L69;
 L67:;
-    f37(a0, v12, a3);
+    f38(a0, v12, a3);
     goto L69;
 L68:;
-    f39(a0, v29, a1, v26, v25, a3);
+    f40(a0, v29, a1, v26, v25, a3);
     goto L69;
 L69:;
     return;
@@ -6921,14 +6962,14 @@ L70:;
     v173 = v172 + 2u * 1u;
     store16(v173, 60u);
     v174 = v172 + 4u * 1u;
-    f33(a3, v163, 2u, v167, v174);
+    f34(a3, v163, 2u, v167, v174);
     v175 = load64(v169);
     v176 = (u64)((u64)v175 + (u64)1u);
     store64(v169, v176);
     goto L69;
 }
 
-static void f33(address a0, u16 a1, u16 a2, u16 a3, address a4) {
+static void f34(address a0, u16 a1, u16 a2, u16 a3, address a4) {
     u64 v5, v7, v8, v9, v14, v16, v17;
     address v6, v11, v12, v19, v20, v21, v23, v25, v26, v28;
     u8 v10, v13, v15, v18;
@@ -6985,7 +7026,7 @@ L6:;
     return;
 }
 
-static u8 f34(address a0, address a1, u64 a2) {
+static u8 f35(address a0, address a1, u64 a2) {
     address v3, v6, v8, v10, v12, v15, v29;
     u64 v4, v17;
     u8 v5, v7, v9, v11, v13, v14, v16, v18, v19, v20, v21, v25, v27, v28, v30, v31;
@@ -7027,7 +7068,7 @@ L3:;
     else { v3 = v15; v4 = v17; goto L4; }
 L4:;
     memory_set(v6, 0u, 24u);
-    f27(v6, v3, v4);
+    f28(v6, v3, v4);
     v19 = load8(v6);
     v20 = v19 == 0u;
     v5 = v20; goto L13;
@@ -7086,7 +7127,7 @@ L14:;
     UNREACHABLE;
 }
 
-static void f35(address a0, u8 a1, u8 a2, address a3) {
+static void f36(address a0, u8 a1, u8 a2, address a3) {
     u64 v4, v6, v7, v18, v22, v24, v25, v26, v28, v30, v33, v34, v36, v37, v38, v43;
     u64 v46, v51, v52, v58, v59, v65, v66;
     address v5, v8, v9, v10, v11, v13, v15, v16, v17, v20, v23, v27, v31, v32, v40, v41;
@@ -7157,7 +7198,7 @@ L4:;
     if (v29) { v6 = v26; goto L6; }
     else { goto L5; }
 L5:;
-    f30(v23, v26);
+    f31(v23, v26);
     v30 = load64(v27);
     v6 = v30; goto L6;
 L6:;
@@ -7285,7 +7326,7 @@ L24:;
     store8(v91, a2);
     v92 = v11 + 2u * 1u;
     store8(v92, v90);
-    f36(a0, v14, v11);
+    f37(a0, v14, v11);
     goto L26;
 L25:;
     UNREACHABLE;
@@ -7325,7 +7366,7 @@ L29:;
     store8(v10, 2u);
     v8 = v10; goto L30;
 L30:;
-    f36(a0, v94, v8);
+    f37(a0, v94, v8);
     goto L32;
 L31:;
     UNREACHABLE;
@@ -7337,7 +7378,7 @@ L34:;
     UNREACHABLE;
 }
 
-static void f36(address a0, u16 a1, address a2) {
+static void f37(address a0, u16 a1, address a2) {
     u64 v3, v4, v15, v18, v19, v27, v29, v30, v33, v41, v44, v45, v53, v55, v56, v59;
     u8 v5, v7, v9, v11, v12, v16, v17, v24, v25, v28, v36, v37, v42, v43, v50, v51;
     u8 v54, v62, v63;
@@ -7515,7 +7556,7 @@ L33:;
     return;
 }
 
-static void f37(address a0, u8 a1, address a2) {
+static void f38(address a0, u8 a1, address a2) {
     u64 v3, v4, v5, v6, v11, v19, v20, v27, v28, v29, v34, v36, v37, v38, v43, v52;
     u64 v53, v55, v63, v64, v71, v72, v73, v78, v80, v81, v82, v87, v96, v97;
     address v7, v9, v10, v12, v13, v15, v16, v17, v18, v21, v24, v25, v26, v31, v32, v40;
@@ -7604,7 +7645,7 @@ L7:;
     goto L15;
 L8:;
     memory_set(v7, 0u, 144u);
-    f38(a0, a1, v7);
+    f39(a0, a1, v7);
     v54 = v7 + 136u * 1u;
     v55 = load64(v54);
     v56 = a2 + 58u * 1u;
@@ -7681,7 +7722,7 @@ L15:;
     return;
 }
 
-static void f38(address a0, u8 a1, address a2) {
+static void f39(address a0, u8 a1, address a2) {
     u64 v3, v5, v6, v7, v8, v9, v10, v11, v12, v13, v14, v15, v19, v20, v24, v27;
     u64 v29, v30, v33, v34, v35, v40, v42, v46, v48, v51, v52, v58, v59, v63, v64, v75;
     u64 v76, v82, v87, v88, v91, v92, v93, v117, v118, v119, v125, v127, v128, v134, v135, v138;
@@ -8295,7 +8336,7 @@ L62:;
     UNREACHABLE;
 }
 
-static void f39(address a0, address a1, address a2, u8 a3, u8 a4, address a5) {
+static void f40(address a0, address a1, address a2, u8 a3, u8 a4, address a5) {
     u16 v6, v7, v21, v29, v30, v48, v50, v51, v59, v64, v82, v83, v100, v101, v107, v108;
     u16 v109, v110, v114, v138, v139, v144, v162, v163, v182, v200, v202, v203, v208, v226, v227;
     u64 v8, v9, v10, v12, v13, v14, v17, v18, v26, v28, v40, v42, v43, v44, v54, v55;
@@ -8346,7 +8387,7 @@ L3:;
     v42 = (u64)v7;
     v43 = (u64)v30;
     v44 = (u64)a4;
-    v45 = ADDRESS(c372) + v44 * 2u;
+    v45 = ADDRESS(c373) + v44 * 2u;
     v8 = v42; goto L4;
 L4:;
     v46 = load8(v32);
@@ -8369,7 +8410,7 @@ L5:;
     store16(v57, 60u);
     v58 = v56 + 4u * 1u;
     v59 = (u16)(v8);
-    f33(a5, v59, v50, v51, v58);
+    f34(a5, v59, v50, v51, v58);
     v60 = load64(v53);
     v61 = (u64)((u64)v60 + (u64)1u);
     store64(v53, v61);
@@ -8711,7 +8752,7 @@ L41:;
     return;
 }
 
-static void f40(address a0, address a1, address a2) {
+static void f41(address a0, address a1, address a2) {
     u64 v3, v4, v7, v9, v11, v12, v16, v22, v24, v27, v33, v34, v36, v40, v54, v55;
     u64 v107, v108, v119, v123, v126, v130, v160, v208, v209, v214, v215, v219, v220, v277, v278, v359;
     u64 v364;
@@ -8941,7 +8982,7 @@ L19:;
     v162 = v12 >= v7;
     v13 = v162; goto L21;
 L20:;
-    v163 = f42(v8, v7, v10, v7);
+    v163 = f43(v8, v7, v10, v7);
     v13 = v163; goto L21;
 L21:;
     v164 = (u8)(((u32)v13 ^ (u32)1u) & UINT64_C(1));
@@ -9192,7 +9233,7 @@ L25:;
     return;
 }
 
-static u8 f41(address a0, u64 a1) {
+static u8 f42(address a0, u64 a1) {
     address v2, v3, v4, v7, v8, v11, v12, v15, v16, v19, v20, v23, v24, v27, v28, v31;
     address v32, v37, v38, v42, v43, v47, v48, v52, v53, v57, v58, v62, v63, v67, v68, v72;
     address v73, v77, v78, v82, v83, v87, v88, v92, v93, v97, v98, v102, v103, v107, v108, v112;
@@ -9427,7 +9468,7 @@ static u8 f41(address a0, u64 a1) {
     return v217;
 }
 
-static u8 f42(address a0, u64 a1, address a2, u64 a3) {
+static u8 f43(address a0, u64 a1, address a2, u64 a3) {
     u8 v4, v6, v9, v13, v15, v17, v22, v23, v24, v27, v28, v31, v32, v35, v36, v40;
     u8 v41, v42, v46, v47, v48, v49, v53, v54, v55, v56, v60, v61, v62, v63, v64, v65;
     u8 v66, v67, v68, v69, v70, v71, v72, v73, v74, v78, v79, v80, v81, v83, v88, v89;
@@ -9505,7 +9546,7 @@ L2:;
     if (v72) { goto L3; }
     else { goto L4; }
 L3:;
-    v73 = f41(v18, a1);
+    v73 = f42(v18, a1);
     v17 = v73; goto L22;
 L4:;
     v74 = a1 < 65u;
@@ -9619,7 +9660,7 @@ L22:;
     return v133;
 }
 
-static void f43(address a0, address a1, u16 a2, address a3, u64 a4, address a5, u64 a6) {
+static void f44(address a0, address a1, u16 a2, address a3, u64 a4, address a5, u64 a6) {
     u32 v7, v20, v138;
     u16 v8, v56, v57, v58, v59, v66, v67, v68, v78, v79, v80, v81, v91, v95, v101, v102;
     u16 v103, v104, v120, v121, v122, v123, v152, v173, v184;
@@ -9691,7 +9732,7 @@ L2:;
     if (v48) { goto L5; }
     else { goto L3; }
 L3:;
-    v49 = f44(a1, v26);
+    v49 = f45(a1, v26);
     if (v49) { goto L4; }
     else { v18 = 1u; goto L41; }
 L4:;
@@ -9817,7 +9858,7 @@ L13:;
     store_address(v128, v118);
     v129 = v25 + 16u * 1u;
     store64(v129, v119);
-    v130 = f46(v69, v24, v104, v25);
+    v130 = f47(v69, v24, v104, v25);
     v131 = v130.m0;
     v132 = v130.m1;
     switch (v131) {
@@ -9846,11 +9887,11 @@ L18:;
     if (v137) { goto L19; }
     else { goto L20; }
 L19:;
-    f48(a1, a2, v36, v132, v30);
+    f49(a1, a2, v36, v132, v30);
     memory_set(v22, 0u, 68u);
     v7 = 0u; goto L21;
 L20:;
-    f47(v22, a1, a2, v36, v132, v30);
+    f48(v22, a1, a2, v36, v132, v30);
     v138 = load32(v22);
     v7 = v138; goto L21;
 L21:;
@@ -9954,7 +9995,7 @@ L36:;
     memory_move(v186, v15, 80u);
     goto L38;
 L37:;
-    f50(v186, v15, v179);
+    f51(v186, v15, v179);
     goto L38;
 L38:;
     v187 = v183 + 8u * 1u;
@@ -9979,7 +10020,7 @@ L40:;
     if (v194) { v19 = 6u; goto L42; }
     else { v14 = v193; v15 = v180; v16 = v177; v17 = v176; goto L33; }
 L41:;
-    f55(a1, v18, a2, a3, v36, v30);
+    f57(a1, v18, a2, a3, v36, v30);
     v195 = (u64)v18;
     v19 = v195; goto L42;
 L42:;
@@ -10002,7 +10043,7 @@ L43:;
     return;
 }
 
-static u8 f44(address a0, address a1) {
+static u8 f45(address a0, address a1) {
     address v2, v6, v7, v8, v9, v11, v13, v18, v21, v23, v25, v34, v38, v42, v45, v46;
     address v48, v54, v59, v61, v63, v65, v71, v72, v73, v74, v75, v76;
     u64 v3, v10, v19, v22, v37, v39, v57, v58, v64, v66;
@@ -10127,7 +10168,7 @@ L9:;
     store_address(v75, v2);
     v76 = v7 + 16u * 1u;
     store64(v76, v3);
-    v77 = f46(v18, v6, v53, v7);
+    v77 = f47(v18, v6, v53, v7);
     v78 = v77.m0;
     v79 = v78 == 2u;
     v4 = v79; goto L10;
@@ -10137,7 +10178,7 @@ L11:;
     return v5;
 }
 
-static u8 f45(address a0, address a1) {
+static u8 f46(address a0, address a1) {
     u8 v2, v7, v9, v16, v17, v18, v20, v21, v26;
     address v3, v4, v6, v8, v14, v19, v23;
     u64 v5, v15, v22, v24;
@@ -10182,7 +10223,7 @@ L4:;
     return v2;
 }
 
-static struct s1 f46(address a0, address a1, u16 a2, address a3) {
+static struct s1 f47(address a0, address a1, u16 a2, address a3) {
     address v4, v10, v13, v14, v15, v17, v19, v22, v27, v30, v32, v34, v36, v43, v47, v50;
     address v53, v54, v55, v62, v63, v68, v69, v74, v75, v81, v82, v90;
     u64 v5, v6, v11, v18, v23, v24, v37, v56, v86;
@@ -10320,7 +10361,7 @@ L15:;
     if (v87) { goto L18; }
     else { v6 = v86; goto L14; }
 L16:;
-    v88 = f42(v4, v37, v54, v37);
+    v88 = f43(v4, v37, v54, v37);
     if (v88) { goto L18; }
     else { v7 = 3u; goto L21; }
 L17:;
@@ -10345,7 +10386,7 @@ L22:;
     return v93;
 }
 
-static void f47(address a0, address a1, u16 a2, address a3, u8 a4, address a5) {
+static void f48(address a0, address a1, u16 a2, address a3, u8 a4, address a5) {
     address v6, v7, v8;
     u64 block0[9];
     u64 block1[159];
@@ -10355,15 +10396,15 @@ static void f47(address a0, address a1, u16 a2, address a3, u8 a4, address a5) {
     v8 = ADDRESS(block2);
     memory_set(v6, 0u, 68u);
     memory_set(v8, 0u, 1272u);
-    f31(v8, a1);
+    f32(v8, a1);
     memory_cpy(v7, v8, 1272u);
-    f48(a1, a2, a3, a4, a5);
-    f40(v6, a1, v7);
+    f49(a1, a2, a3, a4, a5);
+    f41(v6, a1, v7);
     memory_cpy(a0, v6, 68u);
     return;
 }
 
-static void f48(address a0, u16 a1, address a2, u8 a3, address a4) {
+static void f49(address a0, u16 a1, address a2, u8 a3, address a4) {
     address v5, v7, v11, v12, v13, v14, v15, v17, v19, v21, v27, v29, v35, v37, v39, v41;
     address v46, v48, v50, v52, v54, v56, v66, v67, v68, v69, v70, v71, v72, v73, v74, v75;
     address v76, v81, v82, v83, v84, v86, v88, v90, v91, v92, v100, v101, v107, v109, v111, v112;
@@ -10511,7 +10552,7 @@ L2:;
     v108 = swap16(v65);
     v109 = v13 + 52u * 1u;
     store16(v109, v108);
-    f32(a0, v12, a3, v13);
+    f33(a0, v12, a3, v13);
     v110 = load8(v74);
     v111 = a0 + 392u * 1u;
     v112 = load_address(v111);
@@ -10583,7 +10624,7 @@ L10:;
     if (v147) { goto L12; }
     else { v10 = v146; goto L10; }
 L11:;
-    f49(v127, v5, v6);
+    f50(v127, v5, v6);
     goto L12;
 L12:;
     v148 = v127 + 2129u * 1u;
@@ -10634,10 +10675,10 @@ L18:;
     memory_move(v162, v157, 80u);
     goto L34;
 L19:;
-    f50(v162, v157, v156);
+    f51(v162, v157, v156);
     goto L34;
 L20:;
-    f51(v162, v157, v156);
+    f52(v162, v157, v156);
     goto L34;
 L21:;
     v167 = v127 + 1464u * 1u;
@@ -10654,7 +10695,7 @@ L22:;
     store64(v170, 0u);
     goto L23;
 L23:;
-    f52(v167, v157, v156);
+    f53(v167, v157, v156);
     goto L34;
 L24:;
     v173 = load8(v149);
@@ -10702,13 +10743,13 @@ L32:;
     store64(v186, 0u);
     goto L33;
 L33:;
-    f53(a4, v149);
+    f55(a4, v149);
     goto L34;
 L34:;
     return;
 }
 
-static void f49(address a0, address a1, u64 a2) {
+static void f50(address a0, address a1, u64 a2) {
     u64 v3, v4, v5, v7, v10, v12, v14, v15, v16, v21, v24, v25, v28, v29, v30, v35;
     u64 v37;
     address v6, v9, v11, v18, v19, v27, v32, v33;
@@ -10787,7 +10828,7 @@ L12:;
     return;
 }
 
-static void f50(address a0, address a1, u64 a2) {
+static void f51(address a0, address a1, u64 a2) {
     u64 v3, v4, v5, v6, v11;
     u8 v7, v10, v12;
     address v8, v9;
@@ -10813,7 +10854,7 @@ L3:;
     return;
 }
 
-static void f51(address a0, address a1, u64 a2) {
+static void f52(address a0, address a1, u64 a2) {
     u64 v3, v4, v5, v7, v10, v12, v14, v15, v16, v21, v24, v25, v28, v29, v30, v35;
     u64 v37;
     address v6, v9, v11, v18, v19, v27, v32, v33;
@@ -10892,34 +10933,226 @@ L12:;
     return;
 }
 
-static void f52(address a0, address a1, u64 a2) {
-    u64 v3, v4, v7, v12, v13;
-    u8 v5, v9, v14;
-    address v6, v8, v10, v11;
-    v5 = a2 == 0u;
-    if (v5) { goto L3; }
-    else { goto L1; }
+static void f53(address a0, address a1, u64 a2) {
+    u64 v3, v4, v5, v6, v7, v8, v9, v10, v11, v12, v13, v14, v16, v17, v19, v21;
+    u64 v22, v25, v26, v27, v30, v31, v32, v37, v41, v42, v43, v46, v47, v48, v53, v57;
+    u64 v58, v59, v62, v63, v64, v69, v73, v74, v75, v78, v79, v80, v85;
+    address v15, v18, v20, v28, v29, v34, v35, v44, v45, v50, v51, v60, v61, v66, v67, v76;
+    address v77, v82, v83;
+    u8 v23, v24, v33, v36, v38, v39, v40, v49, v52, v54, v55, v56, v65, v68, v70, v71;
+    u8 v72, v81, v84, v86;
+    v18 = a0 + 16u * 1u;
+    v19 = load64(v18);
+    v20 = a0 + 8u * 1u;
+    v21 = load64(v20);
+    v22 = (u64)((u64)v19 - (u64)v21);
+    switch (a2) {
+    case 54u: goto L1;
+    case 56u: goto L7;
+    case 80u: goto L13;
+    default: goto L19;
+    }
 L1:;
-    v6 = a0 + 8u * 1u;
-    v7 = load64(v6);
-    v3 = v7; v4 = 0u; goto L2;
+    v23 = v22 < 54u;
+    if (v23) { goto L2; }
+    else { v3 = v19; v4 = v21; goto L4; }
 L2:;
-    v8 = a1 + v4 * 1u;
-    v9 = load8(v8);
-    v10 = load_address(a0);
-    v11 = v10 + v3 * 1u;
-    store8(v11, v9);
-    v12 = (u64)((u64)v3 + (u64)1u);
-    store64(v6, v12);
-    v13 = (u64)((u64)v4 + (u64)1u);
-    v14 = v13 == a2;
-    if (v14) { goto L3; }
-    else { v3 = v12; v4 = v13; goto L2; }
+    v24 = f54(a0, 54u);
+    if (v24) { goto L3; }
+    else { goto L26; }
 L3:;
+    v25 = load64(v20);
+    v26 = load64(v18);
+    v3 = v26; v4 = v25; goto L4;
+L4:;
+    v27 = (u64)((u64)v4 + (u64)54u);
+    v28 = load_address(a0);
+    memory_set(v20, 0u, 16u);
+    v29 = v28 + v4 * 1u;
+    v30 = (u64)v29;
+    v31 = (u64)a1;
+    v32 = (u64)((u64)v30 - (u64)v31);
+    v33 = v32 < 54u;
+    if (v33) { v5 = 0u; goto L6; }
+    else { goto L5; }
+L5:;
+    memory_move(v29, a1, 54u);
+    v15 = v28; v16 = v27; v17 = v3; goto L25;
+L6:;
+    v34 = v29 + v5 * 1u;
+    v35 = a1 + v5 * 1u;
+    v36 = load8(v35);
+    store8(v34, v36);
+    v37 = (u64)((u64)v5 + (u64)1u);
+    v38 = v37 == 54u;
+    if (v38) { v15 = v28; v16 = v27; v17 = v3; goto L25; }
+    else { v5 = v37; goto L6; }
+L7:;
+    v39 = v22 < 56u;
+    if (v39) { goto L8; }
+    else { v6 = v19; v7 = v21; goto L10; }
+L8:;
+    v40 = f54(a0, 56u);
+    if (v40) { goto L9; }
+    else { goto L26; }
+L9:;
+    v41 = load64(v20);
+    v42 = load64(v18);
+    v6 = v42; v7 = v41; goto L10;
+L10:;
+    v43 = (u64)((u64)v7 + (u64)56u);
+    v44 = load_address(a0);
+    memory_set(v20, 0u, 16u);
+    v45 = v44 + v7 * 1u;
+    v46 = (u64)v45;
+    v47 = (u64)a1;
+    v48 = (u64)((u64)v46 - (u64)v47);
+    v49 = v48 < 56u;
+    if (v49) { v8 = 0u; goto L12; }
+    else { goto L11; }
+L11:;
+    memory_move(v45, a1, 56u);
+    v15 = v44; v16 = v43; v17 = v6; goto L25;
+L12:;
+    v50 = v45 + v8 * 1u;
+    v51 = a1 + v8 * 1u;
+    v52 = load8(v51);
+    store8(v50, v52);
+    v53 = (u64)((u64)v8 + (u64)1u);
+    v54 = v53 == 56u;
+    if (v54) { v15 = v44; v16 = v43; v17 = v6; goto L25; }
+    else { v8 = v53; goto L12; }
+L13:;
+    v55 = v22 < 80u;
+    if (v55) { goto L14; }
+    else { v9 = v19; v10 = v21; goto L16; }
+L14:;
+    v56 = f54(a0, 80u);
+    if (v56) { goto L15; }
+    else { goto L26; }
+L15:;
+    v57 = load64(v20);
+    v58 = load64(v18);
+    v9 = v58; v10 = v57; goto L16;
+L16:;
+    v59 = (u64)((u64)v10 + (u64)80u);
+    v60 = load_address(a0);
+    memory_set(v20, 0u, 16u);
+    v61 = v60 + v10 * 1u;
+    v62 = (u64)v61;
+    v63 = (u64)a1;
+    v64 = (u64)((u64)v62 - (u64)v63);
+    v65 = v64 < 80u;
+    if (v65) { v11 = 0u; goto L18; }
+    else { goto L17; }
+L17:;
+    memory_move(v61, a1, 80u);
+    v15 = v60; v16 = v59; v17 = v9; goto L25;
+L18:;
+    v66 = v61 + v11 * 1u;
+    v67 = a1 + v11 * 1u;
+    v68 = load8(v67);
+    store8(v66, v68);
+    v69 = (u64)((u64)v11 + (u64)1u);
+    v70 = v69 == 80u;
+    if (v70) { v15 = v60; v16 = v59; v17 = v9; goto L25; }
+    else { v11 = v69; goto L18; }
+L19:;
+    v71 = a2 > v22;
+    if (v71) { goto L20; }
+    else { v12 = v19; v13 = v21; goto L22; }
+L20:;
+    v72 = f54(a0, a2);
+    if (v72) { goto L21; }
+    else { goto L26; }
+L21:;
+    v73 = load64(v20);
+    v74 = load64(v18);
+    v12 = v74; v13 = v73; goto L22;
+L22:;
+    v75 = (u64)((u64)v13 + (u64)a2);
+    v76 = load_address(a0);
+    memory_set(v20, 0u, 16u);
+    v77 = v76 + v13 * 1u;
+    v78 = (u64)v77;
+    v79 = (u64)a1;
+    v80 = (u64)((u64)v78 - (u64)v79);
+    v81 = v80 < a2;
+    if (v81) { v14 = 0u; goto L24; }
+    else { goto L23; }
+L23:;
+    memory_move(v77, a1, a2);
+    v15 = v76; v16 = v75; v17 = v12; goto L25;
+L24:;
+    v82 = v77 + v14 * 1u;
+    v83 = a1 + v14 * 1u;
+    v84 = load8(v83);
+    store8(v82, v84);
+    v85 = (u64)((u64)v14 + (u64)1u);
+    v86 = v85 == a2;
+    if (v86) { v15 = v76; v16 = v75; v17 = v12; goto L25; }
+    else { v14 = v85; goto L24; }
+L25:;
+    store_address(a0, v15);
+    store64(v20, v16);
+    store64(v18, v17);
+    goto L26;
+L26:;
     return;
 }
 
-static void f53(address a0, address a1) {
+static u8 f54(address a0, u64 a1) {
+    u8 v2, v7, v12, v16, v17, v21, v25;
+    struct pair v3, v19, v22, v23;
+    address v4, v8, v18, v27;
+    u64 v5, v6, v9, v10, v11, v13, v14, v15, v20, v24, v26;
+    v4 = a0 + 8u * 1u;
+    v5 = load64(v4);
+    v6 = (u64)((u64)v5 ^ (u64)UINT64_C(18446744073709551615));
+    v7 = a1 > v6;
+    if (v7) { v2 = 0u; goto L1; }
+    else { goto L2; }
+L1:;
+    return v2;
+L2:;
+    v8 = a0 + 16u * 1u;
+    v9 = load64(v8);
+    v10 = (u64)((u64)v5 + (u64)a1);
+    v11 = v10 > 8u ? v10 : 8u;
+    v12 = v9 < UINT64_C(4611686018427387904);
+    v13 = (u64)((u64)v9 << (1u & 63u));
+    v14 = v11 > v13 ? v11 : v13;
+    v15 = v12 ? v14 : v11;
+    v16 = (i64)v15 > (i64)UINT64_C(18446744073709551615);
+    if (v16) { goto L3; }
+    else { v2 = 0u; goto L1; }
+L3:;
+    v17 = v9 == 0u;
+    if (v17) { goto L5; }
+    else { goto L4; }
+L4:;
+    v18 = load_address(a0);
+    v19 = portable_rattle_realloc(v18, v5, v15, 1u);
+    v20 = v19.m0;
+    v21 = (u8)((v20) & UINT64_C(1));
+    if (v21) { v3 = v19; goto L6; }
+    else { v2 = 0u; goto L1; }
+L5:;
+    v22 = portable_rattle_alloc(v14, 1u);
+    v23 = v22;
+    v24 = v23.m0;
+    v25 = (u8)((v24) & UINT64_C(1));
+    if (v25) { v3 = v23; goto L6; }
+    else { v2 = 0u; goto L1; }
+L6:;
+    v26 = v3.m1;
+    v27 = (address)v26;
+    store_address(a0, v27);
+    store64(v8, v15);
+    v2 = 1u; goto L1;
+}
+
+static void f55(address a0, address a1) {
     u64 v2, v3, v4, v5, v6, v8, v16, v20, v25, v27, v28, v29, v32, v33, v34, v39;
     u64 v41, v42, v45, v46, v47, v52, v54, v55, v58, v59, v60, v65, v67, v68, v71, v72;
     u64 v73, v78, v80, v83, v84;
@@ -11088,7 +11321,7 @@ L24:;
     store8(v82, v24);
     v83 = (u64)((u64)v25 + (u64)1u);
     store64(v12, v83);
-    f52(v11, v21, v20);
+    f53(v11, v21, v20);
     goto L25;
 L25:;
     v84 = (u64)((u64)v2 + (u64)1u);
@@ -11099,7 +11332,7 @@ L26:;
     return;
 }
 
-static void f54(address a0, u64 a1, address a2, address a3, u16 a4, address a5) {
+static void f56(address a0, u64 a1, address a2, address a3, u16 a4, address a5) {
     u64 v6, v8, v15, v17, v19, v22, v40, v41;
     address v7, v9, v11, v12, v13, v14, v16, v20, v21, v23, v25, v26, v28, v34, v36, v38;
     address v39;
@@ -11145,7 +11378,7 @@ L5:;
     memory_move(v26, v7, 80u);
     goto L7;
 L6:;
-    f50(v26, v7, v19);
+    f51(v26, v7, v19);
     goto L7;
 L7:;
     v27 = load8(a3);
@@ -11181,7 +11414,7 @@ L10:;
     return;
 }
 
-static void f55(address a0, u8 a1, u16 a2, address a3, address a4, address a5) {
+static void f57(address a0, u8 a1, u16 a2, address a3, address a4, address a5) {
     u64 v6, v9, v13, v16, v30, v43, v44, v46, v57, v58, v68, v70, v88, v112;
     address v7, v8, v10, v11, v12, v14, v15, v20, v24, v26, v29, v32, v37, v40, v41, v42;
     address v47, v48, v51, v53, v56, v59, v61, v63, v65, v67, v69, v79, v80, v81, v82, v83;
@@ -11276,7 +11509,7 @@ L9:;
 L10:;
     UNREACHABLE;
 L11:;
-    f56(a0, a2, a3, a5);
+    f58(a0, a2, a3, a5);
     goto L12;
 L12:;
     v50 = a1 == 9u;
@@ -11398,130 +11631,130 @@ L15:;
     v135 = swap16(v78);
     v136 = v11 + 52u * 1u;
     store16(v136, v135);
-    f57(a0, v10, v11);
+    f59(a0, v10, v11);
     goto L16;
 L16:;
     return;
 }
 
-static void f56(address a0, u16 a1, address a2, address a3) {
-    u64 v4, v5, v7, v11, v13, v21, v22, v23, v25, v30, v32, v37, v38, v46, v50, v51;
-    u64 v56, v61, v62, v63;
-    address v6, v8, v12, v17, v18, v19, v20, v28, v29, v33, v34, v36, v39, v48, v49, v53;
-    address v54, v58;
-    u8 v9, v10, v16, v24, v26, v27, v31, v35, v40, v41, v52, v55, v57, v59, v60, v64;
-    u16 v14, v15, v42, v43, v44, v45, v47;
-    v8 = a0 + 240u * 1u;
-    v9 = load8(v8);
-    v10 = v9 == 0u;
-    v11 = v10 ? 376u : 256u;
-    v12 = a0 + v11 * 1u;
-    v13 = load64(v12);
-    v14 = (u16)(v13);
-    v15 = (u16)((u32)v14 + (u32)1u);
-    v16 = v15 > 1u;
-    if (v16) { goto L1; }
-    else { goto L13; }
+static void f58(address a0, u16 a1, address a2, address a3) {
+    u64 v4, v5, v10, v12, v21, v22, v24, v29, v31, v36, v37, v48, v52, v53, v54;
+    address v6, v7, v11, v16, v17, v18, v19, v20, v27, v28, v32, v33, v35, v38, v46, v47;
+    address v51;
+    u8 v8, v9, v15, v23, v25, v26, v30, v34, v39, v40, v49, v50, v55;
+    u16 v13, v14, v41, v42, v43, v44, v45;
+    v7 = a0 + 240u * 1u;
+    v8 = load8(v7);
+    v9 = v8 == 0u;
+    v10 = v9 ? 376u : 256u;
+    v11 = a0 + v10 * 1u;
+    v12 = load64(v11);
+    v13 = (u16)(v12);
+    v14 = (u16)((u32)v13 + (u32)1u);
+    v15 = v14 > 1u;
+    if (v15) { goto L1; }
+    else { goto L15; }
 L1:;
-    v17 = a0 + 248u * 1u;
-    v18 = a3 + 16u * 1u;
-    v19 = a2 + 2u * 1u;
-    v20 = a2 + 3u * 1u;
-    v21 = (u64)a2;
-    v22 = (u64)a1;
-    v23 = (u64)v15;
+    v16 = a0 + 248u * 1u;
+    v17 = a3 + 16u * 1u;
+    v18 = a2 + 2u * 1u;
+    v19 = a2 + 3u * 1u;
+    v20 = a2 + 45u * 1u;
+    v21 = (u64)a1;
+    v22 = (u64)v14;
     v4 = 1u; goto L2;
 L2:;
-    v24 = v4 == v22;
-    if (v24) { goto L12; }
+    v23 = v4 == v21;
+    if (v23) { goto L14; }
     else { goto L3; }
 L3:;
-    v25 = (u64)((u64)v4 + (u64)UINT64_C(18446744073709551615));
-    v26 = load8(v8);
-    v27 = v26 == 0u;
-    if (v27) { v5 = 376u; v6 = v17; goto L5; }
+    v24 = (u64)((u64)v4 + (u64)UINT64_C(18446744073709551615));
+    v25 = load8(v7);
+    v26 = v25 == 0u;
+    if (v26) { v5 = 376u; v6 = v16; goto L5; }
     else { goto L4; }
 L4:;
-    v28 = load_address(v17);
-    v5 = 256u; v6 = v28; goto L5;
+    v27 = load_address(v16);
+    v5 = 256u; v6 = v27; goto L5;
 L5:;
-    v29 = a0 + v5 * 1u;
-    v30 = load64(v29);
-    v31 = v30 > v25;
-    if (v31) { goto L6; }
-    else { goto L12; }
+    v28 = a0 + v5 * 1u;
+    v29 = load64(v28);
+    v30 = v29 > v24;
+    if (v30) { goto L6; }
+    else { goto L14; }
 L6:;
-    v32 = (u64)((u64)v25 << (4u & 63u));
-    v33 = v6 + v32 * 1u;
-    v34 = v33 + 8u * 1u;
-    v35 = load8(v34);
-    switch (v35) {
+    v31 = (u64)((u64)v24 << (4u & 63u));
+    v32 = v6 + v31 * 1u;
+    v33 = v32 + 8u * 1u;
+    v34 = load8(v33);
+    switch (v34) {
     case 4u: goto L8;
     case 5u: goto L8;
     case 7u: goto L8;
     case 8u: goto L8;
-    case 0u: goto L12;
-    case 1u: goto L12;
-    case 2u: goto L12;
-    case 3u: goto L12;
-    case 6u: goto L12;
+    case 0u: goto L14;
+    case 1u: goto L14;
+    case 2u: goto L14;
+    case 3u: goto L14;
+    case 6u: goto L14;
     default: goto L7;
     }
 L7:;
     UNREACHABLE;
 L8:;
-    v36 = load_address(a3);
-    v37 = load64(v18);
-    v38 = (u64)((u64)v37 * (u64)1476u);
-    v39 = v36 + v38 * 1u;
+    v35 = load_address(a3);
+    v36 = load64(v17);
+    v37 = (u64)((u64)v36 * (u64)1476u);
+    v38 = v35 + v37 * 1u;
+    v39 = load8(v18);
     v40 = load8(v19);
-    v41 = load8(v20);
-    v42 = (u16)v40;
-    v43 = (u16)((u32)v42 << (8u & 15u));
-    v44 = (u16)v41;
-    v45 = (u16)((u32)v43 | (u32)v44);
-    v46 = (u64)v45;
-    v47 = (u16)(v4);
-    store16(v39, v47);
-    v48 = v39 + 2u * 1u;
-    store16(v48, v45);
-    v49 = v39 + 4u * 1u;
-    v50 = (u64)v49;
-    v51 = (u64)((u64)v50 - (u64)v21);
-    v52 = v51 < v46;
-    if (v52) { v7 = 0u; goto L10; }
-    else { goto L9; }
+    v41 = (u16)v39;
+    v42 = (u16)((u32)v41 << (8u & 15u));
+    v43 = (u16)v40;
+    v44 = (u16)((u32)v42 | (u32)v43);
+    v45 = (u16)(v4);
+    store16(v38, v45);
+    v46 = v38 + 2u * 1u;
+    store16(v46, v44);
+    v47 = v38 + 4u * 1u;
+    switch (v44) {
+    case 54u: goto L9;
+    case 56u: goto L10;
+    case 80u: goto L11;
+    default: goto L12;
+    }
 L9:;
-    memory_move(v49, a2, v46);
-    goto L11;
+    memory_move(v47, a2, 54u);
+    goto L13;
 L10:;
-    v53 = v49 + v7 * 1u;
-    v54 = a2 + v7 * 1u;
-    v55 = load8(v54);
-    store8(v53, v55);
-    v56 = (u64)((u64)v7 + (u64)1u);
-    v57 = v56 == v46;
-    if (v57) { goto L11; }
-    else { v7 = v56; goto L10; }
+    memory_move(v47, a2, 56u);
+    goto L13;
 L11:;
-    v58 = v39 + 49u * 1u;
-    v59 = load8(v58);
-    v60 = (u8)((u32)v59 + (u32)255u);
-    store8(v58, v60);
-    v61 = load64(v18);
-    v62 = (u64)((u64)v61 + (u64)1u);
-    store64(v18, v62);
-    goto L12;
+    memory_move(v47, a2, 80u);
+    goto L13;
 L12:;
-    v63 = (u64)((u64)v4 + (u64)1u);
-    v64 = v63 == v23;
-    if (v64) { goto L13; }
-    else { v4 = v63; goto L2; }
+    v48 = (u64)v44;
+    f51(v47, a2, v48);
+    goto L13;
 L13:;
+    v49 = load8(v20);
+    v50 = (u8)((u32)v49 + (u32)255u);
+    v51 = v38 + 49u * 1u;
+    store8(v51, v50);
+    v52 = load64(v17);
+    v53 = (u64)((u64)v52 + (u64)1u);
+    store64(v17, v53);
+    goto L14;
+L14:;
+    v54 = (u64)((u64)v4 + (u64)1u);
+    v55 = v54 == v22;
+    if (v55) { goto L15; }
+    else { v4 = v54; goto L2; }
+L15:;
     return;
 }
 
-static void f57(address a0, address a1, address a2) {
+static void f59(address a0, address a1, address a2) {
     address v3, v15, v16, v17, v20, v22, v23, v24, v25, v26, v27, v28, v29, v30, v31, v33;
     address v34, v36, v38, v39, v42, v43, v44, v49, v50, v52, v53, v54, v56, v57, v60, v61;
     address v62, v65, v67, v68, v70, v71, v72, v73, v76, v77, v78, v79, v84, v85, v90, v92;
@@ -11645,7 +11878,7 @@ L22:;
     v43 = v42 + 2u * 1u;
     store16(v43, 60u);
     v44 = v42 + 4u * 1u;
-    f33(a2, v32, v35, v37, v44);
+    f34(a2, v32, v35, v37, v44);
     v45 = load64(v39);
     v46 = (u64)((u64)v45 + (u64)1u);
     store64(v39, v46);
@@ -11684,7 +11917,7 @@ L28:;
     v61 = v60 + 2u * 1u;
     store16(v61, 60u);
     v62 = v60 + 4u * 1u;
-    f33(a2, v51, 6u, v55, v62);
+    f34(a2, v51, 6u, v55, v62);
     v63 = load64(v57);
     v64 = (u64)((u64)v63 + (u64)1u);
     store64(v57, v64);
@@ -11772,14 +12005,14 @@ L38:;
     store64(v73, v95);
     goto L23;
 L39:;
-    f37(a0, v8, a2);
+    f38(a0, v8, a2);
     goto L23;
 L40:;
-    f39(a0, v16, a1, v14, v13, a2);
+    f40(a0, v16, a1, v14, v13, a2);
     goto L23;
 }
 
-static void f58(address a0, address a1, u16 a2, address a3, u64 a4, u8 a5, address a6, u64 a7) {
+static void f60(address a0, address a1, u16 a2, address a3, u64 a4, u8 a5, address a6, u64 a7) {
     address v8, v12, v13, v14, v15, v16, v17, v18, v21, v22, v23, v25, v27, v30, v31, v33;
     address v35, v37, v43, v45, v51, v53, v58, v60, v62, v64, v66, v68, v78, v79, v80, v81;
     address v82, v83, v84, v85, v99, v100, v101, v102, v103, v104, v105, v106, v107, v108, v109, v110;
@@ -11825,7 +12058,7 @@ L1:;
     v26 = load8(v25);
     v27 = v14 + 25u * 1u;
     v28 = load8(v27);
-    v29 = f59(a1, v21);
+    v29 = f61(a1, v21);
     if (v29) { goto L2; }
     else { goto L36; }
 L2:;
@@ -11941,7 +12174,7 @@ L2:;
     memory_set(v113, 0u, 6u);
     store_address(v114, v15);
     store8(v30, a5);
-    f60(a1, v12, v13);
+    f62(a1, v12, v13);
     v115 = load8(v113);
     v116 = a1 + 392u * 1u;
     v117 = load_address(v116);
@@ -12013,7 +12246,7 @@ L10:;
     if (v152) { goto L12; }
     else { v11 = v151; goto L10; }
 L11:;
-    f49(v132, v68, v69);
+    f50(v132, v68, v69);
     goto L12;
 L12:;
     v153 = v132 + 2129u * 1u;
@@ -12064,10 +12297,10 @@ L18:;
     memory_move(v165, v161, 80u);
     goto L34;
 L19:;
-    f50(v165, v161, v160);
+    f51(v165, v161, v160);
     goto L34;
 L20:;
-    f51(v165, v161, v160);
+    f52(v165, v161, v160);
     goto L34;
 L21:;
     v172 = v132 + 1464u * 1u;
@@ -12085,7 +12318,7 @@ L22:;
     store64(v176, 0u);
     goto L23;
 L23:;
-    f52(v172, v161, v160);
+    f53(v172, v161, v160);
     goto L34;
 L24:;
     v179 = load8(v154);
@@ -12133,7 +12366,7 @@ L32:;
     store64(v192, 0u);
     goto L33;
 L33:;
-    f53(v15, v154);
+    f55(v15, v154);
     goto L34;
 L34:;
     v195 = load64(v18);
@@ -12149,11 +12382,11 @@ L35:;
     memory_cpy(a0, v16, 96u);
     return;
 L36:;
-    f43(v16, a1, a2, a3, a4, a6, a7);
+    f44(v16, a1, a2, a3, a4, a6, a7);
     goto L35;
 }
 
-static u8 f59(address a0, address a1) {
+static u8 f61(address a0, address a1) {
     address v2, v17, v18, v19, v20, v22, v25, v28, v30, v32, v34, v36, v38, v48, v49, v50;
     address v51, v52, v53, v56, v58, v62, v66, v68, v71, v76, v80, v84, v86, v92, v93, v95;
     address v127, v128, v129;
@@ -12292,7 +12525,7 @@ L10:;
     v98 = (u16)((u32)v97 << (8u & 15u));
     v99 = (u16)v96;
     v100 = (u16)((u32)v98 | (u32)v99);
-    v101 = f46(v58, v19, v100, v18);
+    v101 = f47(v58, v19, v100, v18);
     v102 = v101.m0;
     v103 = v102 == 1u;
     if (v103) { goto L11; }
@@ -12496,11 +12729,11 @@ L55:;
     store8(v128, v15);
     v129 = v17 + 3u * 1u;
     store8(v129, v16);
-    v130 = f34(v17, v2, v3);
+    v130 = f35(v17, v2, v3);
     v4 = v130; goto L3;
 }
 
-static void f60(address a0, address a1, address a2) {
+static void f62(address a0, address a1, address a2) {
     address v3, v10, v11, v12, v15, v17, v18, v19, v20, v21, v22, v23, v24, v28, v30, v31;
     address v33, v34, v36, v38, v40, v41, v44, v45, v46, v49, v51, v52, v54, v55, v57, v59;
     address v61, v62, v65, v66, v67, v70, v72, v73, v75, v76, v78, v80, v82, v83, v86, v87;
@@ -12617,7 +12850,7 @@ L22:;
     v33 = a2 + 64u * 1u;
     v34 = load_address(v33);
     v35 = (u64)v29;
-    v36 = ADDRESS(c372) + v35 * 2u;
+    v36 = ADDRESS(c373) + v35 * 2u;
     v37 = load16(v36);
     v38 = a2 + 54u * 1u;
     v39 = load16(v38);
@@ -12630,7 +12863,7 @@ L22:;
     v45 = v44 + 2u * 1u;
     store16(v45, 60u);
     v46 = v44 + 4u * 1u;
-    f33(a2, v32, v37, v39, v46);
+    f34(a2, v32, v37, v39, v46);
     v47 = load64(v41);
     v48 = (u64)((u64)v47 + (u64)1u);
     store64(v41, v48);
@@ -12650,7 +12883,7 @@ L25:;
     v54 = a2 + 64u * 1u;
     v55 = load_address(v54);
     v56 = (u64)v50;
-    v57 = ADDRESS(c372) + v56 * 2u;
+    v57 = ADDRESS(c373) + v56 * 2u;
     v58 = load16(v57);
     v59 = a2 + 54u * 1u;
     v60 = load16(v59);
@@ -12663,7 +12896,7 @@ L25:;
     v66 = v65 + 2u * 1u;
     store16(v66, 60u);
     v67 = v65 + 4u * 1u;
-    f33(a2, v53, v58, v60, v67);
+    f34(a2, v53, v58, v60, v67);
     v68 = load64(v62);
     v69 = (u64)((u64)v68 + (u64)1u);
     store64(v62, v69);
@@ -12701,7 +12934,7 @@ L28:;
     v75 = a2 + 64u * 1u;
     v76 = load_address(v75);
     v77 = (u64)v71;
-    v78 = ADDRESS(c372) + v77 * 2u;
+    v78 = ADDRESS(c373) + v77 * 2u;
     v79 = load16(v78);
     v80 = a2 + 54u * 1u;
     v81 = load16(v80);
@@ -12714,21 +12947,21 @@ L28:;
     v87 = v86 + 2u * 1u;
     store16(v87, 60u);
     v88 = v86 + 4u * 1u;
-    f33(a2, v74, v79, v81, v88);
+    f34(a2, v74, v79, v81, v88);
     v89 = load64(v83);
     v90 = (u64)((u64)v89 + (u64)1u);
     store64(v83, v90);
     goto L23;
 L29:;
-    f61(a0, v8, a2);
+    f63(a0, v8, a2);
     goto L23;
 L30:;
     v91 = (u8)v27;
-    f62(a0, v11, a1, v91, a2);
+    f64(a0, v11, a1, v91, a2);
     goto L23;
 }
 
-static void f61(address a0, u8 a1, address a2) {
+static void f63(address a0, u8 a1, address a2) {
     address v3, v5, v7, v8, v10, v11, v13, v15, v17, v18, v21, v22, v23, v26, v28, v29;
     address v31, v32, v34, v36, v38, v39, v42, v43, v44;
     u8 v4, v6, v27;
@@ -12749,7 +12982,7 @@ L1:;
     v10 = a2 + 64u * 1u;
     v11 = load_address(v10);
     v12 = (u64)v6;
-    v13 = ADDRESS(c372) + v12 * 2u;
+    v13 = ADDRESS(c373) + v12 * 2u;
     v14 = load16(v13);
     v15 = a2 + 54u * 1u;
     v16 = load16(v15);
@@ -12762,14 +12995,14 @@ L1:;
     v22 = v21 + 2u * 1u;
     store16(v22, 60u);
     v23 = v21 + 4u * 1u;
-    f33(a2, v9, v14, v16, v23);
+    f34(a2, v9, v14, v16, v23);
     v24 = load64(v18);
     v25 = (u64)((u64)v24 + (u64)1u);
     store64(v18, v25);
     goto L3;
 L2:;
     memory_set(v3, 0u, 144u);
-    f38(a0, a1, v3);
+    f39(a0, a1, v3);
     v26 = a2 + 72u * 1u;
     v27 = load8(v26);
     v28 = a2 + 58u * 1u;
@@ -12779,7 +13012,7 @@ L2:;
     v31 = a2 + 64u * 1u;
     v32 = load_address(v31);
     v33 = (u64)v27;
-    v34 = ADDRESS(c372) + v33 * 2u;
+    v34 = ADDRESS(c373) + v33 * 2u;
     v35 = load16(v34);
     v36 = a2 + 54u * 1u;
     v37 = load16(v36);
@@ -12792,7 +13025,7 @@ L2:;
     v43 = v42 + 2u * 1u;
     store16(v43, 60u);
     v44 = v42 + 4u * 1u;
-    f33(a2, v30, v35, v37, v44);
+    f34(a2, v30, v35, v37, v44);
     v45 = load64(v39);
     v46 = (u64)((u64)v45 + (u64)1u);
     store64(v39, v46);
@@ -12801,7 +13034,7 @@ L3:;
     return;
 }
 
-static void f62(address a0, address a1, address a2, u8 a3, address a4) {
+static void f64(address a0, address a1, address a2, u8 a3, address a4) {
     u16 v5, v6, v9, v10, v12, v20, v21, v35, v39, v43, v47, v58, v61, v75, v79, v81;
     u16 v85, v86, v94;
     u64 v7, v17, v19, v31, v32, v37, v45, v52, v54, v55, v66, v68, v69, v77, v83, v89;
@@ -12851,7 +13084,7 @@ L5:;
     v35 = load16(v28);
     v36 = load_address(v29);
     v37 = (u64)v34;
-    v38 = ADDRESS(c372) + v37 * 2u;
+    v38 = ADDRESS(c373) + v37 * 2u;
     v39 = load16(v38);
     v8 = v36; v9 = v35; v10 = v39; goto L31;
 L6:;
@@ -12865,7 +13098,7 @@ L7:;
     v43 = load16(v28);
     v44 = load_address(v29);
     v45 = (u64)v42;
-    v46 = ADDRESS(c372) + v45 * 2u;
+    v46 = ADDRESS(c373) + v45 * 2u;
     v47 = load16(v46);
     v8 = v44; v9 = v43; v10 = v47; goto L31;
 L8:;
@@ -12967,7 +13200,7 @@ L29:;
     v75 = load16(v28);
     v76 = load_address(v29);
     v77 = (u64)v74;
-    v78 = ADDRESS(c372) + v77 * 2u;
+    v78 = ADDRESS(c373) + v77 * 2u;
     v79 = load16(v78);
     v8 = v76; v9 = v75; v10 = v79; goto L31;
 L30:;
@@ -12976,7 +13209,7 @@ L30:;
     v81 = load16(v28);
     v82 = load_address(v29);
     v83 = (u64)v80;
-    v84 = ADDRESS(c372) + v83 * 2u;
+    v84 = ADDRESS(c373) + v83 * 2u;
     v85 = load16(v84);
     v8 = v82; v9 = v81; v10 = v85; goto L31;
 L31:;
@@ -12991,7 +13224,7 @@ L31:;
     store16(v92, 60u);
     v93 = v91 + 4u * 1u;
     v94 = (u16)(v7);
-    f33(a4, v94, v10, v86, v93);
+    f34(a4, v94, v10, v86, v93);
     v95 = load64(v88);
     v96 = (u64)((u64)v95 + (u64)1u);
     store64(v88, v96);
@@ -13003,32 +13236,31 @@ L32:;
     return;
 }
 
-static void f63(address a0, address a1, u16 a2, address a3, u64 a4, address a5, u64 a6, address a7, u64 a8) {
-    u64 v9, v11, v12, v13, v15, v16, v17, v19, v20, v22, v40, v41, v51, v53, v55, v72;
-    u64 v74, v87, v95, v97, v113, v114, v116, v120, v122, v128, v129, v130, v132, v137, v139, v143;
-    u64 v151, v155, v156, v161, v166, v167, v172, v173, v207, v227, v228, v229, v234, v239, v252, v253;
-    u64 v263, v265, v267, v284, v286, v299, v307, v309, v344, v356, v358;
-    address v10, v14, v23, v24, v25, v26, v27, v28, v29, v30, v33, v34, v36, v39, v42, v44;
-    address v46, v48, v50, v52, v54, v64, v65, v66, v67, v68, v69, v71, v73, v77, v81, v83;
-    address v86, v92, v96, v102, v107, v110, v111, v112, v117, v118, v121, v126, v127, v135, v136, v140;
-    address v141, v144, v153, v154, v158, v159, v163, v178, v180, v183, v185, v191, v193, v208, v211, v212;
-    address v213, v214, v215, v216, v217, v218, v219, v220, v221, v222, v223, v224, v225, v226, v231, v232;
-    address v240, v241, v242, v245, v246, v248, v251, v254, v256, v258, v260, v262, v264, v266, v276, v277;
-    address v278, v279, v280, v281, v283, v285, v289, v293, v295, v298, v304, v308, v314, v316, v318, v320;
-    address v330, v331, v332, v333, v334, v335, v336, v337, v338, v339, v340, v342, v343, v345, v346, v347;
-    address v348, v349, v350, v352, v354, v355, v357, v359, v361, v362, v364, v365, v366, v367, v368, v369;
-    address v370;
-    u16 v18, v56, v57, v58, v59, v60, v61, v62, v63, v98, v106, v123, v124, v147, v148, v149;
-    u16 v150, v152, v174, v175, v176, v177, v187, v188, v189, v190, v195, v196, v197, v198, v199, v200;
-    u16 v201, v202, v206, v209, v210, v236, v237, v238, v268, v269, v270, v271, v272, v273, v274, v275;
-    u16 v310, v322, v323, v324, v325, v326, v327, v328, v329;
-    u8 v21, v31, v32, v35, v37, v38, v43, v45, v47, v49, v70, v75, v76, v78, v79, v80;
-    u8 v82, v84, v85, v88, v89, v90, v91, v93, v94, v99, v100, v101, v103, v104, v105, v108;
-    u8 v109, v115, v119, v125, v131, v133, v134, v138, v142, v145, v146, v157, v160, v162, v164, v165;
-    u8 v168, v169, v170, v171, v179, v181, v182, v184, v186, v192, v194, v230, v233, v235, v243, v244;
-    u8 v247, v249, v250, v255, v257, v259, v261, v282, v287, v288, v290, v291, v292, v294, v296, v297;
-    u8 v300, v301, v302, v303, v305, v306, v311, v312, v313, v315, v317, v319, v321, v351, v353;
-    u32 v203, v204, v205, v341, v360, v363;
+static void f65(address a0, address a1, u16 a2, address a3, u64 a4, address a5, u64 a6, address a7, u64 a8) {
+    u64 v9, v11, v12, v13, v15, v16, v18, v19, v21, v39, v40, v50, v52, v54, v71, v73;
+    u64 v86, v94, v96, v112, v113, v115, v119, v121, v128, v129, v131, v136, v138, v142, v153, v157;
+    u64 v158, v163, v164, v198, v218, v219, v220, v225, v230, v243, v244, v254, v256, v258, v275, v277;
+    u64 v290, v298, v300, v335, v347, v349;
+    address v10, v14, v22, v23, v24, v25, v26, v27, v28, v29, v32, v33, v35, v38, v41, v43;
+    address v45, v47, v49, v51, v53, v63, v64, v65, v66, v67, v68, v70, v72, v76, v80, v82;
+    address v85, v91, v95, v101, v106, v109, v110, v111, v116, v117, v120, v125, v126, v127, v134, v135;
+    address v139, v140, v143, v151, v152, v156, v169, v171, v174, v176, v182, v184, v199, v202, v203, v204;
+    address v205, v206, v207, v208, v209, v210, v211, v212, v213, v214, v215, v216, v217, v222, v223, v231;
+    address v232, v233, v236, v237, v239, v242, v245, v247, v249, v251, v253, v255, v257, v267, v268, v269;
+    address v270, v271, v272, v274, v276, v280, v284, v286, v289, v295, v299, v305, v307, v309, v311, v321;
+    address v322, v323, v324, v325, v326, v327, v328, v329, v330, v331, v333, v334, v336, v337, v338, v339;
+    address v340, v341, v343, v345, v346, v348, v350, v352, v353, v355, v356, v357, v358, v359, v360, v361;
+    u16 v17, v55, v56, v57, v58, v59, v60, v61, v62, v97, v105, v122, v123, v146, v147, v148;
+    u16 v149, v150, v165, v166, v167, v168, v178, v179, v180, v181, v186, v187, v188, v189, v190, v191;
+    u16 v192, v193, v197, v200, v201, v227, v228, v229, v259, v260, v261, v262, v263, v264, v265, v266;
+    u16 v301, v313, v314, v315, v316, v317, v318, v319, v320;
+    u8 v20, v30, v31, v34, v36, v37, v42, v44, v46, v48, v69, v74, v75, v77, v78, v79;
+    u8 v81, v83, v84, v87, v88, v89, v90, v92, v93, v98, v99, v100, v102, v103, v104, v107;
+    u8 v108, v114, v118, v124, v130, v132, v133, v137, v141, v144, v145, v154, v155, v159, v160, v161;
+    u8 v162, v170, v172, v173, v175, v177, v183, v185, v221, v224, v226, v234, v235, v238, v240, v241;
+    u8 v246, v248, v250, v252, v273, v278, v279, v281, v282, v283, v285, v287, v288, v291, v292, v293;
+    u8 v294, v296, v297, v302, v303, v304, v306, v308, v310, v312, v342, v344;
+    u32 v194, v195, v196, v332, v351, v354;
     u64 block0[3];
     u64 block1[3];
     u64 block2[4];
@@ -13037,594 +13269,595 @@ static void f63(address a0, address a1, u16 a2, address a3, u64 a4, address a5, 
     u64 block5[3];
     u64 block6[4];
     u64 block7[12];
-    v23 = ADDRESS(block0);
-    v24 = ADDRESS(block1);
-    v25 = ADDRESS(block2);
-    v26 = ADDRESS(block3);
-    v27 = ADDRESS(block4);
-    v28 = ADDRESS(block5);
-    v29 = ADDRESS(block6);
-    v30 = ADDRESS(block7);
-    memory_set(v30, 0u, 96u);
-    memory_set(v29, 0u, 32u);
-    f8(v29, a3, a4);
-    v31 = load8(v29);
-    v32 = v31 == 0u;
-    if (v32) { goto L1; }
-    else { goto L37; }
+    v22 = ADDRESS(block0);
+    v23 = ADDRESS(block1);
+    v24 = ADDRESS(block2);
+    v25 = ADDRESS(block3);
+    v26 = ADDRESS(block4);
+    v27 = ADDRESS(block5);
+    v28 = ADDRESS(block6);
+    v29 = ADDRESS(block7);
+    memory_set(v29, 0u, 96u);
+    memory_set(v28, 0u, 32u);
+    f8(v28, a3, a4);
+    v30 = load8(v28);
+    v31 = v30 == 0u;
+    if (v31) { goto L1; }
+    else { goto L39; }
 L1:;
-    v33 = v29 + 8u * 1u;
-    memory_cpy(v28, v33, 24u);
-    v34 = v28 + 16u * 1u;
-    v35 = load8(v34);
-    v36 = v28 + 17u * 1u;
-    v37 = load8(v36);
-    v38 = v37 == 0u;
-    v39 = load_address(v28);
-    v40 = v38 ? 52u : 54u;
-    v41 = v38 ? 53u : 55u;
-    v42 = v39 + v40 * 1u;
-    v43 = load8(v42);
-    v44 = v39 + v41 * 1u;
-    v45 = load8(v44);
-    v46 = v39 + 42u * 1u;
-    v47 = load8(v46);
-    v48 = v39 + 43u * 1u;
-    v49 = load8(v48);
-    v50 = v28 + 8u * 1u;
-    v51 = load64(v50);
-    v52 = v39 + 54u * 1u;
-    v53 = (u64)((u64)v51 + (u64)UINT64_C(18446744073709551562));
-    v54 = v38 ? v52 : ADDRESS(c148);
-    v55 = v38 ? v53 : 0u;
-    v56 = (u16)v47;
-    v57 = (u16)((u32)v56 << (8u & 15u));
-    v58 = (u16)v49;
-    v59 = (u16)((u32)v57 | (u32)v58);
-    v60 = (u16)v43;
-    v61 = (u16)((u32)v60 << (8u & 15u));
-    v62 = (u16)v45;
-    v63 = (u16)((u32)v61 | (u32)v62);
-    store8(v27, v35);
-    v64 = v27 + 1u * 1u;
-    store8(v64, 0u);
-    v65 = v27 + 2u * 1u;
-    store16(v65, v63);
-    v66 = v27 + 4u * 1u;
-    store16(v66, v59);
-    v67 = v27 + 6u * 1u;
-    store16(v67, 0u);
-    v68 = v27 + 8u * 1u;
-    store_address(v68, v54);
-    v69 = v27 + 16u * 1u;
-    store64(v69, v55);
-    v70 = f64(v27);
-    if (v70) { goto L2; }
+    v32 = v28 + 8u * 1u;
+    memory_cpy(v27, v32, 24u);
+    v33 = v27 + 16u * 1u;
+    v34 = load8(v33);
+    v35 = v27 + 17u * 1u;
+    v36 = load8(v35);
+    v37 = v36 == 0u;
+    v38 = load_address(v27);
+    v39 = v37 ? 52u : 54u;
+    v40 = v37 ? 53u : 55u;
+    v41 = v38 + v39 * 1u;
+    v42 = load8(v41);
+    v43 = v38 + v40 * 1u;
+    v44 = load8(v43);
+    v45 = v38 + 42u * 1u;
+    v46 = load8(v45);
+    v47 = v38 + 43u * 1u;
+    v48 = load8(v47);
+    v49 = v27 + 8u * 1u;
+    v50 = load64(v49);
+    v51 = v38 + 54u * 1u;
+    v52 = (u64)((u64)v50 + (u64)UINT64_C(18446744073709551562));
+    v53 = v37 ? v51 : ADDRESS(c148);
+    v54 = v37 ? v52 : 0u;
+    v55 = (u16)v46;
+    v56 = (u16)((u32)v55 << (8u & 15u));
+    v57 = (u16)v48;
+    v58 = (u16)((u32)v56 | (u32)v57);
+    v59 = (u16)v42;
+    v60 = (u16)((u32)v59 << (8u & 15u));
+    v61 = (u16)v44;
+    v62 = (u16)((u32)v60 | (u32)v61);
+    store8(v26, v34);
+    v63 = v26 + 1u * 1u;
+    store8(v63, 0u);
+    v64 = v26 + 2u * 1u;
+    store16(v64, v62);
+    v65 = v26 + 4u * 1u;
+    store16(v65, v58);
+    v66 = v26 + 6u * 1u;
+    store16(v66, 0u);
+    v67 = v26 + 8u * 1u;
+    store_address(v67, v53);
+    v68 = v26 + 16u * 1u;
+    store64(v68, v54);
+    v69 = f66(v26);
+    if (v69) { goto L2; }
     else { goto L8; }
 L2:;
-    v71 = v39 + 34u * 1u;
-    v72 = load64(v71);
-    v73 = a1 + 384u * 1u;
-    v74 = load64(v73);
-    v75 = load8(v39);
-    v76 = (u8)((u32)v75 >> (4u & 7u));
-    v77 = v39 + 5u * 1u;
-    v78 = load8(v77);
-    v79 = (u8)((u32)v76 | (u32)v78);
-    v80 = v79 == 0u;
-    if (v80) { goto L3; }
+    v70 = v38 + 34u * 1u;
+    v71 = load64(v70);
+    v72 = a1 + 384u * 1u;
+    v73 = load64(v72);
+    v74 = load8(v38);
+    v75 = (u8)((u32)v74 >> (4u & 7u));
+    v76 = v38 + 5u * 1u;
+    v77 = load8(v76);
+    v78 = (u8)((u32)v75 | (u32)v77);
+    v79 = v78 == 0u;
+    if (v79) { goto L3; }
     else { goto L8; }
 L3:;
-    v81 = v39 + 4u * 1u;
-    v82 = load8(v81);
-    v83 = a1 + 8u * 1u;
-    v84 = load8(v83);
-    v85 = v82 == v84;
-    if (v85) { goto L4; }
+    v80 = v38 + 4u * 1u;
+    v81 = load8(v80);
+    v82 = a1 + 8u * 1u;
+    v83 = load8(v82);
+    v84 = v81 == v83;
+    if (v84) { goto L4; }
     else { goto L8; }
 L4:;
-    v86 = v39 + 20u * 1u;
-    v87 = load64(v86);
-    v88 = v87 == v74;
-    if (v88) { goto L8; }
+    v85 = v38 + 20u * 1u;
+    v86 = load64(v85);
+    v87 = v86 == v73;
+    if (v87) { goto L8; }
     else { goto L5; }
 L5:;
-    v89 = v72 == v74;
-    v90 = v72 == UINT64_C(18446744073709551615);
-    v91 = (u8)(((u32)v90 | (u32)v89) & UINT64_C(1));
-    if (v91) { goto L6; }
+    v88 = v71 == v73;
+    v89 = v71 == UINT64_C(18446744073709551615);
+    v90 = (u8)(((u32)v89 | (u32)v88) & UINT64_C(1));
+    if (v90) { goto L6; }
     else { goto L8; }
 L6:;
-    switch (v59) {
+    switch (v58) {
     case 65535u: goto L9;
     case 0u: goto L8;
     default: goto L7;
     }
 L7:;
-    v92 = a1 + 240u * 1u;
-    v93 = load8(v92);
-    v94 = v93 == 0u;
-    v95 = v94 ? 376u : 256u;
-    v96 = a1 + v95 * 1u;
-    v97 = load64(v96);
-    v98 = (u16)(v97);
-    v99 = v59 > v98;
-    if (v99) { goto L8; }
+    v91 = a1 + 240u * 1u;
+    v92 = load8(v91);
+    v93 = v92 == 0u;
+    v94 = v93 ? 376u : 256u;
+    v95 = a1 + v94 * 1u;
+    v96 = load64(v95);
+    v97 = (u16)(v96);
+    v98 = v58 > v97;
+    if (v98) { goto L8; }
     else { goto L9; }
 L8:;
-    goto L37;
+    goto L39;
 L9:;
-    v100 = f65(a1, v28);
-    v101 = v100 == 0u;
-    if (v101) { goto L10; }
-    else { goto L37; }
+    v99 = f67(a1, v27);
+    v100 = v99 == 0u;
+    if (v100) { goto L10; }
+    else { goto L39; }
 L10:;
-    if (v89) { v17 = 0u; v18 = v63; v19 = v87; v20 = v72; v21 = v82; goto L32; }
+    if (v88) { v16 = 0u; v17 = v62; v18 = v86; v19 = v71; v20 = v81; goto L34; }
     else { goto L11; }
 L11:;
-    v102 = v39 + 45u * 1u;
-    v103 = load8(v102);
-    v104 = v103 == 0u;
-    if (v104) { v17 = 0u; v18 = v63; v19 = v87; v20 = v74; v21 = v82; goto L32; }
+    v101 = v38 + 45u * 1u;
+    v102 = load8(v101);
+    v103 = v102 == 0u;
+    if (v103) { v16 = 0u; v17 = v62; v18 = v86; v19 = v73; v20 = v81; goto L34; }
     else { goto L12; }
 L12:;
-    v105 = a2 == 0u;
-    v106 = a2 > 1u ? (u16)((u32)a2 - (u32)1u) : 0u;
-    if (v105) { v17 = 0u; v18 = v63; v19 = v87; v20 = v74; v21 = v82; goto L32; }
+    v104 = a2 == 0u;
+    v105 = a2 > 1u ? (u16)((u32)a2 - (u32)1u) : 0u;
+    if (v104) { v16 = 0u; v17 = v62; v18 = v86; v19 = v73; v20 = v81; goto L34; }
     else { goto L13; }
 L13:;
-    v107 = a1 + 240u * 1u;
-    v108 = load8(v107);
-    v109 = v108 == 0u;
-    v110 = a1 + 248u * 1u;
-    if (v109) { v9 = 376u; v10 = v110; goto L15; }
+    v106 = a1 + 240u * 1u;
+    v107 = load8(v106);
+    v108 = v107 == 0u;
+    v109 = a1 + 248u * 1u;
+    if (v108) { v9 = 376u; v10 = v109; goto L15; }
     else { goto L14; }
 L14:;
-    v111 = load_address(v110);
-    v9 = 256u; v10 = v111; goto L15;
+    v110 = load_address(v109);
+    v9 = 256u; v10 = v110; goto L15;
 L15:;
-    v112 = a1 + v9 * 1u;
-    v113 = load64(v112);
-    v114 = (u64)v106;
-    v115 = v113 > v114;
-    if (v115) { goto L16; }
-    else { v17 = 0u; v18 = v63; v19 = v87; v20 = v74; v21 = v82; goto L32; }
+    v111 = a1 + v9 * 1u;
+    v112 = load64(v111);
+    v113 = (u64)v105;
+    v114 = v112 > v113;
+    if (v114) { goto L16; }
+    else { v16 = 0u; v17 = v62; v18 = v86; v19 = v73; v20 = v81; goto L34; }
 L16:;
-    v116 = (u64)((u64)v114 << (4u & 63u));
-    v117 = v10 + v116 * 1u;
-    v118 = v117 + 8u * 1u;
-    v119 = load8(v118);
-    switch (v119) {
+    v115 = (u64)((u64)v113 << (4u & 63u));
+    v116 = v10 + v115 * 1u;
+    v117 = v116 + 8u * 1u;
+    v118 = load8(v117);
+    switch (v118) {
     case 4u: goto L18;
     case 5u: goto L18;
     case 7u: goto L18;
     case 8u: goto L18;
-    case 0u: v17 = 0u; v18 = v63; v19 = v87; v20 = v74; v21 = v82; goto L32;
-    case 1u: v17 = 0u; v18 = v63; v19 = v87; v20 = v74; v21 = v82; goto L32;
-    case 2u: v17 = 0u; v18 = v63; v19 = v87; v20 = v74; v21 = v82; goto L32;
-    case 3u: v17 = 0u; v18 = v63; v19 = v87; v20 = v74; v21 = v82; goto L32;
-    case 6u: v17 = 0u; v18 = v63; v19 = v87; v20 = v74; v21 = v82; goto L32;
+    case 0u: v16 = 0u; v17 = v62; v18 = v86; v19 = v73; v20 = v81; goto L34;
+    case 1u: v16 = 0u; v17 = v62; v18 = v86; v19 = v73; v20 = v81; goto L34;
+    case 2u: v16 = 0u; v17 = v62; v18 = v86; v19 = v73; v20 = v81; goto L34;
+    case 3u: v16 = 0u; v17 = v62; v18 = v86; v19 = v73; v20 = v81; goto L34;
+    case 6u: v16 = 0u; v17 = v62; v18 = v86; v19 = v73; v20 = v81; goto L34;
     default: goto L17;
     }
 L17:;
     UNREACHABLE;
 L18:;
-    v120 = v109 ? 376u : 256u;
-    v121 = a1 + v120 * 1u;
-    v122 = load64(v121);
-    v123 = (u16)(v122);
-    v124 = (u16)((u32)v123 + (u32)1u);
-    v125 = v124 > 1u;
-    if (v125) { goto L19; }
-    else { v17 = 0u; v18 = v63; v19 = v87; v20 = v74; v21 = v82; goto L32; }
+    v119 = v108 ? 376u : 256u;
+    v120 = a1 + v119 * 1u;
+    v121 = load64(v120);
+    v122 = (u16)(v121);
+    v123 = (u16)((u32)v122 + (u32)1u);
+    v124 = v123 > 1u;
+    if (v124) { goto L19; }
+    else { v16 = 0u; v17 = v62; v18 = v86; v19 = v73; v20 = v81; goto L34; }
 L19:;
-    v126 = a3 + 2u * 1u;
-    v127 = a3 + 3u * 1u;
-    v128 = (u64)a3;
-    v129 = (u64)a2;
-    v130 = (u64)v124;
+    v125 = a3 + 2u * 1u;
+    v126 = a3 + 3u * 1u;
+    v127 = a3 + 45u * 1u;
+    v128 = (u64)a2;
+    v129 = (u64)v123;
     v11 = 0u; v12 = 1u; goto L20;
 L20:;
-    v131 = v12 == v129;
-    if (v131) { v16 = v11; goto L30; }
+    v130 = v12 == v128;
+    if (v130) { v15 = v11; goto L32; }
     else { goto L21; }
 L21:;
-    v132 = (u64)((u64)v12 + (u64)UINT64_C(18446744073709551615));
-    v133 = load8(v107);
-    v134 = v133 == 0u;
-    if (v134) { v13 = 376u; v14 = v110; goto L23; }
+    v131 = (u64)((u64)v12 + (u64)UINT64_C(18446744073709551615));
+    v132 = load8(v106);
+    v133 = v132 == 0u;
+    if (v133) { v13 = 376u; v14 = v109; goto L23; }
     else { goto L22; }
 L22:;
-    v135 = load_address(v110);
-    v13 = 256u; v14 = v135; goto L23;
+    v134 = load_address(v109);
+    v13 = 256u; v14 = v134; goto L23;
 L23:;
-    v136 = a1 + v13 * 1u;
-    v137 = load64(v136);
-    v138 = v137 > v132;
-    if (v138) { goto L24; }
-    else { v16 = v11; goto L30; }
+    v135 = a1 + v13 * 1u;
+    v136 = load64(v135);
+    v137 = v136 > v131;
+    if (v137) { goto L24; }
+    else { v15 = v11; goto L32; }
 L24:;
-    v139 = (u64)((u64)v132 << (4u & 63u));
-    v140 = v14 + v139 * 1u;
-    v141 = v140 + 8u * 1u;
-    v142 = load8(v141);
-    switch (v142) {
+    v138 = (u64)((u64)v131 << (4u & 63u));
+    v139 = v14 + v138 * 1u;
+    v140 = v139 + 8u * 1u;
+    v141 = load8(v140);
+    switch (v141) {
     case 4u: goto L26;
     case 5u: goto L26;
     case 7u: goto L26;
     case 8u: goto L26;
-    case 0u: v16 = v11; goto L30;
-    case 1u: v16 = v11; goto L30;
-    case 2u: v16 = v11; goto L30;
-    case 3u: v16 = v11; goto L30;
-    case 6u: v16 = v11; goto L30;
+    case 0u: v15 = v11; goto L32;
+    case 1u: v15 = v11; goto L32;
+    case 2u: v15 = v11; goto L32;
+    case 3u: v15 = v11; goto L32;
+    case 6u: v15 = v11; goto L32;
     default: goto L25;
     }
 L25:;
     UNREACHABLE;
 L26:;
-    v143 = (u64)((u64)v11 * (u64)1476u);
-    v144 = a7 + v143 * 1u;
+    v142 = (u64)((u64)v11 * (u64)1476u);
+    v143 = a7 + v142 * 1u;
+    v144 = load8(v125);
     v145 = load8(v126);
-    v146 = load8(v127);
-    v147 = (u16)v145;
-    v148 = (u16)((u32)v147 << (8u & 15u));
-    v149 = (u16)v146;
-    v150 = (u16)((u32)v148 | (u32)v149);
-    v151 = (u64)v150;
-    v152 = (u16)(v12);
-    store16(v144, v152);
-    v153 = v144 + 2u * 1u;
-    store16(v153, v150);
-    v154 = v144 + 4u * 1u;
-    v155 = (u64)v154;
-    v156 = (u64)((u64)v155 - (u64)v128);
-    v157 = v156 < v151;
-    if (v157) { v15 = 0u; goto L28; }
-    else { goto L27; }
-L27:;
-    memory_move(v154, a3, v151);
-    goto L29;
-L28:;
-    v158 = v154 + v15 * 1u;
-    v159 = a3 + v15 * 1u;
-    v160 = load8(v159);
-    store8(v158, v160);
-    v161 = (u64)((u64)v15 + (u64)1u);
-    v162 = v161 == v151;
-    if (v162) { goto L29; }
-    else { v15 = v161; goto L28; }
-L29:;
-    v163 = v144 + 49u * 1u;
-    v164 = load8(v163);
-    v165 = (u8)((u32)v164 + (u32)255u);
-    store8(v163, v165);
-    v166 = (u64)((u64)v11 + (u64)1u);
-    v16 = v166; goto L30;
-L30:;
-    v167 = (u64)((u64)v12 + (u64)1u);
-    v168 = v167 == v130;
-    if (v168) { goto L31; }
-    else { v11 = v16; v12 = v167; goto L20; }
-L31:;
-    v169 = load8(v42);
-    v170 = load8(v44);
-    v171 = load8(v81);
-    v172 = load64(v73);
-    v173 = load64(v86);
-    v174 = (u16)v169;
-    v175 = (u16)((u32)v174 << (8u & 15u));
-    v176 = (u16)v170;
-    v177 = (u16)((u32)v175 | (u32)v176);
-    v17 = v16; v18 = v177; v19 = v173; v20 = v172; v21 = v171; goto L32;
-L32:;
-    v178 = v39 + 44u * 1u;
-    v179 = load8(v178);
-    v180 = v39 + 45u * 1u;
-    v181 = load8(v180);
-    v182 = v179 > v181 ? (u8)((u32)v179 - (u32)v181) : 0u;
-    v183 = v39 + 30u * 1u;
-    v184 = load8(v183);
-    v185 = v39 + 31u * 1u;
-    v186 = load8(v185);
-    v187 = (u16)v184;
-    v188 = (u16)((u32)v187 << (8u & 15u));
-    v189 = (u16)v186;
-    v190 = (u16)((u32)v188 | (u32)v189);
-    v191 = v39 + 28u * 1u;
-    v192 = load8(v191);
-    v193 = v39 + 29u * 1u;
-    v194 = load8(v193);
-    v195 = (u16)v192;
-    v196 = (u16)((u32)v195 << (8u & 15u));
-    v197 = (u16)v194;
-    v198 = (u16)((u32)v196 | (u32)v197);
-    v199 = (u16)v21;
-    v200 = swap16(a2);
-    v201 = swap16(v190);
-    v202 = swap16(v198);
-    v203 = (u32)v182;
-    v204 = (u32)((u32)v203 * (u32)257u);
-    v205 = (u32)((u32)v204 | (u32)UINT32_C(131072));
-    v206 = swap16(v18);
-    v207 = (u64)((u64)v17 * (u64)1476u);
-    v208 = a7 + v207 * 1u;
-    store16(v208, a2);
-    v209 = (u16)(a6);
-    v210 = (u16)((u32)v209 + (u32)54u);
-    v211 = v208 + 2u * 1u;
-    store16(v211, v210);
-    v212 = v208 + 4u * 1u;
-    v213 = v208 + 58u * 1u;
-    store16(v212, 4621u);
-    v214 = v208 + 6u * 1u;
-    store16(v214, 13824u);
-    v215 = v208 + 8u * 1u;
-    store16(v215, v199);
-    v216 = v208 + 10u * 1u;
-    memory_set(v216, 0u, 14u);
-    v217 = v208 + 24u * 1u;
-    store64(v217, v20);
-    v218 = v208 + 32u * 1u;
-    store16(v218, v200);
-    v219 = v208 + 34u * 1u;
-    store16(v219, v201);
-    v220 = v208 + 36u * 1u;
-    store16(v220, 32516u);
-    v221 = v208 + 38u * 1u;
-    store64(v221, v19);
-    v222 = v208 + 46u * 1u;
-    store16(v222, v202);
-    v223 = v208 + 48u * 1u;
-    store32(v223, v205);
-    v224 = v208 + 52u * 1u;
-    store16(v224, 256u);
-    v225 = v208 + 54u * 1u;
-    store16(v225, 512u);
-    v226 = v208 + 56u * 1u;
-    store16(v226, v206);
-    v227 = (u64)v213;
-    v228 = (u64)a5;
-    v229 = (u64)((u64)v227 - (u64)v228);
-    v230 = v229 < a6;
-    if (v230) { v22 = 0u; goto L34; }
-    else { goto L33; }
-L33:;
-    memory_move(v213, a5, a6);
-    goto L35;
-L34:;
-    v231 = v213 + v22 * 1u;
-    v232 = a5 + v22 * 1u;
-    v233 = load8(v232);
-    store8(v231, v233);
-    v234 = (u64)((u64)v22 + (u64)1u);
-    v235 = v234 == a6;
-    if (v235) { goto L35; }
-    else { v22 = v234; goto L34; }
-L35:;
-    v236 = swap16(v210);
-    store16(v214, v236);
-    store16(v218, v200);
-    v237 = (u16)((u32)v209 + (u32)2u);
-    v238 = swap16(v237);
-    store16(v225, v238);
-    v239 = (u64)((u64)v17 + (u64)1u);
-    store8(a0, 9u);
-    v240 = a0 + 1u * 1u;
-    v241 = a0 + 8u * 1u;
-    memory_set(v240, 0u, 7u);
-    store64(v241, v239);
-    v242 = a0 + 16u * 1u;
-    memory_set(v242, 0u, 80u);
-    goto L36;
-L36:;
-    return;
-L37:;
-    memory_set(v25, 0u, 32u);
-    f8(v25, a3, a4);
-    v243 = load8(v25);
-    v244 = v243 == 0u;
-    if (v244) { goto L38; }
-    else { goto L48; }
-L38:;
-    v245 = v25 + 8u * 1u;
-    memory_cpy(v24, v245, 24u);
-    v246 = v24 + 16u * 1u;
-    v247 = load8(v246);
-    v248 = v24 + 17u * 1u;
-    v249 = load8(v248);
-    v250 = v249 == 0u;
-    v251 = load_address(v24);
-    v252 = v250 ? 52u : 54u;
-    v253 = v250 ? 53u : 55u;
-    v254 = v251 + v252 * 1u;
-    v255 = load8(v254);
-    v256 = v251 + v253 * 1u;
-    v257 = load8(v256);
-    v258 = v251 + 42u * 1u;
-    v259 = load8(v258);
-    v260 = v251 + 43u * 1u;
-    v261 = load8(v260);
-    v262 = v24 + 8u * 1u;
-    v263 = load64(v262);
-    v264 = v251 + 54u * 1u;
-    v265 = (u64)((u64)v263 + (u64)UINT64_C(18446744073709551562));
-    v266 = v250 ? v264 : ADDRESS(c148);
-    v267 = v250 ? v265 : 0u;
-    v268 = (u16)v259;
-    v269 = (u16)((u32)v268 << (8u & 15u));
-    v270 = (u16)v261;
-    v271 = (u16)((u32)v269 | (u32)v270);
-    v272 = (u16)v255;
-    v273 = (u16)((u32)v272 << (8u & 15u));
-    v274 = (u16)v257;
-    v275 = (u16)((u32)v273 | (u32)v274);
-    store8(v23, v247);
-    v276 = v23 + 1u * 1u;
-    store8(v276, 0u);
-    v277 = v23 + 2u * 1u;
-    store16(v277, v275);
-    v278 = v23 + 4u * 1u;
-    store16(v278, v271);
-    v279 = v23 + 6u * 1u;
-    store16(v279, 0u);
-    v280 = v23 + 8u * 1u;
-    store_address(v280, v266);
-    v281 = v23 + 16u * 1u;
-    store64(v281, v267);
-    v282 = f64(v23);
-    if (v282) { goto L39; }
-    else { goto L45; }
-L39:;
-    v283 = v251 + 34u * 1u;
-    v284 = load64(v283);
-    v285 = a1 + 384u * 1u;
-    v286 = load64(v285);
-    v287 = load8(v251);
-    v288 = (u8)((u32)v287 >> (4u & 7u));
-    v289 = v251 + 5u * 1u;
-    v290 = load8(v289);
-    v291 = (u8)((u32)v288 | (u32)v290);
-    v292 = v291 == 0u;
-    if (v292) { goto L40; }
-    else { goto L45; }
-L40:;
-    v293 = v251 + 4u * 1u;
-    v294 = load8(v293);
-    v295 = a1 + 8u * 1u;
-    v296 = load8(v295);
-    v297 = v294 == v296;
-    if (v297) { goto L41; }
-    else { goto L45; }
-L41:;
-    v298 = v251 + 20u * 1u;
-    v299 = load64(v298);
-    v300 = v299 == v286;
-    if (v300) { goto L45; }
-    else { goto L42; }
-L42:;
-    v301 = v284 == v286;
-    v302 = v284 == UINT64_C(18446744073709551615);
-    v303 = (u8)(((u32)v302 | (u32)v301) & UINT64_C(1));
-    if (v303) { goto L43; }
-    else { goto L45; }
-L43:;
-    switch (v271) {
-    case 65535u: goto L46;
-    case 0u: goto L45;
-    default: goto L44;
+    v146 = (u16)v144;
+    v147 = (u16)((u32)v146 << (8u & 15u));
+    v148 = (u16)v145;
+    v149 = (u16)((u32)v147 | (u32)v148);
+    v150 = (u16)(v12);
+    store16(v143, v150);
+    v151 = v143 + 2u * 1u;
+    store16(v151, v149);
+    v152 = v143 + 4u * 1u;
+    switch (v149) {
+    case 54u: goto L27;
+    case 56u: goto L28;
+    case 80u: goto L29;
+    default: goto L30;
     }
+L27:;
+    memory_move(v152, a3, 54u);
+    goto L31;
+L28:;
+    memory_move(v152, a3, 56u);
+    goto L31;
+L29:;
+    memory_move(v152, a3, 80u);
+    goto L31;
+L30:;
+    v153 = (u64)v149;
+    f51(v152, a3, v153);
+    goto L31;
+L31:;
+    v154 = load8(v127);
+    v155 = (u8)((u32)v154 + (u32)255u);
+    v156 = v143 + 49u * 1u;
+    store8(v156, v155);
+    v157 = (u64)((u64)v11 + (u64)1u);
+    v15 = v157; goto L32;
+L32:;
+    v158 = (u64)((u64)v12 + (u64)1u);
+    v159 = v158 == v129;
+    if (v159) { goto L33; }
+    else { v11 = v15; v12 = v158; goto L20; }
+L33:;
+    v160 = load8(v41);
+    v161 = load8(v43);
+    v162 = load8(v80);
+    v163 = load64(v72);
+    v164 = load64(v85);
+    v165 = (u16)v160;
+    v166 = (u16)((u32)v165 << (8u & 15u));
+    v167 = (u16)v161;
+    v168 = (u16)((u32)v166 | (u32)v167);
+    v16 = v15; v17 = v168; v18 = v164; v19 = v163; v20 = v162; goto L34;
+L34:;
+    v169 = v38 + 44u * 1u;
+    v170 = load8(v169);
+    v171 = v38 + 45u * 1u;
+    v172 = load8(v171);
+    v173 = v170 > v172 ? (u8)((u32)v170 - (u32)v172) : 0u;
+    v174 = v38 + 30u * 1u;
+    v175 = load8(v174);
+    v176 = v38 + 31u * 1u;
+    v177 = load8(v176);
+    v178 = (u16)v175;
+    v179 = (u16)((u32)v178 << (8u & 15u));
+    v180 = (u16)v177;
+    v181 = (u16)((u32)v179 | (u32)v180);
+    v182 = v38 + 28u * 1u;
+    v183 = load8(v182);
+    v184 = v38 + 29u * 1u;
+    v185 = load8(v184);
+    v186 = (u16)v183;
+    v187 = (u16)((u32)v186 << (8u & 15u));
+    v188 = (u16)v185;
+    v189 = (u16)((u32)v187 | (u32)v188);
+    v190 = (u16)v20;
+    v191 = swap16(a2);
+    v192 = swap16(v181);
+    v193 = swap16(v189);
+    v194 = (u32)v173;
+    v195 = (u32)((u32)v194 * (u32)257u);
+    v196 = (u32)((u32)v195 | (u32)UINT32_C(131072));
+    v197 = swap16(v17);
+    v198 = (u64)((u64)v16 * (u64)1476u);
+    v199 = a7 + v198 * 1u;
+    store16(v199, a2);
+    v200 = (u16)(a6);
+    v201 = (u16)((u32)v200 + (u32)54u);
+    v202 = v199 + 2u * 1u;
+    store16(v202, v201);
+    v203 = v199 + 4u * 1u;
+    v204 = v199 + 58u * 1u;
+    store16(v203, 4621u);
+    v205 = v199 + 6u * 1u;
+    store16(v205, 13824u);
+    v206 = v199 + 8u * 1u;
+    store16(v206, v190);
+    v207 = v199 + 10u * 1u;
+    memory_set(v207, 0u, 14u);
+    v208 = v199 + 24u * 1u;
+    store64(v208, v19);
+    v209 = v199 + 32u * 1u;
+    store16(v209, v191);
+    v210 = v199 + 34u * 1u;
+    store16(v210, v192);
+    v211 = v199 + 36u * 1u;
+    store16(v211, 32516u);
+    v212 = v199 + 38u * 1u;
+    store64(v212, v18);
+    v213 = v199 + 46u * 1u;
+    store16(v213, v193);
+    v214 = v199 + 48u * 1u;
+    store32(v214, v196);
+    v215 = v199 + 52u * 1u;
+    store16(v215, 256u);
+    v216 = v199 + 54u * 1u;
+    store16(v216, 512u);
+    v217 = v199 + 56u * 1u;
+    store16(v217, v197);
+    v218 = (u64)v204;
+    v219 = (u64)a5;
+    v220 = (u64)((u64)v218 - (u64)v219);
+    v221 = v220 < a6;
+    if (v221) { v21 = 0u; goto L36; }
+    else { goto L35; }
+L35:;
+    memory_move(v204, a5, a6);
+    goto L37;
+L36:;
+    v222 = v204 + v21 * 1u;
+    v223 = a5 + v21 * 1u;
+    v224 = load8(v223);
+    store8(v222, v224);
+    v225 = (u64)((u64)v21 + (u64)1u);
+    v226 = v225 == a6;
+    if (v226) { goto L37; }
+    else { v21 = v225; goto L36; }
+L37:;
+    v227 = swap16(v201);
+    store16(v205, v227);
+    store16(v209, v191);
+    v228 = (u16)((u32)v200 + (u32)2u);
+    v229 = swap16(v228);
+    store16(v216, v229);
+    v230 = (u64)((u64)v16 + (u64)1u);
+    store8(a0, 9u);
+    v231 = a0 + 1u * 1u;
+    v232 = a0 + 8u * 1u;
+    memory_set(v231, 0u, 7u);
+    store64(v232, v230);
+    v233 = a0 + 16u * 1u;
+    memory_set(v233, 0u, 80u);
+    goto L38;
+L38:;
+    return;
+L39:;
+    memory_set(v24, 0u, 32u);
+    f8(v24, a3, a4);
+    v234 = load8(v24);
+    v235 = v234 == 0u;
+    if (v235) { goto L40; }
+    else { goto L50; }
+L40:;
+    v236 = v24 + 8u * 1u;
+    memory_cpy(v23, v236, 24u);
+    v237 = v23 + 16u * 1u;
+    v238 = load8(v237);
+    v239 = v23 + 17u * 1u;
+    v240 = load8(v239);
+    v241 = v240 == 0u;
+    v242 = load_address(v23);
+    v243 = v241 ? 52u : 54u;
+    v244 = v241 ? 53u : 55u;
+    v245 = v242 + v243 * 1u;
+    v246 = load8(v245);
+    v247 = v242 + v244 * 1u;
+    v248 = load8(v247);
+    v249 = v242 + 42u * 1u;
+    v250 = load8(v249);
+    v251 = v242 + 43u * 1u;
+    v252 = load8(v251);
+    v253 = v23 + 8u * 1u;
+    v254 = load64(v253);
+    v255 = v242 + 54u * 1u;
+    v256 = (u64)((u64)v254 + (u64)UINT64_C(18446744073709551562));
+    v257 = v241 ? v255 : ADDRESS(c148);
+    v258 = v241 ? v256 : 0u;
+    v259 = (u16)v250;
+    v260 = (u16)((u32)v259 << (8u & 15u));
+    v261 = (u16)v252;
+    v262 = (u16)((u32)v260 | (u32)v261);
+    v263 = (u16)v246;
+    v264 = (u16)((u32)v263 << (8u & 15u));
+    v265 = (u16)v248;
+    v266 = (u16)((u32)v264 | (u32)v265);
+    store8(v22, v238);
+    v267 = v22 + 1u * 1u;
+    store8(v267, 0u);
+    v268 = v22 + 2u * 1u;
+    store16(v268, v266);
+    v269 = v22 + 4u * 1u;
+    store16(v269, v262);
+    v270 = v22 + 6u * 1u;
+    store16(v270, 0u);
+    v271 = v22 + 8u * 1u;
+    store_address(v271, v257);
+    v272 = v22 + 16u * 1u;
+    store64(v272, v258);
+    v273 = f66(v22);
+    if (v273) { goto L41; }
+    else { goto L47; }
+L41:;
+    v274 = v242 + 34u * 1u;
+    v275 = load64(v274);
+    v276 = a1 + 384u * 1u;
+    v277 = load64(v276);
+    v278 = load8(v242);
+    v279 = (u8)((u32)v278 >> (4u & 7u));
+    v280 = v242 + 5u * 1u;
+    v281 = load8(v280);
+    v282 = (u8)((u32)v279 | (u32)v281);
+    v283 = v282 == 0u;
+    if (v283) { goto L42; }
+    else { goto L47; }
+L42:;
+    v284 = v242 + 4u * 1u;
+    v285 = load8(v284);
+    v286 = a1 + 8u * 1u;
+    v287 = load8(v286);
+    v288 = v285 == v287;
+    if (v288) { goto L43; }
+    else { goto L47; }
+L43:;
+    v289 = v242 + 20u * 1u;
+    v290 = load64(v289);
+    v291 = v290 == v277;
+    if (v291) { goto L47; }
+    else { goto L44; }
 L44:;
-    v304 = a1 + 240u * 1u;
-    v305 = load8(v304);
-    v306 = v305 == 0u;
-    v307 = v306 ? 376u : 256u;
-    v308 = a1 + v307 * 1u;
-    v309 = load64(v308);
-    v310 = (u16)(v309);
-    v311 = v271 > v310;
-    if (v311) { goto L45; }
-    else { goto L46; }
+    v292 = v275 == v277;
+    v293 = v275 == UINT64_C(18446744073709551615);
+    v294 = (u8)(((u32)v293 | (u32)v292) & UINT64_C(1));
+    if (v294) { goto L45; }
+    else { goto L47; }
 L45:;
-    goto L48;
+    switch (v262) {
+    case 65535u: goto L48;
+    case 0u: goto L47;
+    default: goto L46;
+    }
 L46:;
-    v312 = f65(a1, v24);
-    v313 = v312 == 1u;
-    if (v313) { goto L47; }
+    v295 = a1 + 240u * 1u;
+    v296 = load8(v295);
+    v297 = v296 == 0u;
+    v298 = v297 ? 376u : 256u;
+    v299 = a1 + v298 * 1u;
+    v300 = load64(v299);
+    v301 = (u16)(v300);
+    v302 = v262 > v301;
+    if (v302) { goto L47; }
     else { goto L48; }
 L47:;
-    v314 = v251 + 28u * 1u;
-    v315 = load8(v314);
-    v316 = v251 + 29u * 1u;
-    v317 = load8(v316);
-    v318 = v251 + 30u * 1u;
-    v319 = load8(v318);
-    v320 = v251 + 31u * 1u;
-    v321 = load8(v320);
-    v322 = (u16)v319;
-    v323 = (u16)((u32)v322 << (8u & 15u));
-    v324 = (u16)v321;
-    v325 = (u16)((u32)v323 | (u32)v324);
-    v326 = (u16)v315;
-    v327 = (u16)((u32)v326 << (8u & 15u));
-    v328 = (u16)v317;
-    v329 = (u16)((u32)v327 | (u32)v328);
-    store64(v26, v299);
-    v330 = v26 + 8u * 1u;
-    store16(v330, v329);
-    v331 = v26 + 10u * 1u;
-    store16(v331, v325);
-    v332 = v26 + 12u * 1u;
-    store32(v332, 0u);
-    v333 = v26 + 16u * 1u;
-    store8(v333, v247);
-    v334 = v26 + 17u * 1u;
-    store8(v334, 0u);
-    v335 = v26 + 18u * 1u;
-    store16(v335, v275);
-    v336 = v26 + 20u * 1u;
-    store16(v336, v271);
-    v337 = v26 + 22u * 1u;
-    store16(v337, 0u);
-    v338 = v26 + 24u * 1u;
-    store_address(v338, v266);
-    v339 = v26 + 32u * 1u;
-    store64(v339, v267);
-    f66(a1, v26, a5, a6);
-    f43(v30, a1, a2, a3, a4, a7, a8);
-    v340 = v30 + 24u * 1u;
-    v341 = load32(v340);
-    v342 = v30 + 28u * 1u;
-    v343 = v30 + 8u * 1u;
-    v344 = load64(v343);
-    store8(a0, 5u);
-    v345 = a0 + 1u * 1u;
-    v346 = a0 + 8u * 1u;
-    memory_set(v345, 0u, 7u);
-    store64(v346, v344);
-    v347 = a0 + 16u * 1u;
-    store64(v347, 0u);
-    v348 = a0 + 24u * 1u;
-    store32(v348, v341);
-    v349 = a0 + 28u * 1u;
-    memory_cpy(v349, v342, 64u);
-    v350 = a0 + 92u * 1u;
-    store32(v350, 0u);
-    goto L36;
+    goto L50;
 L48:;
-    f43(v30, a1, a2, a3, a4, a7, a8);
-    v351 = load8(v30);
-    v352 = v30 + 1u * 1u;
-    v353 = load8(v352);
-    v354 = v30 + 2u * 1u;
-    v355 = v30 + 8u * 1u;
-    v356 = load64(v355);
-    v357 = v30 + 16u * 1u;
-    v358 = load64(v357);
-    v359 = v30 + 24u * 1u;
-    v360 = load32(v359);
-    v361 = v30 + 28u * 1u;
-    v362 = v30 + 92u * 1u;
-    v363 = load32(v362);
-    store8(a0, v351);
-    v364 = a0 + 1u * 1u;
-    store8(v364, v353);
-    v365 = a0 + 2u * 1u;
-    memory_cpy(v365, v354, 6u);
-    v366 = a0 + 8u * 1u;
-    store64(v366, v356);
-    v367 = a0 + 16u * 1u;
-    store64(v367, v358);
-    v368 = a0 + 24u * 1u;
-    store32(v368, v360);
-    v369 = a0 + 28u * 1u;
-    memory_cpy(v369, v361, 64u);
-    v370 = a0 + 92u * 1u;
-    store32(v370, v363);
-    goto L36;
+    v303 = f67(a1, v23);
+    v304 = v303 == 1u;
+    if (v304) { goto L49; }
+    else { goto L50; }
+L49:;
+    v305 = v242 + 28u * 1u;
+    v306 = load8(v305);
+    v307 = v242 + 29u * 1u;
+    v308 = load8(v307);
+    v309 = v242 + 30u * 1u;
+    v310 = load8(v309);
+    v311 = v242 + 31u * 1u;
+    v312 = load8(v311);
+    v313 = (u16)v310;
+    v314 = (u16)((u32)v313 << (8u & 15u));
+    v315 = (u16)v312;
+    v316 = (u16)((u32)v314 | (u32)v315);
+    v317 = (u16)v306;
+    v318 = (u16)((u32)v317 << (8u & 15u));
+    v319 = (u16)v308;
+    v320 = (u16)((u32)v318 | (u32)v319);
+    store64(v25, v290);
+    v321 = v25 + 8u * 1u;
+    store16(v321, v320);
+    v322 = v25 + 10u * 1u;
+    store16(v322, v316);
+    v323 = v25 + 12u * 1u;
+    store32(v323, 0u);
+    v324 = v25 + 16u * 1u;
+    store8(v324, v238);
+    v325 = v25 + 17u * 1u;
+    store8(v325, 0u);
+    v326 = v25 + 18u * 1u;
+    store16(v326, v266);
+    v327 = v25 + 20u * 1u;
+    store16(v327, v262);
+    v328 = v25 + 22u * 1u;
+    store16(v328, 0u);
+    v329 = v25 + 24u * 1u;
+    store_address(v329, v257);
+    v330 = v25 + 32u * 1u;
+    store64(v330, v258);
+    f68(a1, v25, a5, a6);
+    f44(v29, a1, a2, a3, a4, a7, a8);
+    v331 = v29 + 24u * 1u;
+    v332 = load32(v331);
+    v333 = v29 + 28u * 1u;
+    v334 = v29 + 8u * 1u;
+    v335 = load64(v334);
+    store8(a0, 5u);
+    v336 = a0 + 1u * 1u;
+    v337 = a0 + 8u * 1u;
+    memory_set(v336, 0u, 7u);
+    store64(v337, v335);
+    v338 = a0 + 16u * 1u;
+    store64(v338, 0u);
+    v339 = a0 + 24u * 1u;
+    store32(v339, v332);
+    v340 = a0 + 28u * 1u;
+    memory_cpy(v340, v333, 64u);
+    v341 = a0 + 92u * 1u;
+    store32(v341, 0u);
+    goto L38;
+L50:;
+    f44(v29, a1, a2, a3, a4, a7, a8);
+    v342 = load8(v29);
+    v343 = v29 + 1u * 1u;
+    v344 = load8(v343);
+    v345 = v29 + 2u * 1u;
+    v346 = v29 + 8u * 1u;
+    v347 = load64(v346);
+    v348 = v29 + 16u * 1u;
+    v349 = load64(v348);
+    v350 = v29 + 24u * 1u;
+    v351 = load32(v350);
+    v352 = v29 + 28u * 1u;
+    v353 = v29 + 92u * 1u;
+    v354 = load32(v353);
+    store8(a0, v342);
+    v355 = a0 + 1u * 1u;
+    store8(v355, v344);
+    v356 = a0 + 2u * 1u;
+    memory_cpy(v356, v345, 6u);
+    v357 = a0 + 8u * 1u;
+    store64(v357, v347);
+    v358 = a0 + 16u * 1u;
+    store64(v358, v349);
+    v359 = a0 + 24u * 1u;
+    store32(v359, v351);
+    v360 = a0 + 28u * 1u;
+    memory_cpy(v360, v352, 64u);
+    v361 = a0 + 92u * 1u;
+    store32(v361, v354);
+    goto L38;
 }
 
-static u8 f64(address a0) {
+static u8 f66(address a0) {
     u8 v1, v2, v3;
     address v4;
     u16 v5;
@@ -13665,7 +13898,7 @@ L3:;
     return v1;
 }
 
-static u8 f65(address a0, address a1) {
+static u8 f67(address a0, address a1) {
     address v2, v5, v6, v7, v8, v10, v12, v17, v20, v22, v24, v30, v31, v33, v39, v41;
     address v46, v48, v50, v52, v59, v60, v61, v62, v63, v64;
     u64 v3, v9, v18, v21, v44, v45, v51, v53;
@@ -13751,14 +13984,14 @@ L3:;
     store_address(v63, v2);
     v64 = v6 + 16u * 1u;
     store64(v64, v3);
-    v65 = f46(v17, v5, v38, v6);
+    v65 = f47(v17, v5, v38, v6);
     v66 = v65.m0;
     v4 = v66; goto L4;
 L4:;
     return v4;
 }
 
-static void f66(address a0, address a1, address a2, u64 a3) {
+static void f68(address a0, address a1, address a2, u64 a3) {
     u8 v4, v25, v28, v31, v32;
     address v5, v6, v7, v8, v9, v10, v11, v12, v13, v14, v15, v16, v17, v18, v19, v20;
     address v21, v22, v23, v24, v26, v29, v30, v33, v34, v35, v36, v37, v38, v39, v40, v41;
@@ -13900,11 +14133,11 @@ L3:;
     v56 = v15 + 8u * 1u;
     v57 = a1 + 10u * 1u;
     v58 = load16(v57);
-    f67(a0, a1, v58, v24, v56, 1u);
+    f69(a0, a1, v58, v24, v56, 1u);
     return;
 }
 
-static void f67(address a0, address a1, u16 a2, address a3, address a4, u64 a5) {
+static void f69(address a0, address a1, u16 a2, address a3, address a4, u64 a5) {
     address v6, v16, v23, v24, v25, v26, v29, v31, v33, v36, v43, v44, v45, v47, v48, v50;
     address v51, v53, v54, v55, v56, v59, v68, v69, v77, v78, v80, v82, v86, v89, v90, v93;
     address v94, v97, v100, v103, v104, v105, v106, v107, v108, v109, v110, v111, v112, v113, v114, v115;
@@ -14010,7 +14243,7 @@ L9:;
     if (v72) { goto L11; }
     else { v9 = v71; goto L9; }
 L10:;
-    f49(v43, v55, v57);
+    f50(v43, v55, v57);
     goto L11;
 L11:;
     v73 = a5 == 0u;
@@ -14383,7 +14616,7 @@ L56:;
     store8(v256, v254);
     v22 = v255; goto L58;
 L57:;
-    v257 = f68(v23, v121);
+    v257 = f70(v23, v121);
     v258 = (u8)(v257);
     v259 = load64(v122);
     v260 = load_address(v120);
@@ -14403,7 +14636,7 @@ L60:;
     return;
 }
 
-static u64 f68(address a0, address a1) {
+static u64 f70(address a0, address a1) {
     u64 v2, v3, v10, v12, v13, v14, v15, v16, v17, v18, v21, v38, v39, v40, v64, v76;
     u64 v77, v78, v102, v138;
     address v4, v5, v6, v9, v20, v22, v29, v30, v32, v36, v37, v43, v44, v46, v47, v49;
@@ -14622,11 +14855,11 @@ L14:;
     goto L15;
 L15:;
     v138 = load64(v5);
-    f52(a1, v4, v138);
+    f53(a1, v4, v138);
     return v18;
 }
 
-static void f69(address a0, address a1, u64 a2) {
+static void f71(address a0, address a1, u64 a2) {
     u64 v3, v4, v5, v6, v7, v9, v12, v14, v16, v17, v19, v21, v23, v24, v25, v28;
     u64 v29, v32, v41, v42, v43, v44, v46;
     address v8, v11, v13, v18, v20, v27, v30, v31, v33, v34, v36, v39, v40;
@@ -14705,7 +14938,7 @@ L10:;
     goto L12;
 L11:;
     v41 = (u64)v35;
-    f50(v40, v36, v41);
+    f51(v40, v36, v41);
     goto L12;
 L12:;
     v42 = load64(v27);
@@ -14723,7 +14956,1496 @@ L14:;
     return;
 }
 
-static struct s2 f70(address a0, address a1, u64 a2) {
+static void f72(address a0, address a1, u8 a2, address a3) {
+    address v4, v27, v28, v29, v30, v31, v33, v34, v35, v36, v37, v38, v39, v40, v50, v51;
+    address v52, v78, v79, v80, v82, v83, v85, v86, v90, v92, v93, v96, v97, v98, v103, v104;
+    address v106, v107, v108, v109, v112, v113, v114, v119, v120, v124, v126, v127, v130, v132, v133, v135;
+    address v136, v137, v138, v141, v142, v143, v144, v149, v150, v155, v157, v158, v161, v162, v164, v165;
+    address v166, v168, v169, v172, v173, v174;
+    u64 v5, v21, v22, v24, v53, v57, v58, v59, v60, v67, v68, v71, v72, v75, v76, v94;
+    u64 v95, v99, v100, v110, v111, v115, v116, v117, v122, v128, v129, v139, v140, v145, v146, v147;
+    u64 v152, v159, v160, v170, v171, v175, v176;
+    u8 v6, v7, v8, v9, v10, v11, v12, v13, v14, v15, v16, v17, v18, v19, v20, v23;
+    u8 v25, v26, v41, v42, v43, v44, v45, v46, v47, v48, v49, v54, v55, v56, v61, v62;
+    u8 v63, v64, v65, v66, v69, v70, v73, v74, v77, v81, v87, v101, v102, v118, v121, v123;
+    u8 v131, v148, v151, v153;
+    u16 v32, v84, v88, v89, v91, v105, v125, v134, v154, v156, v163, v167;
+    u64 block0[1];
+    u64 block1[1];
+    u64 block2[4];
+    u64 block3[1];
+    v27 = ADDRESS(block0);
+    v28 = ADDRESS(block1);
+    v29 = ADDRESS(block2);
+    v30 = ADDRESS(block3);
+    v31 = a1 + 2u * 1u;
+    v32 = load16(v31);
+    switch (v32) {
+    case 0u: v4 = ADDRESS(c120); v5 = 19u; v6 = 0u; v7 = 2u; v8 = 0u; v9 = 1u; v10 = 0u; v11 = 7u; v12 = 0u; v13 = 0u; goto L21;
+    case 2u: goto L1;
+    case 8192u: goto L2;
+    case 8193u: goto L3;
+    case 8194u: goto L4;
+    case 8195u: goto L5;
+    case 8196u: goto L6;
+    case 8197u: goto L7;
+    case 8198u: goto L8;
+    case 8199u: goto L9;
+    case 8200u: goto L10;
+    case 8201u: goto L11;
+    case 8202u: goto L12;
+    case 8203u: goto L13;
+    case 8204u: goto L14;
+    case 8205u: goto L15;
+    case 8206u: goto L16;
+    case 8208u: goto L17;
+    case 8209u: goto L18;
+    case 24576u: goto L19;
+    case 24577u: goto L20;
+    default: goto L70;
+    }
+L1:;
+    v4 = ADDRESS(c121); v5 = 16u; v6 = 0u; v7 = 1u; v8 = 1u; v9 = 0u; v10 = 1u; v11 = 3u; v12 = 1u; v13 = 0u; goto L21;
+L2:;
+    v4 = ADDRESS(c122); v5 = 16u; v6 = 0u; v7 = 1u; v8 = 1u; v9 = 0u; v10 = 1u; v11 = 1u; v12 = 2u; v13 = 0u; goto L21;
+L3:;
+    v4 = ADDRESS(c123); v5 = 16u; v6 = 0u; v7 = 1u; v8 = 1u; v9 = 0u; v10 = 1u; v11 = 1u; v12 = 3u; v13 = 0u; goto L21;
+L4:;
+    v4 = ADDRESS(c124); v5 = 15u; v6 = 0u; v7 = 1u; v8 = 1u; v9 = 0u; v10 = 1u; v11 = 1u; v12 = 4u; v13 = 0u; goto L21;
+L5:;
+    v4 = ADDRESS(c125); v5 = 24u; v6 = 0u; v7 = 1u; v8 = 1u; v9 = 0u; v10 = 1u; v11 = 1u; v12 = 5u; v13 = 0u; goto L21;
+L6:;
+    v4 = ADDRESS(c126); v5 = 13u; v6 = 4u; v7 = 2u; v8 = 0u; v9 = 1u; v10 = 1u; v11 = 1u; v12 = 6u; v13 = 0u; goto L21;
+L7:;
+    v4 = ADDRESS(c127); v5 = 9u; v6 = 0u; v7 = 1u; v8 = 1u; v9 = 0u; v10 = 1u; v11 = 3u; v12 = 7u; v13 = 0u; goto L21;
+L8:;
+    v4 = ADDRESS(c128); v5 = 9u; v6 = 0u; v7 = 1u; v8 = 1u; v9 = 0u; v10 = 1u; v11 = 3u; v12 = 8u; v13 = 0u; goto L21;
+L9:;
+    v4 = ADDRESS(c129); v5 = 6u; v6 = 0u; v7 = 1u; v8 = 1u; v9 = 0u; v10 = 1u; v11 = 3u; v12 = 9u; v13 = 0u; goto L21;
+L10:;
+    v4 = ADDRESS(c130); v5 = 10u; v6 = 0u; v7 = 1u; v8 = 1u; v9 = 0u; v10 = 1u; v11 = 1u; v12 = 10u; v13 = 0u; goto L21;
+L11:;
+    v4 = ADDRESS(c136); v5 = 21u; v6 = 4u; v7 = 2u; v8 = 0u; v9 = 1u; v10 = 1u; v11 = 3u; v12 = 11u; v13 = 0u; goto L21;
+L12:;
+    v4 = ADDRESS(c138); v5 = 24u; v6 = 4u; v7 = 2u; v8 = 0u; v9 = 1u; v10 = 1u; v11 = 3u; v12 = 11u; v13 = 1u; goto L21;
+L13:;
+    v4 = ADDRESS(c140); v5 = 17u; v6 = 4u; v7 = 2u; v8 = 0u; v9 = 1u; v10 = 1u; v11 = 3u; v12 = 11u; v13 = 2u; goto L21;
+L14:;
+    v4 = ADDRESS(c131); v5 = 14u; v6 = 4u; v7 = 2u; v8 = 0u; v9 = 1u; v10 = 1u; v11 = 1u; v12 = 12u; v13 = 0u; goto L21;
+L15:;
+    v4 = ADDRESS(c132); v5 = 11u; v6 = 4u; v7 = 2u; v8 = 0u; v9 = 1u; v10 = 0u; v11 = 4u; v12 = 13u; v13 = 0u; goto L21;
+L16:;
+    v4 = ADDRESS(c133); v5 = 12u; v6 = 4u; v7 = 2u; v8 = 0u; v9 = 1u; v10 = 0u; v11 = 4u; v12 = 14u; v13 = 0u; goto L21;
+L17:;
+    v4 = ADDRESS(c134); v5 = 14u; v6 = 0u; v7 = 1u; v8 = 1u; v9 = 0u; v10 = 1u; v11 = 3u; v12 = 15u; v13 = 0u; goto L21;
+L18:;
+    v4 = ADDRESS(c135); v5 = 14u; v6 = 0u; v7 = 1u; v8 = 1u; v9 = 0u; v10 = 1u; v11 = 3u; v12 = 16u; v13 = 0u; goto L21;
+L19:;
+    v4 = ADDRESS(c142); v5 = 15u; v6 = 4u; v7 = 2u; v8 = 0u; v9 = 1u; v10 = 1u; v11 = 3u; v12 = 11u; v13 = 3u; goto L21;
+L20:;
+    v4 = ADDRESS(c144); v5 = 27u; v6 = 4u; v7 = 2u; v8 = 0u; v9 = 1u; v10 = 1u; v11 = 3u; v12 = 11u; v13 = 4u; goto L21;
+L21:;
+    memory_set(v28, 0u, 6u);
+    memory_cpy(v30, v28, 6u);
+    store16(v29, v32);
+    v33 = v29 + 2u * 1u;
+    memory_cpy(v33, v30, 6u);
+    v34 = v29 + 8u * 1u;
+    store_address(v34, v4);
+    v35 = v29 + 16u * 1u;
+    store64(v35, v5);
+    v36 = v29 + 24u * 1u;
+    store8(v36, v9);
+    v37 = v29 + 25u * 1u;
+    store8(v37, v11);
+    v38 = v29 + 26u * 1u;
+    store8(v38, v12);
+    v39 = v29 + 27u * 1u;
+    store8(v39, v13);
+    v40 = v29 + 28u * 1u;
+    store32(v40, 0u);
+    v41 = load8(a1);
+    switch (v41) {
+    case 0u: goto L22;
+    case 1u: goto L25;
+    case 3u: goto L23;
+    case 2u: goto L26;
+    case 4u: goto L26;
+    default: goto L24;
+    }
+L22:;
+    v42 = (u8)((u32)v11 & (u32)1u);
+    v43 = v42 == 0u;
+    if (v43) { goto L26; }
+    else { v14 = 0u; goto L27; }
+L23:;
+    if (v10) { goto L26; }
+    else { v14 = v6; goto L27; }
+L24:;
+    UNREACHABLE;
+L25:;
+    v44 = (u8)((u32)v11 & (u32)2u);
+    v45 = v44 == 0u;
+    if (v45) { goto L26; }
+    else { v14 = v7; goto L27; }
+L26:;
+    v46 = v41 == 1u;
+    v47 = v46 ? 4u : 5u;
+    if (v8) { v20 = v47; goto L52; }
+    else { v25 = v47; v26 = 1u; goto L68; }
+L27:;
+    v48 = (u8)((u32)v14 & (u32)a2);
+    v49 = v48 == v14;
+    if (v49) { goto L28; }
+    else { v19 = 5u; goto L49; }
+L28:;
+    v50 = a1 + 8u * 1u;
+    v51 = load_address(v50);
+    v52 = a1 + 16u * 1u;
+    v53 = load64(v52);
+    switch (v41) {
+    case 1u: goto L29;
+    case 3u: goto L37;
+    case 0u: goto L40;
+    case 2u: goto L40;
+    default: goto L36;
+    }
+L29:;
+    switch (v12) {
+    case 0u: goto L31;
+    case 1u: goto L32;
+    case 7u: goto L35;
+    case 8u: goto L35;
+    case 9u: goto L35;
+    case 11u: goto L35;
+    case 15u: goto L35;
+    case 16u: goto L34;
+    case 2u: v19 = 2u; goto L49;
+    case 3u: v19 = 2u; goto L49;
+    case 4u: v19 = 2u; goto L49;
+    case 5u: v19 = 2u; goto L49;
+    case 6u: v19 = 2u; goto L49;
+    case 10u: v19 = 2u; goto L49;
+    case 12u: v19 = 2u; goto L49;
+    case 13u: v19 = 2u; goto L49;
+    case 14u: v19 = 2u; goto L49;
+    default: goto L30;
+    }
+L30:;
+    UNREACHABLE;
+L31:;
+    v54 = v53 == 0u;
+    if (v54) { goto L39; }
+    else { v19 = 2u; goto L49; }
+L32:;
+    v55 = v53 == 0u;
+    if (v55) { v19 = 2u; goto L49; }
+    else { goto L33; }
+L33:;
+    v56 = load8(v51);
+    v57 = (u64)v56;
+    v58 = (u64)((u64)v57 + (u64)1u);
+    v59 = (u64)((u64)v58 & (u64)1u);
+    v60 = (u64)((u64)v59 + (u64)v58);
+    v61 = v53 == v60;
+    if (v61) { goto L39; }
+    else { v19 = 2u; goto L49; }
+L34:;
+    v62 = v53 == 4u;
+    if (v62) { goto L39; }
+    else { v19 = 2u; goto L49; }
+L35:;
+    v63 = v53 == 2u;
+    if (v63) { goto L39; }
+    else { v19 = 2u; goto L49; }
+L36:;
+    UNREACHABLE;
+L37:;
+    v64 = v53 == 0u;
+    if (v64) { goto L38; }
+    else { v19 = 2u; goto L49; }
+L38:;
+    goto L50;
+L39:;
+    goto L41;
+L40:;
+    v65 = v41 == 1u;
+    if (v65) { goto L41; }
+    else { goto L50; }
+L41:;
+    switch (v12) {
+    case 0u: v15 = 1u; v16 = v12; v17 = v12; v18 = v12; goto L48;
+    case 1u: goto L42;
+    case 7u: goto L43;
+    case 8u: goto L43;
+    case 9u: goto L43;
+    case 11u: goto L47;
+    case 15u: goto L44;
+    case 16u: goto L45;
+    case 2u: goto L46;
+    case 3u: goto L46;
+    case 4u: goto L46;
+    case 5u: goto L46;
+    case 6u: goto L46;
+    case 10u: goto L46;
+    case 12u: goto L46;
+    case 13u: goto L46;
+    case 14u: goto L46;
+    default: goto L30;
+    }
+L42:;
+    v15 = 2u; v16 = 128u; v17 = 0u; v18 = 0u; goto L48;
+L43:;
+    v15 = 3u; v16 = 0u; v17 = 0u; v18 = 0u; goto L48;
+L44:;
+    v15 = 5u; v16 = 23u; v17 = 49u; v18 = 254u; goto L48;
+L45:;
+    v15 = 8u; v16 = 0u; v17 = 0u; v18 = 0u; goto L48;
+L46:;
+    v15 = 0u; v16 = 0u; v17 = 0u; v18 = 0u; goto L48;
+L47:;
+    v66 = (u8)((u32)v13 << (3u & 7u));
+    v67 = (u64)v66;
+    v68 = (u64)(((u64)UINT64_C(30165894151) >> (v67 & 63u)) & UINT64_C(1099511627775));
+    v69 = (u8)(v68);
+    v70 = (u8)((u32)v13 << (3u & 7u));
+    v71 = (u64)v70;
+    v72 = (u64)(((u64)UINT64_C(34360263172) >> (v71 & 63u)) & UINT64_C(1099511627775));
+    v73 = (u8)(v72);
+    v74 = (u8)((u32)v13 << (3u & 7u));
+    v75 = (u64)v74;
+    v76 = (u64)(((u64)UINT64_C(21474904580) >> (v75 & 63u)) & UINT64_C(1099511627775));
+    v77 = (u8)(v76);
+    v15 = v69; v16 = v73; v17 = v77; v18 = 0u; goto L48;
+L48:;
+    store8(v27, v15);
+    v78 = v27 + 1u * 1u;
+    store8(v78, v16);
+    v79 = v27 + 2u * 1u;
+    store8(v79, v17);
+    v80 = v27 + 3u * 1u;
+    store8(v80, v18);
+    v81 = f35(v27, v51, v53);
+    if (v81) { goto L51; }
+    else { v19 = 3u; goto L49; }
+L49:;
+    if (v8) { v20 = v19; goto L52; }
+    else { v25 = v19; v26 = 1u; goto L68; }
+L50:;
+    goto L51;
+L51:;
+    f36(a0, v12, v13, a1);
+    if (v8) { goto L53; }
+    else { v25 = 0u; v26 = 0u; goto L68; }
+L52:;
+    v82 = a3 + 58u * 1u;
+    store8(v82, 0u);
+    v83 = a3 + 56u * 1u;
+    v84 = load16(v83);
+    v85 = a3 + 64u * 1u;
+    v86 = load_address(v85);
+    v87 = (u8)((u32)v20 + (u32)254u);
+    v88 = (u16)v87;
+    v89 = (u16)((u32)v88 + (u32)3u);
+    v90 = a3 + 54u * 1u;
+    v91 = load16(v90);
+    v92 = load_address(v86);
+    v93 = v86 + 16u * 1u;
+    v94 = load64(v93);
+    v95 = (u64)((u64)v94 * (u64)188u);
+    v96 = v92 + v95 * 1u;
+    store16(v96, v84);
+    v97 = v96 + 2u * 1u;
+    store16(v97, 60u);
+    v98 = v96 + 4u * 1u;
+    f34(a3, v84, v89, v91, v98);
+    v99 = load64(v93);
+    v100 = (u64)((u64)v99 + (u64)1u);
+    store64(v93, v100);
+    goto L69;
+L53:;
+    v101 = load8(a1);
+    v102 = v101 == 3u;
+    if (v102) { goto L54; }
+    else { goto L58; }
+L54:;
+    v103 = a3 + 58u * 1u;
+    store8(v103, 0u);
+    v104 = a3 + 56u * 1u;
+    v105 = load16(v104);
+    v106 = a3 + 64u * 1u;
+    v107 = load_address(v106);
+    v108 = load_address(v107);
+    v109 = v107 + 16u * 1u;
+    v110 = load64(v109);
+    v111 = (u64)((u64)v110 * (u64)188u);
+    v112 = v108 + v111 * 1u;
+    store16(v112, v105);
+    v113 = v112 + 2u * 1u;
+    store16(v113, 54u);
+    v114 = v112 + 4u * 1u;
+    v115 = (u64)v114;
+    v116 = (u64)a3;
+    v117 = (u64)((u64)v115 - (u64)v116);
+    v118 = v117 < 54u;
+    if (v118) { v21 = 0u; goto L56; }
+    else { goto L55; }
+L55:;
+    memory_move(v114, a3, 54u);
+    goto L57;
+L56:;
+    v119 = v114 + v21 * 1u;
+    v120 = a3 + v21 * 1u;
+    v121 = load8(v120);
+    store8(v119, v121);
+    v122 = (u64)((u64)v21 + (u64)1u);
+    v123 = v122 == 54u;
+    if (v123) { goto L57; }
+    else { v21 = v122; goto L56; }
+L57:;
+    v124 = v112 + 6u * 1u;
+    store16(v124, 13824u);
+    v125 = swap16(v105);
+    v126 = v112 + 32u * 1u;
+    store16(v126, v125);
+    v127 = v112 + 54u * 1u;
+    store16(v127, 512u);
+    v128 = load64(v109);
+    v129 = (u64)((u64)v128 + (u64)1u);
+    store64(v109, v129);
+    goto L69;
+L58:;
+    switch (v12) {
+    case 7u: v22 = 10u; goto L62;
+    case 8u: goto L59;
+    case 9u: goto L60;
+    case 10u: v23 = 0u; goto L63;
+    case 15u: goto L61;
+    case 0u: goto L67;
+    case 1u: goto L67;
+    case 2u: goto L67;
+    case 3u: goto L67;
+    case 4u: goto L67;
+    case 5u: goto L67;
+    case 6u: goto L67;
+    case 11u: goto L67;
+    case 12u: goto L67;
+    case 13u: goto L67;
+    case 14u: goto L67;
+    case 16u: goto L67;
+    default: goto L30;
+    }
+L59:;
+    v22 = 16u; goto L62;
+L60:;
+    v22 = 8u; goto L62;
+L61:;
+    v22 = 12u; goto L62;
+L62:;
+    v130 = a0 + v22 * 1u;
+    v131 = load8(v130);
+    v23 = v131; goto L63;
+L63:;
+    v132 = a3 + 58u * 1u;
+    store8(v132, 0u);
+    v133 = a3 + 56u * 1u;
+    v134 = load16(v133);
+    v135 = a3 + 64u * 1u;
+    v136 = load_address(v135);
+    v137 = load_address(v136);
+    v138 = v136 + 16u * 1u;
+    v139 = load64(v138);
+    v140 = (u64)((u64)v139 * (u64)188u);
+    v141 = v137 + v140 * 1u;
+    store16(v141, v134);
+    v142 = v141 + 2u * 1u;
+    store16(v142, 56u);
+    v143 = v141 + 4u * 1u;
+    v144 = v141 + 58u * 1u;
+    v145 = (u64)v143;
+    v146 = (u64)a3;
+    v147 = (u64)((u64)v145 - (u64)v146);
+    v148 = v147 < 54u;
+    if (v148) { v24 = 0u; goto L65; }
+    else { goto L64; }
+L64:;
+    memory_move(v143, a3, 54u);
+    goto L66;
+L65:;
+    v149 = v143 + v24 * 1u;
+    v150 = a3 + v24 * 1u;
+    v151 = load8(v150);
+    store8(v149, v151);
+    v152 = (u64)((u64)v24 + (u64)1u);
+    v153 = v152 == 54u;
+    if (v153) { goto L66; }
+    else { v24 = v152; goto L65; }
+L66:;
+    v154 = (u16)v23;
+    store16(v144, v154);
+    v155 = v141 + 6u * 1u;
+    store16(v155, 14336u);
+    v156 = swap16(v134);
+    v157 = v141 + 32u * 1u;
+    store16(v157, v156);
+    v158 = v141 + 54u * 1u;
+    store16(v158, 1024u);
+    v159 = load64(v138);
+    v160 = (u64)((u64)v159 + (u64)1u);
+    store64(v138, v160);
+    goto L69;
+L67:;
+    f73(a0, v12, a3);
+    goto L69;
+L68:;
+    f74(a0, v29, a1, v26, v25, a3);
+    goto L69;
+L69:;
+    return;
+L70:;
+    v161 = a3 + 58u * 1u;
+    store8(v161, 0u);
+    v162 = a3 + 56u * 1u;
+    v163 = load16(v162);
+    v164 = a3 + 64u * 1u;
+    v165 = load_address(v164);
+    v166 = a3 + 54u * 1u;
+    v167 = load16(v166);
+    v168 = load_address(v165);
+    v169 = v165 + 16u * 1u;
+    v170 = load64(v169);
+    v171 = (u64)((u64)v170 * (u64)188u);
+    v172 = v168 + v171 * 1u;
+    store16(v172, v163);
+    v173 = v172 + 2u * 1u;
+    store16(v173, 60u);
+    v174 = v172 + 4u * 1u;
+    f34(a3, v163, 2u, v167, v174);
+    v175 = load64(v169);
+    v176 = (u64)((u64)v175 + (u64)1u);
+    store64(v169, v176);
+    goto L69;
+}
+
+static void f73(address a0, u8 a1, address a2) {
+    u64 v3, v4, v5, v6, v11, v19, v20, v27, v28, v29, v34, v36, v37, v38, v43, v52;
+    u64 v53, v55, v63, v64, v71, v72, v73, v78, v80, v81, v82, v87, v96, v97;
+    address v7, v9, v10, v12, v13, v15, v16, v17, v18, v21, v24, v25, v26, v31, v32, v40;
+    address v41, v46, v48, v51, v54, v56, v57, v59, v60, v61, v62, v65, v68, v69, v70, v75;
+    address v76, v84, v85, v90, v92, v95;
+    u8 v8, v30, v33, v35, v39, v42, v44, v74, v77, v79, v83, v86, v88;
+    u16 v14, v22, v23, v45, v47, v49, v50, v58, v66, v67, v89, v91, v93, v94;
+    u64 block0[18];
+    v7 = ADDRESS(block0);
+    v8 = a1 == 1u;
+    if (v8) { goto L1; }
+    else { goto L8; }
+L1:;
+    v9 = a0 + 24u * 1u;
+    v10 = a0 + 160u * 1u;
+    v11 = load64(v10);
+    v12 = a2 + 58u * 1u;
+    store8(v12, 0u);
+    v13 = a2 + 56u * 1u;
+    v14 = load16(v13);
+    v15 = a2 + 64u * 1u;
+    v16 = load_address(v15);
+    v17 = load_address(v16);
+    v18 = v16 + 16u * 1u;
+    v19 = load64(v18);
+    v20 = (u64)((u64)v19 * (u64)188u);
+    v21 = v17 + v20 * 1u;
+    store16(v21, v14);
+    v22 = (u16)(v11);
+    v23 = (u16)((u32)v22 + (u32)54u);
+    v24 = v21 + 2u * 1u;
+    store16(v24, v23);
+    v25 = v21 + 4u * 1u;
+    v26 = v21 + 58u * 1u;
+    v27 = (u64)v25;
+    v28 = (u64)a2;
+    v29 = (u64)((u64)v27 - (u64)v28);
+    v30 = v29 < 54u;
+    if (v30) { v3 = 0u; goto L3; }
+    else { goto L2; }
+L2:;
+    memory_move(v25, a2, 54u);
+    goto L4;
+L3:;
+    v31 = v25 + v3 * 1u;
+    v32 = a2 + v3 * 1u;
+    v33 = load8(v32);
+    store8(v31, v33);
+    v34 = (u64)((u64)v3 + (u64)1u);
+    v35 = v34 == 54u;
+    if (v35) { goto L4; }
+    else { v3 = v34; goto L3; }
+L4:;
+    v36 = (u64)v26;
+    v37 = (u64)v9;
+    v38 = (u64)((u64)v36 - (u64)v37);
+    v39 = v38 < v11;
+    if (v39) { v4 = 0u; goto L6; }
+    else { goto L5; }
+L5:;
+    memory_move(v26, v9, v11);
+    goto L7;
+L6:;
+    v40 = v26 + v4 * 1u;
+    v41 = v9 + v4 * 1u;
+    v42 = load8(v41);
+    store8(v40, v42);
+    v43 = (u64)((u64)v4 + (u64)1u);
+    v44 = v43 == v11;
+    if (v44) { goto L7; }
+    else { v4 = v43; goto L6; }
+L7:;
+    v45 = swap16(v23);
+    v46 = v21 + 6u * 1u;
+    store16(v46, v45);
+    v47 = swap16(v14);
+    v48 = v21 + 32u * 1u;
+    store16(v48, v47);
+    v49 = (u16)((u32)v22 + (u32)2u);
+    v50 = swap16(v49);
+    v51 = v21 + 54u * 1u;
+    store16(v51, v50);
+    v52 = load64(v18);
+    v53 = (u64)((u64)v52 + (u64)1u);
+    store64(v18, v53);
+    goto L15;
+L8:;
+    memory_set(v7, 0u, 144u);
+    f39(a0, a1, v7);
+    v54 = v7 + 136u * 1u;
+    v55 = load64(v54);
+    v56 = a2 + 58u * 1u;
+    store8(v56, 0u);
+    v57 = a2 + 56u * 1u;
+    v58 = load16(v57);
+    v59 = a2 + 64u * 1u;
+    v60 = load_address(v59);
+    v61 = load_address(v60);
+    v62 = v60 + 16u * 1u;
+    v63 = load64(v62);
+    v64 = (u64)((u64)v63 * (u64)188u);
+    v65 = v61 + v64 * 1u;
+    store16(v65, v58);
+    v66 = (u16)(v55);
+    v67 = (u16)((u32)v66 + (u32)54u);
+    v68 = v65 + 2u * 1u;
+    store16(v68, v67);
+    v69 = v65 + 4u * 1u;
+    v70 = v65 + 58u * 1u;
+    v71 = (u64)v69;
+    v72 = (u64)a2;
+    v73 = (u64)((u64)v71 - (u64)v72);
+    v74 = v73 < 54u;
+    if (v74) { v5 = 0u; goto L10; }
+    else { goto L9; }
+L9:;
+    memory_move(v69, a2, 54u);
+    goto L11;
+L10:;
+    v75 = v69 + v5 * 1u;
+    v76 = a2 + v5 * 1u;
+    v77 = load8(v76);
+    store8(v75, v77);
+    v78 = (u64)((u64)v5 + (u64)1u);
+    v79 = v78 == 54u;
+    if (v79) { goto L11; }
+    else { v5 = v78; goto L10; }
+L11:;
+    v80 = (u64)v70;
+    v81 = (u64)v7;
+    v82 = (u64)((u64)v80 - (u64)v81);
+    v83 = v82 < v55;
+    if (v83) { v6 = 0u; goto L13; }
+    else { goto L12; }
+L12:;
+    memory_move(v70, v7, v55);
+    goto L14;
+L13:;
+    v84 = v70 + v6 * 1u;
+    v85 = v7 + v6 * 1u;
+    v86 = load8(v85);
+    store8(v84, v86);
+    v87 = (u64)((u64)v6 + (u64)1u);
+    v88 = v87 == v55;
+    if (v88) { goto L14; }
+    else { v6 = v87; goto L13; }
+L14:;
+    v89 = swap16(v67);
+    v90 = v65 + 6u * 1u;
+    store16(v90, v89);
+    v91 = swap16(v58);
+    v92 = v65 + 32u * 1u;
+    store16(v92, v91);
+    v93 = (u16)((u32)v66 + (u32)2u);
+    v94 = swap16(v93);
+    v95 = v65 + 54u * 1u;
+    store16(v95, v94);
+    v96 = load64(v62);
+    v97 = (u64)((u64)v96 + (u64)1u);
+    store64(v62, v97);
+    goto L15;
+L15:;
+    return;
+}
+
+static void f74(address a0, address a1, address a2, u8 a3, u8 a4, address a5) {
+    u16 v6, v7, v21, v29, v30, v48, v50, v51, v59, v64, v82, v83, v100, v101, v107, v108;
+    u16 v109, v110, v114, v142, v160, v161, v180, v198, v200, v201, v206, v224, v225;
+    u64 v8, v9, v10, v12, v13, v14, v17, v18, v26, v28, v40, v42, v43, v44, v54, v55;
+    u64 v60, v61, v68, v69, v73, v74, v79, v86, v87, v94, v95, v97, v99, v111, v112, v118;
+    u64 v119, v124, v125, v130, v140, v141, v146, v147, v151, v152, v157, v164, v165, v171, v172, v174;
+    u64 v177, v184, v185, v190, v191, v196, v204, v205, v210, v211, v215, v216, v221, v228, v229, v230;
+    address v11, v15, v19, v20, v23, v27, v32, v33, v35, v36, v37, v38, v39, v41, v45, v49;
+    address v52, v53, v56, v57, v58, v65, v66, v67, v70, v71, v72, v76, v77, v81, v84, v85;
+    address v91, v93, v98, v102, v105, v113, v115, v116, v117, v120, v121, v122, v123, v127, v128, v132;
+    address v133, v134, v135, v136, v137, v138, v139, v143, v144, v145, v148, v149, v150, v154, v155, v159;
+    address v162, v163, v168, v170, v175, v176, v178, v181, v182, v183, v186, v187, v188, v189, v193, v194;
+    address v199, v202, v203, v207, v208, v209, v212, v213, v214, v218, v219, v223, v226, v227;
+    u8 v16, v22, v24, v25, v31, v34, v46, v47, v62, v63, v75, v78, v80, v88, v89, v90;
+    u8 v92, v96, v103, v104, v106, v126, v129, v131, v153, v156, v158, v166, v167, v169, v173, v179;
+    u8 v192, v195, v197, v217, v220, v222, v231;
+    u64 block0[1];
+    v19 = ADDRESS(block0);
+    v20 = a2 + 4u * 1u;
+    v21 = load16(v20);
+    v22 = v21 == 65535u;
+    if (v22) { goto L1; }
+    else { v6 = v21; v7 = v21; goto L2; }
+L1:;
+    v23 = a0 + 240u * 1u;
+    v24 = load8(v23);
+    v25 = v24 == 0u;
+    v26 = v25 ? 376u : 256u;
+    v27 = a0 + v26 * 1u;
+    v28 = load64(v27);
+    v29 = (u16)(v28);
+    v6 = v29; v7 = 1u; goto L2;
+L2:;
+    v30 = (u16)((u32)v6 + (u32)1u);
+    v31 = v7 < v30;
+    if (v31) { goto L3; }
+    else { goto L41; }
+L3:;
+    v32 = a1 + 26u * 1u;
+    v33 = a1 + 27u * 1u;
+    v34 = a3 == 1u;
+    v35 = a0 + 240u * 1u;
+    v36 = a0 + 248u * 1u;
+    v37 = a5 + 58u * 1u;
+    v38 = a5 + 56u * 1u;
+    v39 = a5 + 64u * 1u;
+    v40 = (u64)a5;
+    v41 = a5 + 54u * 1u;
+    v42 = (u64)v7;
+    v43 = (u64)v30;
+    v44 = (u64)a4;
+    v45 = ADDRESS(c373) + v44 * 2u;
+    v8 = v42; goto L4;
+L4:;
+    v46 = load8(v32);
+    v47 = load8(v33);
+    if (v34) { goto L5; }
+    else { goto L6; }
+L5:;
+    store8(v37, 1u);
+    v48 = load16(v38);
+    v49 = load_address(v39);
+    v50 = load16(v45);
+    v51 = load16(v41);
+    v52 = load_address(v49);
+    v53 = v49 + 16u * 1u;
+    v54 = load64(v53);
+    v55 = (u64)((u64)v54 * (u64)188u);
+    v56 = v52 + v55 * 1u;
+    store16(v56, v48);
+    v57 = v56 + 2u * 1u;
+    store16(v57, 60u);
+    v58 = v56 + 4u * 1u;
+    v59 = (u16)(v8);
+    f34(a5, v59, v50, v51, v58);
+    v60 = load64(v53);
+    v61 = (u64)((u64)v60 + (u64)1u);
+    store64(v53, v61);
+    goto L40;
+L6:;
+    v62 = load8(a2);
+    v63 = v62 == 3u;
+    if (v63) { goto L7; }
+    else { goto L11; }
+L7:;
+    store8(v37, 1u);
+    v64 = load16(v38);
+    v65 = load_address(v39);
+    v66 = load_address(v65);
+    v67 = v65 + 16u * 1u;
+    v68 = load64(v67);
+    v69 = (u64)((u64)v68 * (u64)188u);
+    v70 = v66 + v69 * 1u;
+    store16(v70, v64);
+    v71 = v70 + 2u * 1u;
+    store16(v71, 54u);
+    v72 = v70 + 4u * 1u;
+    v73 = (u64)v72;
+    v74 = (u64)((u64)v73 - (u64)v40);
+    v75 = v74 < 54u;
+    if (v75) { v9 = 0u; goto L9; }
+    else { goto L8; }
+L8:;
+    memory_move(v72, a5, 54u);
+    goto L10;
+L9:;
+    v76 = v72 + v9 * 1u;
+    v77 = a5 + v9 * 1u;
+    v78 = load8(v77);
+    store8(v76, v78);
+    v79 = (u64)((u64)v9 + (u64)1u);
+    v80 = v79 == 54u;
+    if (v80) { goto L10; }
+    else { v9 = v79; goto L9; }
+L10:;
+    v81 = v70 + 6u * 1u;
+    store16(v81, 13824u);
+    v82 = (u16)(v8);
+    v83 = swap16(v82);
+    v84 = v70 + 32u * 1u;
+    store16(v84, v83);
+    v85 = v70 + 54u * 1u;
+    store16(v85, 512u);
+    v86 = load64(v67);
+    v87 = (u64)((u64)v86 + (u64)1u);
+    store64(v67, v87);
+    goto L40;
+L11:;
+    v88 = v46 == 6u;
+    if (v88) { goto L12; }
+    else { goto L25; }
+L12:;
+    v89 = load8(v35);
+    v90 = v89 == 0u;
+    if (v90) { v10 = 376u; v11 = v36; goto L14; }
+    else { goto L13; }
+L13:;
+    v91 = load_address(v36);
+    v10 = 256u; v11 = v91; goto L14;
+L14:;
+    v92 = v8 == 0u;
+    if (v92) { goto L20; }
+    else { goto L15; }
+L15:;
+    v93 = a0 + v10 * 1u;
+    v94 = load64(v93);
+    v95 = (u64)((u64)v8 + (u64)UINT64_C(18446744073709551615));
+    v96 = v95 < v94;
+    if (v96) { goto L16; }
+    else { goto L20; }
+L16:;
+    v97 = (u64)((u64)v95 << (4u & 63u));
+    v98 = v11 + v97 * 1u;
+    memory_set(v19, 0u, 5u);
+    v99 = load64(a0);
+    v100 = (u16)(v8);
+    v101 = swap16(v100);
+    v102 = v98 + 8u * 1u;
+    v103 = load8(v102);
+    v104 = (u8)((u32)v103 + (u32)1u);
+    v105 = v98 + 9u * 1u;
+    v106 = load8(v105);
+    v107 = (u16)v106;
+    v108 = (u16)((u32)v107 << (8u & 15u));
+    v109 = (u16)v104;
+    v110 = (u16)((u32)v108 | (u32)v109);
+    v111 = load64(v98);
+    v112 = swap64(v111);
+    v113 = v98 + 10u * 1u;
+    memory_cpy(v19, v113, 5u);
+    store8(v37, 1u);
+    v114 = load16(v38);
+    v115 = load_address(v39);
+    v116 = load_address(v115);
+    v117 = v115 + 16u * 1u;
+    v118 = load64(v117);
+    v119 = (u64)((u64)v118 * (u64)188u);
+    v120 = v116 + v119 * 1u;
+    store16(v120, v114);
+    v121 = v120 + 2u * 1u;
+    store16(v121, 80u);
+    v122 = v120 + 4u * 1u;
+    v123 = v120 + 58u * 1u;
+    v124 = (u64)v122;
+    v125 = (u64)((u64)v124 - (u64)v40);
+    v126 = v125 < 54u;
+    if (v126) { v12 = 0u; goto L18; }
+    else { goto L17; }
+L17:;
+    memory_move(v122, a5, 54u);
+    goto L19;
+L18:;
+    v127 = v122 + v12 * 1u;
+    v128 = a5 + v12 * 1u;
+    v129 = load8(v128);
+    store8(v127, v129);
+    v130 = (u64)((u64)v12 + (u64)1u);
+    v131 = v130 == 54u;
+    if (v131) { goto L19; }
+    else { v12 = v130; goto L18; }
+L19:;
+    store64(v123, v99);
+    v132 = v120 + 66u * 1u;
+    store16(v132, v101);
+    v133 = v120 + 68u * 1u;
+    store16(v133, v110);
+    v134 = v120 + 70u * 1u;
+    store64(v134, v112);
+    v135 = v120 + 78u * 1u;
+    memory_cpy(v135, v19, 5u);
+    v136 = v120 + 83u * 1u;
+    store8(v136, 2u);
+    v137 = v120 + 6u * 1u;
+    store16(v137, 20480u);
+    v138 = v120 + 32u * 1u;
+    store16(v138, v101);
+    v139 = v120 + 54u * 1u;
+    store16(v139, 7168u);
+    v140 = load64(v117);
+    v141 = (u64)((u64)v140 + (u64)1u);
+    store64(v117, v141);
+    goto L24;
+L20:;
+    store8(v37, 1u);
+    v142 = load16(v38);
+    v143 = load_address(v39);
+    v144 = load_address(v143);
+    v145 = v143 + 16u * 1u;
+    v146 = load64(v145);
+    v147 = (u64)((u64)v146 * (u64)188u);
+    v148 = v144 + v147 * 1u;
+    store16(v148, v142);
+    v149 = v148 + 2u * 1u;
+    store16(v149, 54u);
+    v150 = v148 + 4u * 1u;
+    v151 = (u64)v150;
+    v152 = (u64)((u64)v151 - (u64)v40);
+    v153 = v152 < 54u;
+    if (v153) { v13 = 0u; goto L22; }
+    else { goto L21; }
+L21:;
+    memory_move(v150, a5, 54u);
+    goto L23;
+L22:;
+    v154 = v150 + v13 * 1u;
+    v155 = a5 + v13 * 1u;
+    v156 = load8(v155);
+    store8(v154, v156);
+    v157 = (u64)((u64)v13 + (u64)1u);
+    v158 = v157 == 54u;
+    if (v158) { goto L23; }
+    else { v13 = v157; goto L22; }
+L23:;
+    v159 = v148 + 6u * 1u;
+    store16(v159, 13824u);
+    v160 = (u16)(v8);
+    v161 = swap16(v160);
+    v162 = v148 + 32u * 1u;
+    store16(v162, v161);
+    v163 = v148 + 54u * 1u;
+    store16(v163, 512u);
+    v164 = load64(v145);
+    v165 = (u64)((u64)v164 + (u64)1u);
+    store64(v145, v165);
+    goto L24;
+L24:;
+    goto L40;
+L25:;
+    v166 = load8(v35);
+    v167 = v166 == 0u;
+    if (v167) { v14 = 376u; v15 = v36; goto L27; }
+    else { goto L26; }
+L26:;
+    v168 = load_address(v36);
+    v14 = 256u; v15 = v168; goto L27;
+L27:;
+    v169 = v8 == 0u;
+    if (v169) { goto L36; }
+    else { goto L28; }
+L28:;
+    v170 = a0 + v14 * 1u;
+    v171 = load64(v170);
+    v172 = (u64)((u64)v8 + (u64)UINT64_C(18446744073709551615));
+    v173 = v172 < v171;
+    v174 = (u64)((u64)v172 << (4u & 63u));
+    v175 = v15 + v174 * 1u;
+    if (v173) { goto L29; }
+    else { goto L36; }
+L29:;
+    switch (v46) {
+    case 11u: goto L30;
+    case 12u: v16 = 2u; goto L32;
+    case 0u: goto L36;
+    case 1u: goto L36;
+    case 2u: goto L36;
+    case 3u: goto L36;
+    case 4u: goto L36;
+    case 5u: goto L36;
+    case 16u: goto L36;
+    case 7u: goto L36;
+    case 8u: goto L36;
+    case 9u: goto L36;
+    case 10u: goto L36;
+    case 13u: goto L36;
+    case 14u: goto L36;
+    case 15u: goto L36;
+    default: goto L31;
+    }
+L30:;
+    v176 = v175 + 10u * 1u;
+    v177 = (u64)v47;
+    v178 = v176 + v177 * 1u;
+    v179 = load8(v178);
+    v16 = v179; goto L32;
+L31:;
+    UNREACHABLE;
+L32:;
+    store8(v37, 1u);
+    v180 = load16(v38);
+    v181 = load_address(v39);
+    v182 = load_address(v181);
+    v183 = v181 + 16u * 1u;
+    v184 = load64(v183);
+    v185 = (u64)((u64)v184 * (u64)188u);
+    v186 = v182 + v185 * 1u;
+    store16(v186, v180);
+    v187 = v186 + 2u * 1u;
+    store16(v187, 56u);
+    v188 = v186 + 4u * 1u;
+    v189 = v186 + 58u * 1u;
+    v190 = (u64)v188;
+    v191 = (u64)((u64)v190 - (u64)v40);
+    v192 = v191 < 54u;
+    if (v192) { v17 = 0u; goto L34; }
+    else { goto L33; }
+L33:;
+    memory_move(v188, a5, 54u);
+    goto L35;
+L34:;
+    v193 = v188 + v17 * 1u;
+    v194 = a5 + v17 * 1u;
+    v195 = load8(v194);
+    store8(v193, v195);
+    v196 = (u64)((u64)v17 + (u64)1u);
+    v197 = v196 == 54u;
+    if (v197) { goto L35; }
+    else { v17 = v196; goto L34; }
+L35:;
+    v198 = (u16)v16;
+    store16(v189, v198);
+    v199 = v186 + 6u * 1u;
+    store16(v199, 14336u);
+    v200 = (u16)(v8);
+    v201 = swap16(v200);
+    v202 = v186 + 32u * 1u;
+    store16(v202, v201);
+    v203 = v186 + 54u * 1u;
+    store16(v203, 1024u);
+    v204 = load64(v183);
+    v205 = (u64)((u64)v204 + (u64)1u);
+    store64(v183, v205);
+    goto L40;
+L36:;
+    store8(v37, 1u);
+    v206 = load16(v38);
+    v207 = load_address(v39);
+    v208 = load_address(v207);
+    v209 = v207 + 16u * 1u;
+    v210 = load64(v209);
+    v211 = (u64)((u64)v210 * (u64)188u);
+    v212 = v208 + v211 * 1u;
+    store16(v212, v206);
+    v213 = v212 + 2u * 1u;
+    store16(v213, 54u);
+    v214 = v212 + 4u * 1u;
+    v215 = (u64)v214;
+    v216 = (u64)((u64)v215 - (u64)v40);
+    v217 = v216 < 54u;
+    if (v217) { v18 = 0u; goto L38; }
+    else { goto L37; }
+L37:;
+    memory_move(v214, a5, 54u);
+    goto L39;
+L38:;
+    v218 = v214 + v18 * 1u;
+    v219 = a5 + v18 * 1u;
+    v220 = load8(v219);
+    store8(v218, v220);
+    v221 = (u64)((u64)v18 + (u64)1u);
+    v222 = v221 == 54u;
+    if (v222) { goto L39; }
+    else { v18 = v221; goto L38; }
+L39:;
+    v223 = v212 + 6u * 1u;
+    store16(v223, 13824u);
+    v224 = (u16)(v8);
+    v225 = swap16(v224);
+    v226 = v212 + 32u * 1u;
+    store16(v226, v225);
+    v227 = v212 + 54u * 1u;
+    store16(v227, 512u);
+    v228 = load64(v209);
+    v229 = (u64)((u64)v228 + (u64)1u);
+    store64(v209, v229);
+    goto L40;
+L40:;
+    v230 = (u64)((u64)v8 + (u64)1u);
+    v231 = v230 == v43;
+    if (v231) { goto L41; }
+    else { v8 = v230; goto L4; }
+L41:;
+    return;
+}
+
+static void f75(address a0, address a1) {
+    u64 v2, v3, v4, v5, v6, v8, v16, v20, v25, v27, v28, v29, v32, v33, v34, v39;
+    u64 v41, v42, v45, v46, v47, v52, v54, v55, v58, v59, v60, v65, v67, v68, v71, v72;
+    u64 v73, v78, v80, v83, v84;
+    address v7, v10, v11, v12, v13, v14, v15, v17, v18, v21, v26, v31, v36, v37, v44, v49;
+    address v50, v57, v62, v63, v70, v75, v76, v81, v82;
+    u8 v9, v22, v23, v24, v30, v35, v38, v40, v43, v48, v51, v53, v56, v61, v64, v66;
+    u8 v69, v74, v77, v79, v85;
+    u16 v19;
+    v7 = a0 + 16u * 1u;
+    v8 = load64(v7);
+    v9 = v8 == 0u;
+    if (v9) { goto L26; }
+    else { goto L1; }
+L1:;
+    v10 = a1 + 8u * 1u;
+    v11 = a1 + 32u * 1u;
+    v12 = a1 + 16u * 1u;
+    v13 = a1 + 24u * 1u;
+    v14 = a1 + 664u * 1u;
+    v2 = 0u; goto L2;
+L2:;
+    v15 = load_address(a0);
+    v16 = (u64)((u64)v2 * (u64)188u);
+    v17 = v15 + v16 * 1u;
+    v18 = v17 + 2u * 1u;
+    v19 = load16(v18);
+    v20 = (u64)v19;
+    v21 = v17 + 4u * 1u;
+    v22 = load8(a1);
+    v23 = v22 == 0u;
+    v24 = (u8)(v19);
+    v25 = load64(v12);
+    if (v23) { goto L3; }
+    else { goto L24; }
+L3:;
+    v26 = v10 + v25 * 1u;
+    store8(v26, v24);
+    v27 = (u64)((u64)v25 + (u64)1u);
+    store64(v12, v27);
+    v28 = load64(v14);
+    switch (v19) {
+    case 54u: goto L4;
+    case 56u: goto L9;
+    case 80u: goto L14;
+    default: goto L19;
+    }
+L4:;
+    v29 = (u64)((u64)v28 + (u64)UINT64_C(18446744073709551029));
+    v30 = v29 < 54u;
+    if (v30) { goto L25; }
+    else { goto L5; }
+L5:;
+    v31 = v13 + v28 * 1u;
+    v32 = (u64)v31;
+    v33 = (u64)v21;
+    v34 = (u64)((u64)v32 - (u64)v33);
+    v35 = v34 < 54u;
+    if (v35) { v3 = 0u; goto L7; }
+    else { goto L6; }
+L6:;
+    memory_move(v31, v21, 54u);
+    goto L8;
+L7:;
+    v36 = v31 + v3 * 1u;
+    v37 = v21 + v3 * 1u;
+    v38 = load8(v37);
+    store8(v36, v38);
+    v39 = (u64)((u64)v3 + (u64)1u);
+    v40 = v39 == 54u;
+    if (v40) { goto L8; }
+    else { v3 = v39; goto L7; }
+L8:;
+    v41 = (u64)((u64)v28 + (u64)54u);
+    store64(v14, v41);
+    goto L25;
+L9:;
+    v42 = (u64)((u64)v28 + (u64)UINT64_C(18446744073709551031));
+    v43 = v42 < 56u;
+    if (v43) { goto L25; }
+    else { goto L10; }
+L10:;
+    v44 = v13 + v28 * 1u;
+    v45 = (u64)v44;
+    v46 = (u64)v21;
+    v47 = (u64)((u64)v45 - (u64)v46);
+    v48 = v47 < 56u;
+    if (v48) { v4 = 0u; goto L12; }
+    else { goto L11; }
+L11:;
+    memory_move(v44, v21, 56u);
+    goto L13;
+L12:;
+    v49 = v44 + v4 * 1u;
+    v50 = v21 + v4 * 1u;
+    v51 = load8(v50);
+    store8(v49, v51);
+    v52 = (u64)((u64)v4 + (u64)1u);
+    v53 = v52 == 56u;
+    if (v53) { goto L13; }
+    else { v4 = v52; goto L12; }
+L13:;
+    v54 = (u64)((u64)v28 + (u64)56u);
+    store64(v14, v54);
+    goto L25;
+L14:;
+    v55 = (u64)((u64)v28 + (u64)UINT64_C(18446744073709551055));
+    v56 = v55 < 80u;
+    if (v56) { goto L25; }
+    else { goto L15; }
+L15:;
+    v57 = v13 + v28 * 1u;
+    v58 = (u64)v57;
+    v59 = (u64)v21;
+    v60 = (u64)((u64)v58 - (u64)v59);
+    v61 = v60 < 80u;
+    if (v61) { v5 = 0u; goto L17; }
+    else { goto L16; }
+L16:;
+    memory_move(v57, v21, 80u);
+    goto L18;
+L17:;
+    v62 = v57 + v5 * 1u;
+    v63 = v21 + v5 * 1u;
+    v64 = load8(v63);
+    store8(v62, v64);
+    v65 = (u64)((u64)v5 + (u64)1u);
+    v66 = v65 == 80u;
+    if (v66) { goto L18; }
+    else { v5 = v65; goto L17; }
+L18:;
+    v67 = (u64)((u64)v28 + (u64)80u);
+    store64(v14, v67);
+    goto L25;
+L19:;
+    v68 = (u64)((u64)640u - (u64)v28);
+    v69 = v68 < v20;
+    if (v69) { goto L25; }
+    else { goto L20; }
+L20:;
+    v70 = v13 + v28 * 1u;
+    v71 = (u64)v70;
+    v72 = (u64)v21;
+    v73 = (u64)((u64)v71 - (u64)v72);
+    v74 = v73 < v20;
+    if (v74) { v6 = 0u; goto L22; }
+    else { goto L21; }
+L21:;
+    memory_move(v70, v21, v20);
+    goto L23;
+L22:;
+    v75 = v70 + v6 * 1u;
+    v76 = v21 + v6 * 1u;
+    v77 = load8(v76);
+    store8(v75, v77);
+    v78 = (u64)((u64)v6 + (u64)1u);
+    v79 = v78 == v20;
+    if (v79) { goto L23; }
+    else { v6 = v78; goto L22; }
+L23:;
+    v80 = (u64)((u64)v28 + (u64)v20);
+    store64(v14, v80);
+    goto L25;
+L24:;
+    v81 = load_address(v10);
+    v82 = v81 + v25 * 1u;
+    store8(v82, v24);
+    v83 = (u64)((u64)v25 + (u64)1u);
+    store64(v12, v83);
+    f53(v11, v21, v20);
+    goto L25;
+L25:;
+    v84 = (u64)((u64)v2 + (u64)1u);
+    v85 = v84 == v8;
+    if (v85) { goto L26; }
+    else { v2 = v84; goto L2; }
+L26:;
+    return;
+}
+
+static void f76(address a0, address a1, address a2) {
+    address v3, v15, v16, v17, v20, v22, v23, v24, v25, v26, v27, v28, v29, v30, v31, v33;
+    address v34, v36, v38, v39, v42, v43, v44, v49, v50, v52, v53, v54, v56, v57, v60, v61;
+    address v62, v65, v67, v68, v70, v71, v72, v73, v76, v77, v78, v79, v84, v85, v90, v92;
+    address v93;
+    u64 v4, v10, v12, v40, v41, v45, v46, v58, v59, v63, v64, v74, v75, v80, v81, v82;
+    u64 v87, v94, v95;
+    u8 v5, v6, v7, v8, v9, v11, v13, v14, v18, v19, v47, v48, v66, v83, v86, v88;
+    u16 v21, v32, v35, v37, v51, v55, v69, v89, v91;
+    u64 block0[1];
+    u64 block1[4];
+    u64 block2[1];
+    v15 = ADDRESS(block0);
+    v16 = ADDRESS(block1);
+    v17 = ADDRESS(block2);
+    v18 = load8(a1);
+    v19 = v18 == 0u;
+    v20 = a1 + 2u * 1u;
+    v21 = load16(v20);
+    switch (v21) {
+    case 0u: v3 = ADDRESS(c120); v4 = 19u; v5 = 0u; v6 = 1u; v7 = 7u; v8 = 0u; v9 = 0u; goto L21;
+    case 2u: goto L1;
+    case 8192u: goto L2;
+    case 8193u: goto L3;
+    case 8194u: goto L4;
+    case 8195u: goto L5;
+    case 8196u: goto L6;
+    case 8197u: goto L7;
+    case 8198u: goto L8;
+    case 8199u: goto L9;
+    case 8200u: goto L10;
+    case 8201u: goto L11;
+    case 8202u: goto L12;
+    case 8203u: goto L13;
+    case 8204u: goto L14;
+    case 8205u: goto L15;
+    case 8206u: goto L16;
+    case 8208u: goto L17;
+    case 8209u: goto L18;
+    case 24576u: goto L19;
+    case 24577u: goto L20;
+    default: goto L22;
+    }
+L1:;
+    v3 = ADDRESS(c121); v4 = 16u; v5 = 1u; v6 = 0u; v7 = 3u; v8 = 1u; v9 = 0u; goto L21;
+L2:;
+    v3 = ADDRESS(c122); v4 = 16u; v5 = 1u; v6 = 0u; v7 = 1u; v8 = 2u; v9 = 0u; goto L21;
+L3:;
+    v3 = ADDRESS(c123); v4 = 16u; v5 = 1u; v6 = 0u; v7 = 1u; v8 = 3u; v9 = 0u; goto L21;
+L4:;
+    v3 = ADDRESS(c124); v4 = 15u; v5 = 1u; v6 = 0u; v7 = 1u; v8 = 4u; v9 = 0u; goto L21;
+L5:;
+    v3 = ADDRESS(c125); v4 = 24u; v5 = 1u; v6 = 0u; v7 = 1u; v8 = 5u; v9 = 0u; goto L21;
+L6:;
+    v3 = ADDRESS(c126); v4 = 13u; v5 = 0u; v6 = 1u; v7 = 1u; v8 = 6u; v9 = 0u; goto L21;
+L7:;
+    v3 = ADDRESS(c127); v4 = 9u; v5 = 1u; v6 = 0u; v7 = 3u; v8 = 7u; v9 = 0u; goto L21;
+L8:;
+    v3 = ADDRESS(c128); v4 = 9u; v5 = 1u; v6 = 0u; v7 = 3u; v8 = 8u; v9 = 0u; goto L21;
+L9:;
+    v3 = ADDRESS(c129); v4 = 6u; v5 = 1u; v6 = 0u; v7 = 3u; v8 = 9u; v9 = 0u; goto L21;
+L10:;
+    v3 = ADDRESS(c130); v4 = 10u; v5 = 1u; v6 = 0u; v7 = 1u; v8 = 10u; v9 = 0u; goto L21;
+L11:;
+    v3 = ADDRESS(c136); v4 = 21u; v5 = 0u; v6 = 1u; v7 = 3u; v8 = 11u; v9 = 0u; goto L21;
+L12:;
+    v3 = ADDRESS(c138); v4 = 24u; v5 = 0u; v6 = 1u; v7 = 3u; v8 = 11u; v9 = 1u; goto L21;
+L13:;
+    v3 = ADDRESS(c140); v4 = 17u; v5 = 0u; v6 = 1u; v7 = 3u; v8 = 11u; v9 = 2u; goto L21;
+L14:;
+    v3 = ADDRESS(c131); v4 = 14u; v5 = 0u; v6 = 1u; v7 = 1u; v8 = 12u; v9 = 0u; goto L21;
+L15:;
+    v3 = ADDRESS(c132); v4 = 11u; v5 = 0u; v6 = 1u; v7 = 4u; v8 = 13u; v9 = 0u; goto L21;
+L16:;
+    v3 = ADDRESS(c133); v4 = 12u; v5 = 0u; v6 = 1u; v7 = 4u; v8 = 14u; v9 = 0u; goto L21;
+L17:;
+    v3 = ADDRESS(c134); v4 = 14u; v5 = 1u; v6 = 0u; v7 = 3u; v8 = 15u; v9 = 0u; goto L21;
+L18:;
+    v3 = ADDRESS(c135); v4 = 14u; v5 = 1u; v6 = 0u; v7 = 3u; v8 = 16u; v9 = 0u; goto L21;
+L19:;
+    v3 = ADDRESS(c142); v4 = 15u; v5 = 0u; v6 = 1u; v7 = 3u; v8 = 11u; v9 = 3u; goto L21;
+L20:;
+    v3 = ADDRESS(c144); v4 = 27u; v5 = 0u; v6 = 1u; v7 = 3u; v8 = 11u; v9 = 4u; goto L21;
+L21:;
+    memory_set(v15, 0u, 6u);
+    memory_cpy(v17, v15, 6u);
+    store16(v16, v21);
+    v22 = v16 + 2u * 1u;
+    memory_cpy(v22, v17, 6u);
+    v23 = v16 + 8u * 1u;
+    store_address(v23, v3);
+    v24 = v16 + 16u * 1u;
+    store64(v24, v4);
+    v25 = v16 + 24u * 1u;
+    store8(v25, v6);
+    v26 = v16 + 25u * 1u;
+    store8(v26, v7);
+    v27 = v16 + 26u * 1u;
+    store8(v27, v8);
+    v28 = v16 + 27u * 1u;
+    store8(v28, v9);
+    v29 = v16 + 28u * 1u;
+    store32(v29, 0u);
+    if (v19) { goto L24; }
+    else { goto L27; }
+L22:;
+    v30 = a2 + 58u * 1u;
+    store8(v30, 0u);
+    v31 = a2 + 56u * 1u;
+    v32 = load16(v31);
+    v33 = a2 + 64u * 1u;
+    v34 = load_address(v33);
+    v35 = v19 ? 2u : 6u;
+    v36 = a2 + 54u * 1u;
+    v37 = load16(v36);
+    v38 = load_address(v34);
+    v39 = v34 + 16u * 1u;
+    v40 = load64(v39);
+    v41 = (u64)((u64)v40 * (u64)188u);
+    v42 = v38 + v41 * 1u;
+    store16(v42, v32);
+    v43 = v42 + 2u * 1u;
+    store16(v43, 60u);
+    v44 = v42 + 4u * 1u;
+    f34(a2, v32, v35, v37, v44);
+    v45 = load64(v39);
+    v46 = (u64)((u64)v45 + (u64)1u);
+    store64(v39, v46);
+    goto L23;
+L23:;
+    return;
+L24:;
+    v47 = (u8)((u32)v7 & (u32)1u);
+    v48 = v47 == 0u;
+    if (v48) { goto L25; }
+    else { goto L26; }
+L25:;
+    if (v5) { goto L28; }
+    else { v13 = 5u; v14 = 1u; goto L40; }
+L26:;
+    if (v5) { goto L29; }
+    else { v13 = 0u; v14 = 0u; goto L40; }
+L27:;
+    if (v5) { goto L28; }
+    else { v13 = 5u; v14 = 1u; goto L40; }
+L28:;
+    v49 = a2 + 58u * 1u;
+    store8(v49, 0u);
+    v50 = a2 + 56u * 1u;
+    v51 = load16(v50);
+    v52 = a2 + 64u * 1u;
+    v53 = load_address(v52);
+    v54 = a2 + 54u * 1u;
+    v55 = load16(v54);
+    v56 = load_address(v53);
+    v57 = v53 + 16u * 1u;
+    v58 = load64(v57);
+    v59 = (u64)((u64)v58 * (u64)188u);
+    v60 = v56 + v59 * 1u;
+    store16(v60, v51);
+    v61 = v60 + 2u * 1u;
+    store16(v61, 60u);
+    v62 = v60 + 4u * 1u;
+    f34(a2, v51, 6u, v55, v62);
+    v63 = load64(v57);
+    v64 = (u64)((u64)v63 + (u64)1u);
+    store64(v57, v64);
+    goto L23;
+L29:;
+    switch (v8) {
+    case 7u: v10 = 10u; goto L34;
+    case 8u: goto L30;
+    case 9u: goto L31;
+    case 10u: v11 = 0u; goto L35;
+    case 15u: goto L32;
+    case 0u: goto L39;
+    case 1u: goto L39;
+    case 2u: goto L39;
+    case 3u: goto L39;
+    case 4u: goto L39;
+    case 5u: goto L39;
+    case 6u: goto L39;
+    case 11u: goto L39;
+    case 12u: goto L39;
+    case 13u: goto L39;
+    case 14u: goto L39;
+    case 16u: goto L39;
+    default: goto L33;
+    }
+L30:;
+    v10 = 16u; goto L34;
+L31:;
+    v10 = 8u; goto L34;
+L32:;
+    v10 = 12u; goto L34;
+L33:;
+    UNREACHABLE;
+L34:;
+    v65 = a0 + v10 * 1u;
+    v66 = load8(v65);
+    v11 = v66; goto L35;
+L35:;
+    v67 = a2 + 58u * 1u;
+    store8(v67, 0u);
+    v68 = a2 + 56u * 1u;
+    v69 = load16(v68);
+    v70 = a2 + 64u * 1u;
+    v71 = load_address(v70);
+    v72 = load_address(v71);
+    v73 = v71 + 16u * 1u;
+    v74 = load64(v73);
+    v75 = (u64)((u64)v74 * (u64)188u);
+    v76 = v72 + v75 * 1u;
+    store16(v76, v69);
+    v77 = v76 + 2u * 1u;
+    store16(v77, 56u);
+    v78 = v76 + 4u * 1u;
+    v79 = v76 + 58u * 1u;
+    v80 = (u64)v78;
+    v81 = (u64)a2;
+    v82 = (u64)((u64)v80 - (u64)v81);
+    v83 = v82 < 54u;
+    if (v83) { v12 = 0u; goto L37; }
+    else { goto L36; }
+L36:;
+    memory_move(v78, a2, 54u);
+    goto L38;
+L37:;
+    v84 = v78 + v12 * 1u;
+    v85 = a2 + v12 * 1u;
+    v86 = load8(v85);
+    store8(v84, v86);
+    v87 = (u64)((u64)v12 + (u64)1u);
+    v88 = v87 == 54u;
+    if (v88) { goto L38; }
+    else { v12 = v87; goto L37; }
+L38:;
+    v89 = (u16)v11;
+    store16(v79, v89);
+    v90 = v76 + 6u * 1u;
+    store16(v90, 14336u);
+    v91 = swap16(v69);
+    v92 = v76 + 32u * 1u;
+    store16(v92, v91);
+    v93 = v76 + 54u * 1u;
+    store16(v93, 1024u);
+    v94 = load64(v73);
+    v95 = (u64)((u64)v94 + (u64)1u);
+    store64(v73, v95);
+    goto L23;
+L39:;
+    f73(a0, v8, a2);
+    goto L23;
+L40:;
+    f74(a0, v16, a1, v14, v13, a2);
+    goto L23;
+}
+
+static struct s2 f77(address a0, address a1, u64 a2) {
     u64 v3, v4, v14, v16, v19, v23, v24, v25, v27, v30, v32, v34, v58, v59, v60, v65;
     u64 v67;
     u8 v5, v8, v9, v17, v21, v22, v31, v33, v35, v36, v38, v39, v41, v42, v61, v64;
@@ -14738,7 +16460,7 @@ static struct s2 f70(address a0, address a1, u64 a2) {
     if (v9) { goto L1; }
     else { goto L2; }
 L1:;
-    v10 = f71(a0, a1, a2);
+    v10 = f78(a0, a1, a2);
     v6 = v10; goto L9;
 L2:;
     v11 = a0 + 426u * 1u;
@@ -14753,7 +16475,7 @@ L2:;
 L3:;
     v18 = a1 + v16 * 1u;
     v19 = (u64)((u64)a2 - (u64)v16);
-    v20 = f71(a0, v18, v19);
+    v20 = f78(a0, v18, v19);
     v21 = v20.m0;
     v22 = v21 == 1u;
     if (v22) { goto L4; }
@@ -14841,7 +16563,7 @@ L9:;
     return v6;
 }
 
-static struct s2 f71(address a0, address a1, u64 a2) {
+static struct s2 f78(address a0, address a1, u64 a2) {
     u64 v3, v5, v6, v8, v9, v10, v11, v12, v13, v16, v17, v21, v22, v23, v24, v26;
     u64 v27, v29, v30, v31, v32, v35, v37, v40, v44, v45, v46, v47, v48, v49, v57, v61;
     u64 v62, v66, v68, v72, v75, v79, v80, v81, v82, v83, v87, v88, v91, v99, v100, v104;
@@ -15056,7 +16778,7 @@ L28:;
     v150 = a0 + 384u * 1u;
     v151 = (u64)((u64)a2 + (u64)UINT64_C(18446744073709551604));
     memory_set(v53, 0u, 1176u);
-    f72(v53, a0);
+    f79(v53, a0);
     v152 = v53 + 1168u * 1u;
     v153 = load64(v152);
     v154 = v151 < v153;
@@ -15484,7 +17206,7 @@ L67:;
     return v409;
 }
 
-static void f72(address a0, address a1) {
+static void f79(address a0, address a1) {
     u64 v2, v4, v6, v7, v8, v9, v10, v13, v14, v15, v39, v70, v71, v74, v75, v79;
     u64 v80, v81, v105, v139, v140, v141, v165, v193, v197, v201, v205, v207, v210, v214, v216, v218;
     u64 v230, v231, v233, v234, v236, v237, v241, v242;
@@ -15878,625 +17600,581 @@ L21:;
     return;
 }
 
-static void f73(address a0, address a1) {
-    u64 v2, v4, v5, v6, v17, v19, v97, v99, v100, v101, v102, v104, v107, v111, v115, v116;
-    u64 v117, v118, v120, v123, v124, v127, v133, v142, v151, v160, v169, v178, v187, v196;
-    address v3, v7, v8, v9, v10, v11, v12, v13, v14, v18, v22, v23, v24, v25, v26, v27;
-    address v28, v29, v30, v31, v32, v33, v34, v35, v36, v37, v38, v39, v40, v41, v42, v43;
-    address v44, v45, v46, v47, v48, v49, v50, v51, v52, v53, v54, v55, v56, v57, v58, v59;
-    address v60, v61, v62, v63, v64, v65, v66, v67, v68, v69, v70, v71, v72, v73, v74, v75;
-    address v76, v77, v78, v79, v80, v81, v82, v83, v84, v85, v86, v87, v88, v89, v90, v91;
-    address v92, v93, v94, v95, v96, v105, v106, v109, v110, v113, v119, v121, v122, v129, v130, v131;
-    address v132, v205, v206, v207, v208, v209, v210, v211, v212, v213, v214, v215, v216, v217, v218, v219;
-    address v220, v221, v222, v223, v224, v225, v226, v227, v228, v229, v230, v231, v232, v233, v234, v235;
-    address v236, v237, v238, v239, v240, v241, v242, v243, v244, v245, v246, v247, v248, v249, v250, v251;
-    address v252, v253, v254, v255, v256, v257, v258, v259, v260, v261, v262, v263, v264, v265, v266, v267;
-    address v268, v269, v270, v271, v272, v273, v274, v275, v276, v277, v278, v279, v280, v281, v282, v283;
-    address v285, v286;
-    u8 v15, v16, v21, v98, v103, v108, v112, v114, v125, v126, v128, v134, v135, v136, v137, v138;
-    u8 v139, v140, v141, v143, v144, v145, v146, v147, v148, v149, v150, v152, v153, v154, v155, v156;
-    u8 v157, v158, v159, v161, v162, v163, v164, v165, v166, v167, v168, v170, v171, v172, v173, v174;
-    u8 v175, v176, v177, v179, v180, v181, v182, v183, v184, v185, v186, v188, v189, v190, v191, v192;
-    u8 v193, v194, v195, v197, v198, v199, v200, v201, v202, v203, v204, v284;
-    u16 v20;
+static void f80(address a0, address a1) {
+    u64 v2, v4, v5, v6, v91, v93, v94, v95, v96, v98, v101, v105, v109, v110, v111, v112;
+    u64 v114, v117, v118, v121, v127, v136, v145, v154, v163, v172, v181, v190;
+    address v3, v7, v8, v9, v10, v11, v12, v13, v14, v15, v16, v17, v18, v19, v20, v21;
+    address v22, v23, v24, v25, v26, v27, v28, v29, v30, v31, v32, v33, v34, v35, v36, v37;
+    address v38, v39, v40, v41, v42, v43, v44, v45, v46, v47, v48, v49, v50, v51, v52, v53;
+    address v54, v55, v56, v57, v58, v59, v60, v61, v62, v63, v64, v65, v66, v67, v68, v69;
+    address v70, v71, v72, v73, v74, v75, v76, v77, v78, v79, v80, v81, v82, v83, v84, v85;
+    address v88, v89, v90, v99, v100, v103, v104, v107, v113, v115, v116, v123, v124, v125, v126, v199;
+    address v200, v201, v202, v203, v204, v205, v206, v207, v208, v209, v210, v211, v212, v213, v214, v215;
+    address v216, v217, v218, v219, v220, v221, v222, v223, v224, v225, v226, v227, v228, v229, v230, v231;
+    address v232, v233, v234, v235, v236, v237, v238, v239, v240, v241, v242, v243, v244, v245, v246, v247;
+    address v248, v249, v250, v251, v252, v253, v254, v255, v256, v257, v258, v259, v260, v261, v262, v263;
+    address v264, v265, v266, v267, v268, v269, v270, v271, v272, v273, v274, v275, v276, v277;
+    u8 v86, v87, v92, v97, v102, v106, v108, v119, v120, v122, v128, v129, v130, v131, v132, v133;
+    u8 v134, v135, v137, v138, v139, v140, v141, v142, v143, v144, v146, v147, v148, v149, v150, v151;
+    u8 v152, v153, v155, v156, v157, v158, v159, v160, v161, v162, v164, v165, v166, v167, v168, v169;
+    u8 v170, v171, v173, v174, v175, v176, v177, v178, v179, v180, v182, v183, v184, v185, v186, v187;
+    u8 v188, v189, v191, v192, v193, v194, v195, v196, v197, v198;
     u64 block0[18];
     u64 block1[30];
     u64 block2[17];
     u64 block3[18];
-    u64 block4[49];
-    u64 block5[30];
+    u64 block4[30];
     v8 = ADDRESS(block0);
     v9 = ADDRESS(block1);
     v10 = ADDRESS(block2);
     v11 = ADDRESS(block3);
     v12 = ADDRESS(block4);
-    v13 = ADDRESS(block5);
-    memory_set(v12, 0u, 392u);
-    memory_set(v13, 0u, 240u);
-    v14 = a1 + 240u * 1u;
-    v15 = load8(v14);
-    v16 = v15 == 0u;
-    v17 = v16 ? 376u : 256u;
-    v18 = a1 + v17 * 1u;
-    v19 = load64(v18);
-    v20 = (u16)(v19);
-    v21 = v20 < 9u;
-    if (v21) { goto L1; }
-    else { goto L14; }
-L1:;
+    memory_set(v12, 0u, 240u);
     memory_set(v9, 0u, 240u);
     memory_set(v11, 0u, 144u);
     store64(v10, 0u);
-    v22 = v10 + 8u * 1u;
+    v13 = v10 + 8u * 1u;
+    store8(v13, 5u);
+    v14 = v10 + 9u * 1u;
+    store8(v14, 0u);
+    v15 = v10 + 10u * 1u;
+    store8(v15, 1u);
+    v16 = v10 + 11u * 1u;
+    store8(v16, 3u);
+    v17 = v10 + 12u * 1u;
+    store8(v17, 0u);
+    v18 = v10 + 13u * 1u;
+    store8(v18, 1u);
+    v19 = v10 + 14u * 1u;
+    store8(v19, 0u);
+    v20 = v10 + 15u * 1u;
+    store8(v20, 0u);
+    v21 = v10 + 16u * 1u;
+    store64(v21, 0u);
+    v22 = v10 + 24u * 1u;
     store8(v22, 5u);
-    v23 = v10 + 9u * 1u;
+    v23 = v10 + 25u * 1u;
     store8(v23, 0u);
-    v24 = v10 + 10u * 1u;
+    v24 = v10 + 26u * 1u;
     store8(v24, 1u);
-    v25 = v10 + 11u * 1u;
+    v25 = v10 + 27u * 1u;
     store8(v25, 3u);
-    v26 = v10 + 12u * 1u;
+    v26 = v10 + 28u * 1u;
     store8(v26, 0u);
-    v27 = v10 + 13u * 1u;
+    v27 = v10 + 29u * 1u;
     store8(v27, 1u);
-    v28 = v10 + 14u * 1u;
+    v28 = v10 + 30u * 1u;
     store8(v28, 0u);
-    v29 = v10 + 15u * 1u;
+    v29 = v10 + 31u * 1u;
     store8(v29, 0u);
-    v30 = v10 + 16u * 1u;
+    v30 = v10 + 32u * 1u;
     store64(v30, 0u);
-    v31 = v10 + 24u * 1u;
+    v31 = v10 + 40u * 1u;
     store8(v31, 5u);
-    v32 = v10 + 25u * 1u;
+    v32 = v10 + 41u * 1u;
     store8(v32, 0u);
-    v33 = v10 + 26u * 1u;
+    v33 = v10 + 42u * 1u;
     store8(v33, 1u);
-    v34 = v10 + 27u * 1u;
+    v34 = v10 + 43u * 1u;
     store8(v34, 3u);
-    v35 = v10 + 28u * 1u;
+    v35 = v10 + 44u * 1u;
     store8(v35, 0u);
-    v36 = v10 + 29u * 1u;
+    v36 = v10 + 45u * 1u;
     store8(v36, 1u);
-    v37 = v10 + 30u * 1u;
+    v37 = v10 + 46u * 1u;
     store8(v37, 0u);
-    v38 = v10 + 31u * 1u;
+    v38 = v10 + 47u * 1u;
     store8(v38, 0u);
-    v39 = v10 + 32u * 1u;
+    v39 = v10 + 48u * 1u;
     store64(v39, 0u);
-    v40 = v10 + 40u * 1u;
+    v40 = v10 + 56u * 1u;
     store8(v40, 5u);
-    v41 = v10 + 41u * 1u;
+    v41 = v10 + 57u * 1u;
     store8(v41, 0u);
-    v42 = v10 + 42u * 1u;
+    v42 = v10 + 58u * 1u;
     store8(v42, 1u);
-    v43 = v10 + 43u * 1u;
+    v43 = v10 + 59u * 1u;
     store8(v43, 3u);
-    v44 = v10 + 44u * 1u;
+    v44 = v10 + 60u * 1u;
     store8(v44, 0u);
-    v45 = v10 + 45u * 1u;
+    v45 = v10 + 61u * 1u;
     store8(v45, 1u);
-    v46 = v10 + 46u * 1u;
+    v46 = v10 + 62u * 1u;
     store8(v46, 0u);
-    v47 = v10 + 47u * 1u;
+    v47 = v10 + 63u * 1u;
     store8(v47, 0u);
-    v48 = v10 + 48u * 1u;
+    v48 = v10 + 64u * 1u;
     store64(v48, 0u);
-    v49 = v10 + 56u * 1u;
+    v49 = v10 + 72u * 1u;
     store8(v49, 5u);
-    v50 = v10 + 57u * 1u;
+    v50 = v10 + 73u * 1u;
     store8(v50, 0u);
-    v51 = v10 + 58u * 1u;
+    v51 = v10 + 74u * 1u;
     store8(v51, 1u);
-    v52 = v10 + 59u * 1u;
+    v52 = v10 + 75u * 1u;
     store8(v52, 3u);
-    v53 = v10 + 60u * 1u;
+    v53 = v10 + 76u * 1u;
     store8(v53, 0u);
-    v54 = v10 + 61u * 1u;
+    v54 = v10 + 77u * 1u;
     store8(v54, 1u);
-    v55 = v10 + 62u * 1u;
+    v55 = v10 + 78u * 1u;
     store8(v55, 0u);
-    v56 = v10 + 63u * 1u;
+    v56 = v10 + 79u * 1u;
     store8(v56, 0u);
-    v57 = v10 + 64u * 1u;
+    v57 = v10 + 80u * 1u;
     store64(v57, 0u);
-    v58 = v10 + 72u * 1u;
+    v58 = v10 + 88u * 1u;
     store8(v58, 5u);
-    v59 = v10 + 73u * 1u;
+    v59 = v10 + 89u * 1u;
     store8(v59, 0u);
-    v60 = v10 + 74u * 1u;
+    v60 = v10 + 90u * 1u;
     store8(v60, 1u);
-    v61 = v10 + 75u * 1u;
+    v61 = v10 + 91u * 1u;
     store8(v61, 3u);
-    v62 = v10 + 76u * 1u;
+    v62 = v10 + 92u * 1u;
     store8(v62, 0u);
-    v63 = v10 + 77u * 1u;
+    v63 = v10 + 93u * 1u;
     store8(v63, 1u);
-    v64 = v10 + 78u * 1u;
+    v64 = v10 + 94u * 1u;
     store8(v64, 0u);
-    v65 = v10 + 79u * 1u;
+    v65 = v10 + 95u * 1u;
     store8(v65, 0u);
-    v66 = v10 + 80u * 1u;
+    v66 = v10 + 96u * 1u;
     store64(v66, 0u);
-    v67 = v10 + 88u * 1u;
+    v67 = v10 + 104u * 1u;
     store8(v67, 5u);
-    v68 = v10 + 89u * 1u;
+    v68 = v10 + 105u * 1u;
     store8(v68, 0u);
-    v69 = v10 + 90u * 1u;
+    v69 = v10 + 106u * 1u;
     store8(v69, 1u);
-    v70 = v10 + 91u * 1u;
+    v70 = v10 + 107u * 1u;
     store8(v70, 3u);
-    v71 = v10 + 92u * 1u;
+    v71 = v10 + 108u * 1u;
     store8(v71, 0u);
-    v72 = v10 + 93u * 1u;
+    v72 = v10 + 109u * 1u;
     store8(v72, 1u);
-    v73 = v10 + 94u * 1u;
+    v73 = v10 + 110u * 1u;
     store8(v73, 0u);
-    v74 = v10 + 95u * 1u;
+    v74 = v10 + 111u * 1u;
     store8(v74, 0u);
-    v75 = v10 + 96u * 1u;
+    v75 = v10 + 112u * 1u;
     store64(v75, 0u);
-    v76 = v10 + 104u * 1u;
+    v76 = v10 + 120u * 1u;
     store8(v76, 5u);
-    v77 = v10 + 105u * 1u;
+    v77 = v10 + 121u * 1u;
     store8(v77, 0u);
-    v78 = v10 + 106u * 1u;
+    v78 = v10 + 122u * 1u;
     store8(v78, 1u);
-    v79 = v10 + 107u * 1u;
+    v79 = v10 + 123u * 1u;
     store8(v79, 3u);
-    v80 = v10 + 108u * 1u;
+    v80 = v10 + 124u * 1u;
     store8(v80, 0u);
-    v81 = v10 + 109u * 1u;
+    v81 = v10 + 125u * 1u;
     store8(v81, 1u);
-    v82 = v10 + 110u * 1u;
+    v82 = v10 + 126u * 1u;
     store8(v82, 0u);
-    v83 = v10 + 111u * 1u;
+    v83 = v10 + 127u * 1u;
     store8(v83, 0u);
-    v84 = v10 + 112u * 1u;
+    v84 = v10 + 128u * 1u;
     store64(v84, 0u);
-    v85 = v10 + 120u * 1u;
-    store8(v85, 5u);
-    v86 = v10 + 121u * 1u;
-    store8(v86, 0u);
-    v87 = v10 + 122u * 1u;
-    store8(v87, 1u);
-    v88 = v10 + 123u * 1u;
-    store8(v88, 3u);
-    v89 = v10 + 124u * 1u;
-    store8(v89, 0u);
-    v90 = v10 + 125u * 1u;
-    store8(v90, 1u);
-    v91 = v10 + 126u * 1u;
-    store8(v91, 0u);
-    v92 = v10 + 127u * 1u;
-    store8(v92, 0u);
-    v93 = v10 + 128u * 1u;
-    store64(v93, 0u);
-    v94 = a1 + 248u * 1u;
-    if (v16) { v2 = 376u; v3 = v94; goto L3; }
-    else { goto L2; }
+    v85 = a1 + 240u * 1u;
+    v86 = load8(v85);
+    v87 = v86 == 0u;
+    v88 = a1 + 248u * 1u;
+    if (v87) { v2 = 376u; v3 = v88; goto L2; }
+    else { goto L1; }
+L1:;
+    v89 = load_address(v88);
+    v2 = 256u; v3 = v89; goto L2;
 L2:;
-    v95 = load_address(v94);
-    v2 = 256u; v3 = v95; goto L3;
+    v90 = a1 + v2 * 1u;
+    v91 = load64(v90);
+    v92 = v91 > 8u;
+    if (v92) { v5 = 0u; goto L6; }
+    else { goto L3; }
 L3:;
-    v96 = a1 + v2 * 1u;
-    v97 = load64(v96);
-    v98 = v97 > 8u;
-    if (v98) { v5 = 0u; goto L7; }
+    v93 = (u64)((u64)v91 << (4u & 63u));
+    v94 = (u64)v10;
+    v95 = (u64)v3;
+    v96 = (u64)((u64)v94 - (u64)v95);
+    v97 = v96 < v93;
+    if (v97) { v4 = 0u; goto L5; }
     else { goto L4; }
 L4:;
-    v99 = (u64)((u64)v97 << (4u & 63u));
-    v100 = (u64)v10;
-    v101 = (u64)v3;
-    v102 = (u64)((u64)v100 - (u64)v101);
-    v103 = v102 < v99;
-    if (v103) { v4 = 0u; goto L6; }
-    else { goto L5; }
+    memory_move(v10, v3, v93);
+    v5 = v91; goto L6;
 L5:;
-    memory_move(v10, v3, v99);
-    v5 = v97; goto L7;
+    v98 = (u64)((u64)v4 << (4u & 63u));
+    v99 = v10 + v98 * 1u;
+    v100 = v3 + v98 * 1u;
+    memory_move(v99, v100, 16u);
+    v101 = (u64)((u64)v4 + (u64)1u);
+    v102 = v101 == v91;
+    if (v102) { v5 = v91; goto L6; }
+    else { v4 = v101; goto L5; }
 L6:;
-    v104 = (u64)((u64)v4 << (4u & 63u));
-    v105 = v10 + v104 * 1u;
-    v106 = v3 + v104 * 1u;
-    memory_move(v105, v106, 16u);
-    v107 = (u64)((u64)v4 + (u64)1u);
-    v108 = v107 == v97;
-    if (v108) { v5 = v97; goto L7; }
-    else { v4 = v107; goto L6; }
+    v103 = a1 + 24u * 1u;
+    v104 = a1 + 160u * 1u;
+    v105 = load64(v104);
+    v106 = v105 == 0u;
+    if (v106) { v6 = 0u; v7 = v103; goto L8; }
+    else { goto L7; }
 L7:;
-    v109 = a1 + 24u * 1u;
-    v110 = a1 + 160u * 1u;
-    v111 = load64(v110);
-    v112 = v111 == 0u;
-    if (v112) { v6 = 0u; v7 = v109; goto L9; }
-    else { goto L8; }
+    v107 = a1 + 25u * 1u;
+    v108 = load8(v103);
+    v109 = (u64)v108;
+    v6 = v109; v7 = v107; goto L8;
 L8:;
-    v113 = a1 + 25u * 1u;
-    v114 = load8(v109);
-    v115 = (u64)v114;
-    v6 = v115; v7 = v113; goto L9;
-L9:;
     memory_set(v8, 0u, 144u);
-    v116 = (u64)((u64)v6 + (u64)1u);
-    v117 = (u64)((u64)v116 & (u64)1u);
-    v118 = (u64)((u64)v117 + (u64)v116);
-    v119 = v8 + 136u * 1u;
-    f30(v8, v118);
-    v120 = load64(v119);
-    v121 = v8 + 1u * 1u;
-    v122 = v121 + v6 * 1u;
-    v123 = (u64)((u64)v6 ^ (u64)UINT64_C(18446744073709551615));
-    v124 = (u64)((u64)v120 + (u64)v123);
-    v125 = (u8)(v6);
-    store8(v8, v125);
-    memory_cpy(v121, v7, v6);
-    v126 = v124 == 0u;
-    if (v126) { goto L13; }
+    v110 = (u64)((u64)v6 + (u64)1u);
+    v111 = (u64)((u64)v110 & (u64)1u);
+    v112 = (u64)((u64)v111 + (u64)v110);
+    v113 = v8 + 136u * 1u;
+    f31(v8, v112);
+    v114 = load64(v113);
+    v115 = v8 + 1u * 1u;
+    v116 = v115 + v6 * 1u;
+    v117 = (u64)((u64)v6 ^ (u64)UINT64_C(18446744073709551615));
+    v118 = (u64)((u64)v114 + (u64)v117);
+    v119 = (u8)(v6);
+    store8(v8, v119);
+    memory_cpy(v115, v7, v6);
+    v120 = v118 == 0u;
+    if (v120) { goto L12; }
+    else { goto L9; }
+L9:;
+    v121 = (u64)((u64)v118 + (u64)UINT64_C(18446744073709551615));
+    v122 = v121 == 0u;
+    if (v122) { goto L11; }
     else { goto L10; }
 L10:;
-    v127 = (u64)((u64)v124 + (u64)UINT64_C(18446744073709551615));
-    v128 = v127 == 0u;
-    if (v128) { goto L12; }
-    else { goto L11; }
+    memory_set(v116, 0u, v121);
+    goto L11;
 L11:;
-    memory_set(v122, 0u, v127);
+    v123 = v116 + v121 * 1u;
+    store8(v123, 0u);
     goto L12;
 L12:;
-    v129 = v122 + v127 * 1u;
-    store8(v129, 0u);
-    goto L13;
-L13:;
     memory_cpy(v11, v8, 144u);
-    v130 = a1 + 168u * 1u;
-    v131 = a1 + 192u * 1u;
-    v132 = a1 + 228u * 1u;
-    v133 = load64(v10);
-    v134 = load8(v22);
-    v135 = load8(v23);
-    v136 = load8(v24);
-    v137 = load8(v25);
-    v138 = load8(v26);
-    v139 = load8(v27);
-    v140 = load8(v28);
-    v141 = load8(v29);
-    v142 = load64(v30);
-    v143 = load8(v31);
-    v144 = load8(v32);
-    v145 = load8(v33);
-    v146 = load8(v34);
-    v147 = load8(v35);
-    v148 = load8(v36);
-    v149 = load8(v37);
-    v150 = load8(v38);
-    v151 = load64(v39);
-    v152 = load8(v40);
-    v153 = load8(v41);
-    v154 = load8(v42);
-    v155 = load8(v43);
-    v156 = load8(v44);
-    v157 = load8(v45);
-    v158 = load8(v46);
-    v159 = load8(v47);
-    v160 = load64(v48);
-    v161 = load8(v49);
-    v162 = load8(v50);
-    v163 = load8(v51);
-    v164 = load8(v52);
-    v165 = load8(v53);
-    v166 = load8(v54);
-    v167 = load8(v55);
-    v168 = load8(v56);
-    v169 = load64(v57);
-    v170 = load8(v58);
-    v171 = load8(v59);
-    v172 = load8(v60);
-    v173 = load8(v61);
-    v174 = load8(v62);
-    v175 = load8(v63);
-    v176 = load8(v64);
-    v177 = load8(v65);
-    v178 = load64(v66);
-    v179 = load8(v67);
-    v180 = load8(v68);
-    v181 = load8(v69);
-    v182 = load8(v70);
-    v183 = load8(v71);
-    v184 = load8(v72);
-    v185 = load8(v73);
-    v186 = load8(v74);
-    v187 = load64(v75);
-    v188 = load8(v76);
-    v189 = load8(v77);
-    v190 = load8(v78);
-    v191 = load8(v79);
-    v192 = load8(v80);
-    v193 = load8(v81);
-    v194 = load8(v82);
-    v195 = load8(v83);
-    v196 = load64(v84);
-    v197 = load8(v85);
-    v198 = load8(v86);
-    v199 = load8(v87);
-    v200 = load8(v88);
-    v201 = load8(v89);
-    v202 = load8(v90);
-    v203 = load8(v91);
-    v204 = load8(v92);
+    v124 = a1 + 168u * 1u;
+    v125 = a1 + 192u * 1u;
+    v126 = a1 + 228u * 1u;
+    v127 = load64(v10);
+    v128 = load8(v13);
+    v129 = load8(v14);
+    v130 = load8(v15);
+    v131 = load8(v16);
+    v132 = load8(v17);
+    v133 = load8(v18);
+    v134 = load8(v19);
+    v135 = load8(v20);
+    v136 = load64(v21);
+    v137 = load8(v22);
+    v138 = load8(v23);
+    v139 = load8(v24);
+    v140 = load8(v25);
+    v141 = load8(v26);
+    v142 = load8(v27);
+    v143 = load8(v28);
+    v144 = load8(v29);
+    v145 = load64(v30);
+    v146 = load8(v31);
+    v147 = load8(v32);
+    v148 = load8(v33);
+    v149 = load8(v34);
+    v150 = load8(v35);
+    v151 = load8(v36);
+    v152 = load8(v37);
+    v153 = load8(v38);
+    v154 = load64(v39);
+    v155 = load8(v40);
+    v156 = load8(v41);
+    v157 = load8(v42);
+    v158 = load8(v43);
+    v159 = load8(v44);
+    v160 = load8(v45);
+    v161 = load8(v46);
+    v162 = load8(v47);
+    v163 = load64(v48);
+    v164 = load8(v49);
+    v165 = load8(v50);
+    v166 = load8(v51);
+    v167 = load8(v52);
+    v168 = load8(v53);
+    v169 = load8(v54);
+    v170 = load8(v55);
+    v171 = load8(v56);
+    v172 = load64(v57);
+    v173 = load8(v58);
+    v174 = load8(v59);
+    v175 = load8(v60);
+    v176 = load8(v61);
+    v177 = load8(v62);
+    v178 = load8(v63);
+    v179 = load8(v64);
+    v180 = load8(v65);
+    v181 = load64(v66);
+    v182 = load8(v67);
+    v183 = load8(v68);
+    v184 = load8(v69);
+    v185 = load8(v70);
+    v186 = load8(v71);
+    v187 = load8(v72);
+    v188 = load8(v73);
+    v189 = load8(v74);
+    v190 = load64(v75);
+    v191 = load8(v76);
+    v192 = load8(v77);
+    v193 = load8(v78);
+    v194 = load8(v79);
+    v195 = load8(v80);
+    v196 = load8(v81);
+    v197 = load8(v82);
+    v198 = load8(v83);
     memory_cpy(v9, a1, 18u);
-    v205 = v9 + 24u * 1u;
-    memory_cpy(v205, v11, 144u);
-    v206 = v9 + 168u * 1u;
-    memory_cpy(v206, v130, 24u);
-    v207 = v9 + 192u * 1u;
-    memory_cpy(v207, v131, 36u);
-    v208 = v9 + 228u * 1u;
-    memory_cpy(v208, v132, 10u);
-    memory_cpy(v13, v9, 240u);
-    store8(v12, 0u);
-    v209 = v12 + 8u * 1u;
-    memory_cpy(v209, v13, 240u);
-    v210 = v12 + 248u * 1u;
-    store64(v210, 0u);
-    v211 = v12 + 256u * 1u;
-    store64(v211, v133);
-    v212 = v12 + 264u * 1u;
+    v199 = v9 + 24u * 1u;
+    memory_cpy(v199, v11, 144u);
+    v200 = v9 + 168u * 1u;
+    memory_cpy(v200, v124, 24u);
+    v201 = v9 + 192u * 1u;
+    memory_cpy(v201, v125, 36u);
+    v202 = v9 + 228u * 1u;
+    memory_cpy(v202, v126, 10u);
+    memory_cpy(v12, v9, 240u);
+    store8(a0, 0u);
+    v203 = a0 + 8u * 1u;
+    memory_cpy(v203, v12, 240u);
+    v204 = a0 + 248u * 1u;
+    store64(v204, 0u);
+    v205 = a0 + 256u * 1u;
+    store64(v205, v127);
+    v206 = a0 + 264u * 1u;
+    store8(v206, v128);
+    v207 = a0 + 265u * 1u;
+    store8(v207, v129);
+    v208 = a0 + 266u * 1u;
+    store8(v208, v130);
+    v209 = a0 + 267u * 1u;
+    store8(v209, v131);
+    v210 = a0 + 268u * 1u;
+    store8(v210, v132);
+    v211 = a0 + 269u * 1u;
+    store8(v211, v133);
+    v212 = a0 + 270u * 1u;
     store8(v212, v134);
-    v213 = v12 + 265u * 1u;
+    v213 = a0 + 271u * 1u;
     store8(v213, v135);
-    v214 = v12 + 266u * 1u;
-    store8(v214, v136);
-    v215 = v12 + 267u * 1u;
+    v214 = a0 + 272u * 1u;
+    store64(v214, v136);
+    v215 = a0 + 280u * 1u;
     store8(v215, v137);
-    v216 = v12 + 268u * 1u;
+    v216 = a0 + 281u * 1u;
     store8(v216, v138);
-    v217 = v12 + 269u * 1u;
+    v217 = a0 + 282u * 1u;
     store8(v217, v139);
-    v218 = v12 + 270u * 1u;
+    v218 = a0 + 283u * 1u;
     store8(v218, v140);
-    v219 = v12 + 271u * 1u;
+    v219 = a0 + 284u * 1u;
     store8(v219, v141);
-    v220 = v12 + 272u * 1u;
-    store64(v220, v142);
-    v221 = v12 + 280u * 1u;
+    v220 = a0 + 285u * 1u;
+    store8(v220, v142);
+    v221 = a0 + 286u * 1u;
     store8(v221, v143);
-    v222 = v12 + 281u * 1u;
+    v222 = a0 + 287u * 1u;
     store8(v222, v144);
-    v223 = v12 + 282u * 1u;
-    store8(v223, v145);
-    v224 = v12 + 283u * 1u;
+    v223 = a0 + 288u * 1u;
+    store64(v223, v145);
+    v224 = a0 + 296u * 1u;
     store8(v224, v146);
-    v225 = v12 + 284u * 1u;
+    v225 = a0 + 297u * 1u;
     store8(v225, v147);
-    v226 = v12 + 285u * 1u;
+    v226 = a0 + 298u * 1u;
     store8(v226, v148);
-    v227 = v12 + 286u * 1u;
+    v227 = a0 + 299u * 1u;
     store8(v227, v149);
-    v228 = v12 + 287u * 1u;
+    v228 = a0 + 300u * 1u;
     store8(v228, v150);
-    v229 = v12 + 288u * 1u;
-    store64(v229, v151);
-    v230 = v12 + 296u * 1u;
+    v229 = a0 + 301u * 1u;
+    store8(v229, v151);
+    v230 = a0 + 302u * 1u;
     store8(v230, v152);
-    v231 = v12 + 297u * 1u;
+    v231 = a0 + 303u * 1u;
     store8(v231, v153);
-    v232 = v12 + 298u * 1u;
-    store8(v232, v154);
-    v233 = v12 + 299u * 1u;
+    v232 = a0 + 304u * 1u;
+    store64(v232, v154);
+    v233 = a0 + 312u * 1u;
     store8(v233, v155);
-    v234 = v12 + 300u * 1u;
+    v234 = a0 + 313u * 1u;
     store8(v234, v156);
-    v235 = v12 + 301u * 1u;
+    v235 = a0 + 314u * 1u;
     store8(v235, v157);
-    v236 = v12 + 302u * 1u;
+    v236 = a0 + 315u * 1u;
     store8(v236, v158);
-    v237 = v12 + 303u * 1u;
+    v237 = a0 + 316u * 1u;
     store8(v237, v159);
-    v238 = v12 + 304u * 1u;
-    store64(v238, v160);
-    v239 = v12 + 312u * 1u;
+    v238 = a0 + 317u * 1u;
+    store8(v238, v160);
+    v239 = a0 + 318u * 1u;
     store8(v239, v161);
-    v240 = v12 + 313u * 1u;
+    v240 = a0 + 319u * 1u;
     store8(v240, v162);
-    v241 = v12 + 314u * 1u;
-    store8(v241, v163);
-    v242 = v12 + 315u * 1u;
+    v241 = a0 + 320u * 1u;
+    store64(v241, v163);
+    v242 = a0 + 328u * 1u;
     store8(v242, v164);
-    v243 = v12 + 316u * 1u;
+    v243 = a0 + 329u * 1u;
     store8(v243, v165);
-    v244 = v12 + 317u * 1u;
+    v244 = a0 + 330u * 1u;
     store8(v244, v166);
-    v245 = v12 + 318u * 1u;
+    v245 = a0 + 331u * 1u;
     store8(v245, v167);
-    v246 = v12 + 319u * 1u;
+    v246 = a0 + 332u * 1u;
     store8(v246, v168);
-    v247 = v12 + 320u * 1u;
-    store64(v247, v169);
-    v248 = v12 + 328u * 1u;
+    v247 = a0 + 333u * 1u;
+    store8(v247, v169);
+    v248 = a0 + 334u * 1u;
     store8(v248, v170);
-    v249 = v12 + 329u * 1u;
+    v249 = a0 + 335u * 1u;
     store8(v249, v171);
-    v250 = v12 + 330u * 1u;
-    store8(v250, v172);
-    v251 = v12 + 331u * 1u;
+    v250 = a0 + 336u * 1u;
+    store64(v250, v172);
+    v251 = a0 + 344u * 1u;
     store8(v251, v173);
-    v252 = v12 + 332u * 1u;
+    v252 = a0 + 345u * 1u;
     store8(v252, v174);
-    v253 = v12 + 333u * 1u;
+    v253 = a0 + 346u * 1u;
     store8(v253, v175);
-    v254 = v12 + 334u * 1u;
+    v254 = a0 + 347u * 1u;
     store8(v254, v176);
-    v255 = v12 + 335u * 1u;
+    v255 = a0 + 348u * 1u;
     store8(v255, v177);
-    v256 = v12 + 336u * 1u;
-    store64(v256, v178);
-    v257 = v12 + 344u * 1u;
+    v256 = a0 + 349u * 1u;
+    store8(v256, v178);
+    v257 = a0 + 350u * 1u;
     store8(v257, v179);
-    v258 = v12 + 345u * 1u;
+    v258 = a0 + 351u * 1u;
     store8(v258, v180);
-    v259 = v12 + 346u * 1u;
-    store8(v259, v181);
-    v260 = v12 + 347u * 1u;
+    v259 = a0 + 352u * 1u;
+    store64(v259, v181);
+    v260 = a0 + 360u * 1u;
     store8(v260, v182);
-    v261 = v12 + 348u * 1u;
+    v261 = a0 + 361u * 1u;
     store8(v261, v183);
-    v262 = v12 + 349u * 1u;
+    v262 = a0 + 362u * 1u;
     store8(v262, v184);
-    v263 = v12 + 350u * 1u;
+    v263 = a0 + 363u * 1u;
     store8(v263, v185);
-    v264 = v12 + 351u * 1u;
+    v264 = a0 + 364u * 1u;
     store8(v264, v186);
-    v265 = v12 + 352u * 1u;
-    store64(v265, v187);
-    v266 = v12 + 360u * 1u;
+    v265 = a0 + 365u * 1u;
+    store8(v265, v187);
+    v266 = a0 + 366u * 1u;
     store8(v266, v188);
-    v267 = v12 + 361u * 1u;
+    v267 = a0 + 367u * 1u;
     store8(v267, v189);
-    v268 = v12 + 362u * 1u;
-    store8(v268, v190);
-    v269 = v12 + 363u * 1u;
+    v268 = a0 + 368u * 1u;
+    store64(v268, v190);
+    v269 = a0 + 376u * 1u;
     store8(v269, v191);
-    v270 = v12 + 364u * 1u;
+    v270 = a0 + 377u * 1u;
     store8(v270, v192);
-    v271 = v12 + 365u * 1u;
+    v271 = a0 + 378u * 1u;
     store8(v271, v193);
-    v272 = v12 + 366u * 1u;
+    v272 = a0 + 379u * 1u;
     store8(v272, v194);
-    v273 = v12 + 367u * 1u;
+    v273 = a0 + 380u * 1u;
     store8(v273, v195);
-    v274 = v12 + 368u * 1u;
-    store64(v274, v196);
-    v275 = v12 + 376u * 1u;
+    v274 = a0 + 381u * 1u;
+    store8(v274, v196);
+    v275 = a0 + 382u * 1u;
     store8(v275, v197);
-    v276 = v12 + 377u * 1u;
+    v276 = a0 + 383u * 1u;
     store8(v276, v198);
-    v277 = v12 + 378u * 1u;
-    store8(v277, v199);
-    v278 = v12 + 379u * 1u;
-    store8(v278, v200);
-    v279 = v12 + 380u * 1u;
-    store8(v279, v201);
-    v280 = v12 + 381u * 1u;
-    store8(v280, v202);
-    v281 = v12 + 382u * 1u;
-    store8(v281, v203);
-    v282 = v12 + 383u * 1u;
-    store8(v282, v204);
-    v283 = v12 + 384u * 1u;
-    store64(v283, v5);
-    goto L15;
-L14:;
-    f74(v12, a1);
-    goto L15;
-L15:;
-    v284 = load8(v12);
-    v285 = v12 + 8u * 1u;
-    store8(a0, v284);
-    v286 = a0 + 8u * 1u;
-    memory_cpy(v286, v285, 384u);
+    v277 = a0 + 384u * 1u;
+    store64(v277, v5);
     return;
 }
 
-static void f74(address a0, address a1) {
-    address v2, v3, v4, v5, v6, v7, v8, v18, v20, v25, v26, v27, v28, v30, v35, v36;
-    address v37;
-    u64 v9, v21, v31;
-    u8 v10, v12, v13, v14, v15, v16, v17, v19, v22, v23, v24, v29, v32, v33, v34;
-    struct s1 v11;
-    u64 block0[48];
+static void f81(address a0, address a1) {
+    address v2, v3, v4, v12, v13, v15, v20, v21, v22;
+    struct s1 v5;
+    u8 v6, v7, v8, v9, v10, v11, v14, v17, v18, v19;
+    u64 v16;
+    u64 block0[146];
     u64 block1[48];
     u64 block2[48];
-    u64 block3[147];
-    u64 block4[146];
-    u64 block5[48];
     v2 = ADDRESS(block0);
     v3 = ADDRESS(block1);
     v4 = ADDRESS(block2);
-    v5 = ADDRESS(block3);
-    v6 = ADDRESS(block4);
-    v7 = ADDRESS(block5);
-    memory_set(v6, 0u, 1164u);
-    memory_set(v5, 0u, 1176u);
-    f72(v5, a1);
-    v8 = v5 + 1168u * 1u;
-    v9 = load64(v8);
-    v10 = v9 > 1164u;
-    if (v10) { goto L9; }
-    else { goto L1; }
-L1:;
-    memory_cpy(v6, v5, v9);
-    memory_set(v3, 0u, 384u);
-    f24(v3);
-    memory_cpy(v2, v3, 384u);
-    v11 = f75(v2, v6, 1164u);
-    v12 = v11.m0;
-    v13 = v12 == 0u;
-    v14 = v11.m1;
-    v15 = (u8)((v14) & UINT64_C(1));
-    v16 = v13 ? v15 : 0u;
-    if (v16) { goto L3; }
+    memory_set(v4, 0u, 384u);
+    memory_set(v2, 0u, 1164u);
+    f82(a1, v2);
+    f25(v4);
+    memory_cpy(v3, v4, 384u);
+    v5 = f83(v3, v2, 1164u);
+    v6 = v5.m0;
+    v7 = v6 == 0u;
+    v8 = v5.m1;
+    v9 = (u8)((v8) & UINT64_C(1));
+    v10 = v7 ? v9 : 0u;
+    if (v10) { goto L1; }
     else { goto L2; }
+L1:;
+    v11 = f88(v3, v2, 1164u);
+    goto L3;
 L2:;
-    if (v13) { goto L7; }
+    if (v7) { goto L3; }
     else { goto L4; }
 L3:;
-    v17 = f80(v2, v6, 1164u);
-    if (v17) { goto L6; }
-    else { goto L7; }
+    store8(a0, 0u);
+    v12 = a0 + 8u * 1u;
+    memory_cpy(v12, v3, 384u);
+    goto L6;
 L4:;
-    v18 = v2 + 240u * 1u;
-    v19 = load8(v18);
-    v20 = v2 + 264u * 1u;
-    v21 = load64(v20);
-    v22 = v19 != 1u;
-    v23 = v21 == 0u;
-    v24 = v22 ? 1u : v23;
-    if (v24) { goto L12; }
+    v13 = v3 + 240u * 1u;
+    v14 = load8(v13);
+    v15 = v3 + 264u * 1u;
+    v16 = load64(v15);
+    v17 = v14 != 1u;
+    v18 = v16 == 0u;
+    v19 = v17 ? 1u : v18;
+    if (v19) { goto L7; }
     else { goto L5; }
 L5:;
-    v25 = v2 + 248u * 1u;
-    v26 = load_address(v25);
-    portable_rattle_dealloc(v26);
-    goto L12;
+    v20 = v3 + 248u * 1u;
+    v21 = load_address(v20);
+    portable_rattle_dealloc(v21);
+    goto L7;
 L6:;
-    memory_cpy(v4, v2, 384u);
-    memory_cpy(v7, v4, 384u);
-    store8(a0, 0u);
-    v27 = a0 + 8u * 1u;
-    memory_cpy(v27, v7, 384u);
-    goto L11;
-L7:;
-    memory_set(v4, 0u, 384u);
-    v28 = v2 + 240u * 1u;
-    v29 = load8(v28);
-    v30 = v2 + 264u * 1u;
-    v31 = load64(v30);
-    v32 = v29 != 1u;
-    v33 = v31 == 0u;
-    v34 = v32 ? 1u : v33;
-    if (v34) { goto L10; }
-    else { goto L8; }
-L8:;
-    v35 = v2 + 248u * 1u;
-    v36 = load_address(v35);
-    portable_rattle_dealloc(v36);
-    goto L10;
-L9:;
-    TRAP;
-    UNREACHABLE;
-L10:;
-    memory_cpy(v7, v4, 384u);
-    TRAP;
-    UNREACHABLE;
-L11:;
     return;
-L12:;
+L7:;
     store8(a0, 1u);
-    v37 = a0 + 8u * 1u;
-    memory_set(v37, 0u, 384u);
-    goto L11;
+    v22 = a0 + 8u * 1u;
+    memory_set(v22, 0u, 384u);
+    goto L6;
 }
 
-static struct s1 f75(address a0, address a1, u64 a2) {
+static void f82(address a0, address a1) {
+    address v2, v3;
+    u64 v4;
+    u8 v5;
+    u64 block0[147];
+    v2 = ADDRESS(block0);
+    memory_set(v2, 0u, 1176u);
+    f79(v2, a0);
+    v3 = v2 + 1168u * 1u;
+    v4 = load64(v3);
+    v5 = v4 > 1164u;
+    if (v5) { goto L2; }
+    else { goto L1; }
+L1:;
+    memory_cpy(a1, v2, v4);
+    goto L2;
+L2:;
+    return;
+}
+
+static struct s1 f83(address a0, address a1, u64 a2) {
     u8 v3, v4, v7, v10, v12, v15, v18, v21, v23, v24, v26, v27, v28, v30, v31;
     address v5, v6, v8, v13, v14, v22, v25;
     u64 v9, v11, v16, v17, v19, v20;
@@ -16533,7 +18211,7 @@ L3:;
     else { goto L4; }
 L4:;
     v22 = v14 + 1u * 1u;
-    f76(v6, a1, v13, v11);
+    f84(v6, a1, v13, v11);
     v23 = load8(v6);
     v24 = v23 == 1u;
     if (v24) { goto L5; }
@@ -16545,11 +18223,11 @@ L5:;
     if (v26) { goto L6; }
     else { goto L7; }
 L6:;
-    v27 = f77(a0, v5, v22, v20);
+    v27 = f85(a0, v5, v22, v20);
     v28 = (u8)v27;
     v3 = v28; v4 = 0u; goto L8;
 L7:;
-    v29 = f78(a0, v5, v22, v20);
+    v29 = f86(a0, v5, v22, v20);
     v30 = v29.m0;
     v31 = v29.m1;
     v3 = v31; v4 = v30; goto L8;
@@ -16561,7 +18239,7 @@ L8:;
     return v33;
 }
 
-static void f76(address a0, address a1, address a2, u64 a3) {
+static void f84(address a0, address a1, address a2, u64 a3) {
     address v4, v5, v6, v8, v9, v10, v11, v13, v15, v19, v21, v23, v25, v27, v31, v36;
     address v42, v44, v46, v48, v50, v52, v54, v56, v81, v83, v85, v87, v89, v91, v93, v95;
     address v121, v123, v129, v133, v135, v141, v143, v145, v147, v160, v162, v164, v166, v168, v170, v174;
@@ -16896,7 +18574,7 @@ L3:;
     goto L1;
 }
 
-static u8 f77(address a0, address a1, address a2, u64 a3) {
+static u8 f85(address a0, address a1, address a2, u64 a3) {
     u64 v4, v6, v48, v68, v125, v147, v148, v149, v150, v151, v152, v153, v154, v155, v156, v157;
     u64 v158, v159, v160, v161, v162, v163, v164, v165, v166, v167, v168, v169, v179, v190, v304, v308;
     u64 v334, v335, v336, v337, v340, v343, v344, v347, v354, v356, v365, v378, v380;
@@ -17340,7 +19018,7 @@ L3:;
     v295 = v56 + 192u * 1u;
     store64(v295, v6);
     memory_set(v52, 0u, 144u);
-    f26(v52, a1, v56, v6);
+    f27(v52, a1, v56, v6);
     v296 = load8(v52);
     v297 = v296 == 0u;
     if (v297) { goto L4; }
@@ -17410,7 +19088,7 @@ L6:;
     else { goto L7; }
 L7:;
     v339 = v51 + 136u * 1u;
-    f30(v51, v337);
+    f31(v51, v337);
     v340 = load64(v339);
     v48 = v340; goto L8;
 L8:;
@@ -17580,7 +19258,7 @@ L13:;
     return v297;
 }
 
-static struct s1 f78(address a0, address a1, address a2, u64 a3) {
+static struct s1 f86(address a0, address a1, address a2, u64 a3) {
     u64 v4, v8, v10, v13, v15, v17, v39, v40, v41, v42, v43, v44, v45, v46, v47, v48;
     u64 v49, v50, v51, v52, v53, v54, v55, v56, v57, v58, v59, v60, v61, v71, v82, v92;
     u8 v5, v6, v9, v14, v20, v22, v24, v26, v28, v30, v32, v34, v36, v38, v62, v64;
@@ -17690,7 +19368,7 @@ L3:;
     if (v83) { goto L4; }
     else { v4 = v82; goto L3; }
 L4:;
-    f79(v7, a1, v16, v8);
+    f87(v7, a1, v16, v8);
     v84 = load8(v7);
     v85 = v84 == 0u;
     if (v85) { goto L5; }
@@ -17730,7 +19408,7 @@ L9:;
     return v101;
 }
 
-static void f79(address a0, address a1, address a2, u64 a3) {
+static void f87(address a0, address a1, address a2, u64 a3) {
     address v4, v6, v14, v16, v17, v18, v19, v20, v21, v22, v23, v24, v25, v29, v30, v31;
     address v32, v33, v36, v37, v42, v60, v64, v67, v69, v71, v74, v75, v81, v83, v85, v87;
     address v89, v91, v93, v95, v97, v100, v102, v122, v124, v126, v128, v129, v130, v131, v132, v141;
@@ -17803,7 +19481,7 @@ L2:;
     else { goto L3; }
 L3:;
     memory_set(v21, 0u, 24u);
-    f27(v21, v32, v38);
+    f28(v21, v32, v38);
     v40 = load8(v21);
     v41 = v40 == 0u;
     if (v41) { goto L4; }
@@ -17855,7 +19533,7 @@ L12:;
 L13:;
     v59 = (u64)((u64)v7 * (u64)24u);
     v60 = a2 + v59 * 1u;
-    f29(v20, v60);
+    f30(v20, v60);
     v61 = load8(v20);
     v62 = v61 == 0u;
     if (v62) { goto L12; }
@@ -18041,7 +19719,7 @@ L26:;
     else { goto L27; }
 L27:;
     v193 = v19 + 136u * 1u;
-    f30(v19, v191);
+    f31(v19, v191);
     v194 = load64(v193);
     v15 = v194; goto L28;
 L28:;
@@ -18245,7 +19923,7 @@ L33:;
     goto L18;
 }
 
-static u8 f80(address a0, address a1, u64 a2) {
+static u8 f88(address a0, address a1, u64 a2) {
     u8 v3, v5, v8, v12, v14, v16, v17, v23, v27, v28, v29, v30, v31, v35, v36, v37;
     u8 v41, v42, v43, v44, v45, v46, v47, v48, v51, v52, v55, v56, v59, v60, v64, v65;
     u8 v66, v70, v71, v72, v73, v77, v78, v79, v80, v84, v85, v86, v87, v88, v89, v90;
@@ -18265,7 +19943,7 @@ static u8 f80(address a0, address a1, u64 a2) {
     v19 = ADDRESS(block1);
     v20 = ADDRESS(block2);
     memory_set(v19, 0u, 1176u);
-    f72(v19, a0);
+    f79(v19, a0);
     memory_cpy(v20, v19, 1176u);
     v21 = v20 + 1168u * 1u;
     v22 = load64(v21);
@@ -18366,7 +20044,7 @@ L6:;
     if (v96) { goto L7; }
     else { goto L8; }
 L7:;
-    v97 = f41(v18, v22);
+    v97 = f42(v18, v22);
     v16 = v97; goto L26;
 L8:;
     v98 = v22 < 65u;
@@ -18482,26 +20160,26 @@ L27:;
     return v17;
 }
 
-static u32 f81(address a0, u16 a1, address a2, u64 a3, address a4, u8 a5, address a6, u64 a7, address a8) {
+static u32 f89(address a0, u16 a1, address a2, u64 a3, address a4, u8 a5, address a6, u64 a7, address a8) {
     address v9, v11, v14, v22, v31, v32, v33, v34, v35, v36, v37, v38, v39, v40, v41, v42;
     address v43, v44, v45, v46, v47, v48, v49, v50, v51, v54, v56, v58, v59, v60, v62, v63;
     address v68, v74, v75, v76, v79, v82, v83, v84, v86, v92, v94, v101, v103, v108, v109, v110;
     address v111, v112, v116, v118, v120, v126, v129, v130, v131, v133, v136, v140, v143, v145, v146, v150;
     address v152, v159, v160, v167, v168, v169, v170, v171, v175, v177, v179, v185, v188, v189, v190, v192;
     address v195, v199, v202, v207, v208, v210, v212, v216, v220, v225, v230, v231, v234, v235, v236, v240;
-    address v241, v248, v249, v250, v252, v254, v256, v259, v261, v263, v265, v266, v267, v273, v278, v280;
-    address v282, v284, v287, v288, v293, v294, v295, v298, v300;
+    address v241, v249, v250, v251, v253, v255, v257, v260, v262, v264, v266, v267, v268, v274, v279, v281;
+    address v283, v285, v288, v289, v294, v295, v296, v299, v301;
     u64 v10, v12, v16, v17, v18, v19, v20, v21, v23, v24, v25, v28, v29, v61, v78, v102;
     u64 v104, v113, v114, v117, v127, v132, v137, v148, v149, v172, v173, v176, v186, v191, v196, v203;
     u64 v209, v211, v213, v214, v215, v219, v221, v222, v223, v224, v227, v228, v232, v238, v239, v242;
-    u64 v243, v244, v255, v264, v274, v275, v276, v277, v279, v281, v283, v285, v289, v291;
+    u64 v243, v244, v246, v256, v265, v275, v276, v277, v278, v280, v282, v284, v286, v290, v292;
     u8 v13, v15, v26, v27, v52, v53, v55, v57, v64, v65, v66, v67, v69, v70, v71, v72;
     u8 v73, v80, v81, v85, v87, v93, v95, v100, v105, v106, v107, v115, v119, v121, v128, v135;
     u8 v138, v139, v141, v142, v144, v147, v151, v153, v158, v161, v162, v163, v164, v165, v166, v174;
     u8 v178, v180, v187, v194, v197, v198, v200, v201, v204, v205, v206, v217, v218, v229, v233, v237;
-    u8 v245, v246, v247, v251, v253, v257, v258, v260, v262, v268, v269, v270, v271, v272, v286, v290;
-    u8 v292, v299, v301, v302, v303;
-    u32 v30, v296, v297, v304, v305;
+    u8 v245, v247, v248, v252, v254, v258, v259, v261, v263, v269, v270, v271, v272, v273, v287, v291;
+    u8 v293, v300, v302, v303, v304;
+    u32 v30, v297, v298, v305, v306;
     u16 v77, v88, v89, v90, v91, v96, v97, v98, v99, v122, v123, v124, v125, v134, v154, v155;
     u16 v156, v157, v181, v182, v183, v184, v193, v226;
     u64 block0[12];
@@ -18554,7 +20232,7 @@ static u32 f81(address a0, u16 a1, address a2, u64 a3, address a4, u8 a5, addres
     v52 = load8(v47);
     v53 = v52 == 0u;
     if (v53) { goto L1; }
-    else { goto L80; }
+    else { goto L81; }
 L1:;
     v54 = v47 + 8u * 1u;
     v55 = load8(v54);
@@ -18700,7 +20378,7 @@ L18:;
     goto L21;
 L19:;
     v140 = load_address(a0);
-    f82(v42, v140, a2, a3);
+    f90(v42, v140, a2, a3);
     v141 = load8(v42);
     v142 = v141 == 1u;
     if (v142) { goto L21; }
@@ -18725,7 +20403,7 @@ L20:;
     if (v158) { goto L21; }
     else { goto L22; }
 L21:;
-    v30 = 123u; goto L82;
+    v30 = 123u; goto L83;
 L22:;
     v159 = a0 + 841u * 1u;
     v14 = v159; v15 = 1u; goto L32;
@@ -18800,14 +20478,14 @@ L32:;
     v200 = load8(v199);
     v201 = (u8)((v200) & UINT64_C(1));
     if (v201) { goto L33; }
-    else { goto L81; }
+    else { goto L82; }
 L33:;
     v202 = a0 + 816u * 1u;
     v203 = load64(v202);
     v204 = v203 != 0u;
     v205 = (u8)(((u32)v15 ^ (u32)1u) & UINT64_C(1));
     v206 = (u8)(((u32)v204 | (u32)v205) & UINT64_C(1));
-    if (v206) { goto L39; }
+    if (v206) { goto L40; }
     else { goto L34; }
 L34:;
     v207 = load_address(a0);
@@ -18834,7 +20512,7 @@ L34:;
     v228 = v227 > v224 ? v227 : v224;
     v229 = v228 > v215;
     if (v229) { goto L35; }
-    else { goto L40; }
+    else { goto L41; }
 L35:;
     v230 = v207 + 384u * 1u;
     memory_set(v40, 0u, 88u);
@@ -18842,12 +20520,12 @@ L35:;
     v231 = v40 + 80u * 1u;
     v232 = load64(v231);
     v233 = v232 == 0u;
-    if (v233) { v18 = v224; goto L38; }
+    if (v233) { v18 = v224; goto L39; }
     else { goto L36; }
 L36:;
     v234 = v40 + 16u * 1u;
     v235 = load_address(v40);
-    v16 = v224; v17 = 0u; goto L37;
+    v16 = 0u; v17 = 0u; goto L37;
 L37:;
     v236 = v234 + v17 * 1u;
     v237 = load8(v236);
@@ -18859,234 +20537,237 @@ L37:;
     v243 = v16 > v242 ? v16 : v242;
     v244 = (u64)((u64)v17 + (u64)1u);
     v245 = v244 == v232;
-    if (v245) { v18 = v243; goto L38; }
+    if (v245) { goto L38; }
     else { v16 = v243; v17 = v244; goto L37; }
 L38:;
-    v246 = v18 > v215;
-    if (v246) { goto L81; }
-    else { goto L40; }
+    v246 = v243 > v224 ? v243 : v224;
+    v18 = v246; goto L39;
 L39:;
-    v247 = (u8)(((u32)v15 | (u32)v204) & UINT64_C(1));
-    if (v247) { goto L81; }
-    else { goto L40; }
+    v247 = v18 > v215;
+    if (v247) { goto L82; }
+    else { goto L41; }
 L40:;
-    if (v15) { goto L47; }
+    v248 = (u8)(((u32)v15 | (u32)v204) & UINT64_C(1));
+    if (v248) { goto L82; }
     else { goto L41; }
 L41:;
-    v248 = load_address(a0);
-    v249 = a0 + 8u * 1u;
-    memory_cpy(v38, v248, 384u);
-    memory_move(v248, v249, 384u);
-    memory_cpy(v249, v38, 384u);
-    v250 = load_address(a0);
+    if (v15) { goto L48; }
+    else { goto L42; }
+L42:;
+    v249 = load_address(a0);
+    v250 = a0 + 8u * 1u;
+    memory_cpy(v38, v249, 384u);
+    memory_move(v249, v250, 384u);
+    memory_cpy(v250, v38, 384u);
+    v251 = load_address(a0);
     memory_set(v39, 0u, 96u);
     switch (v55) {
-    case 0u: goto L42;
-    case 1u: goto L43;
-    case 2u: goto L44;
-    default: goto L45;
+    case 0u: goto L43;
+    case 1u: goto L44;
+    case 2u: goto L45;
+    default: goto L46;
     }
-L42:;
-    f43(v39, v250, a1, a2, a3, a6, a7);
-    goto L46;
 L43:;
-    f58(v39, v250, a1, a2, a3, v57, a6, a7);
-    goto L46;
+    f44(v39, v251, a1, a2, a3, a6, a7);
+    goto L47;
 L44:;
-    f63(v39, v250, a1, a2, a3, v59, v61, a6, a7);
-    goto L46;
+    f60(v39, v251, a1, a2, a3, v57, a6, a7);
+    goto L47;
 L45:;
-    UNREACHABLE;
+    f65(v39, v251, a1, a2, a3, v59, v61, a6, a7);
+    goto L47;
 L46:;
-    v251 = load8(v39);
-    v252 = v39 + 1u * 1u;
-    v253 = load8(v252);
-    v254 = v39 + 8u * 1u;
-    v255 = load64(v254);
-    v256 = load_address(a0);
-    memory_cpy(v37, v256, 384u);
-    memory_move(v256, v249, 384u);
-    memory_cpy(v249, v37, 384u);
-    memory_set(v50, 0u, 68u);
-    v26 = v251; v27 = v253; v28 = v255; v29 = 0u; goto L69;
+    UNREACHABLE;
 L47:;
-    v257 = load8(v14);
-    v258 = (u8)((v257) & UINT64_C(1));
-    if (v258) { goto L48; }
-    else { goto L57; }
+    v252 = load8(v39);
+    v253 = v39 + 1u * 1u;
+    v254 = load8(v253);
+    v255 = v39 + 8u * 1u;
+    v256 = load64(v255);
+    v257 = load_address(a0);
+    memory_cpy(v37, v257, 384u);
+    memory_move(v257, v250, 384u);
+    memory_cpy(v250, v37, 384u);
+    memory_set(v50, 0u, 68u);
+    v26 = v252; v27 = v254; v28 = v256; v29 = 0u; goto L70;
 L48:;
-    v259 = load_address(a0);
-    memory_set(v35, 0u, 96u);
-    if (a5) { goto L49; }
-    else { goto L50; }
+    v258 = load8(v14);
+    v259 = (u8)((v258) & UINT64_C(1));
+    if (v259) { goto L49; }
+    else { goto L58; }
 L49:;
-    f23(v35, v259, a1, a2, a3, a6, a7);
-    goto L56;
+    v260 = load_address(a0);
+    memory_set(v35, 0u, 96u);
+    if (a5) { goto L50; }
+    else { goto L51; }
 L50:;
+    f23(v35, v260, a1, a2, a3, a6, a7);
+    goto L57;
+L51:;
     memory_set(v34, 0u, 96u);
     switch (v55) {
-    case 0u: goto L51;
-    case 1u: goto L52;
-    case 2u: goto L53;
-    default: goto L54;
+    case 0u: goto L52;
+    case 1u: goto L53;
+    case 2u: goto L54;
+    default: goto L55;
     }
-L51:;
-    f43(v34, v259, a1, a2, a3, a6, a7);
-    goto L55;
 L52:;
-    f58(v34, v259, a1, a2, a3, v57, a6, a7);
-    goto L55;
-L53:;
-    f63(v34, v259, a1, a2, a3, v59, v61, a6, a7);
-    goto L55;
-L54:;
-    UNREACHABLE;
-L55:;
-    memory_cpy(v35, v34, 96u);
+    f44(v34, v260, a1, a2, a3, a6, a7);
     goto L56;
+L53:;
+    f60(v34, v260, a1, a2, a3, v57, a6, a7);
+    goto L56;
+L54:;
+    f65(v34, v260, a1, a2, a3, v59, v61, a6, a7);
+    goto L56;
+L55:;
+    UNREACHABLE;
 L56:;
-    v260 = load8(v35);
-    v261 = v35 + 1u * 1u;
-    v262 = load8(v261);
-    v263 = v35 + 8u * 1u;
-    v264 = load64(v263);
-    v265 = v35 + 16u * 1u;
-    memory_cpy(v36, v265, 76u);
-    v266 = a0 + 776u * 1u;
-    f69(v266, a6, v264);
-    v267 = a0 + 842u * 1u;
-    v268 = load8(v267);
-    v269 = (u8)((v268) & UINT64_C(1));
-    v270 = v260 == 5u;
-    v271 = (u8)(((u32)v270 | (u32)v269) & UINT64_C(1));
-    v272 = (u8)v271;
-    store8(v267, v272);
-    v273 = v36 + 8u * 1u;
-    v274 = (u64)v260;
-    v275 = (u64)v262;
-    v276 = (u64)((u64)v275 << (8u & 63u));
-    v277 = (u64)((u64)v276 | (u64)v274);
-    memory_cpy(v48, v273, 68u);
-    v22 = v48; v23 = v277; v24 = 0u; v25 = v264; goto L68;
+    memory_cpy(v35, v34, 96u);
+    goto L57;
 L57:;
-    v278 = load_address(a0);
-    memory_set(v32, 0u, 96u);
-    if (a5) { goto L58; }
-    else { goto L59; }
+    v261 = load8(v35);
+    v262 = v35 + 1u * 1u;
+    v263 = load8(v262);
+    v264 = v35 + 8u * 1u;
+    v265 = load64(v264);
+    v266 = v35 + 16u * 1u;
+    memory_cpy(v36, v266, 76u);
+    v267 = a0 + 776u * 1u;
+    f71(v267, a6, v265);
+    v268 = a0 + 842u * 1u;
+    v269 = load8(v268);
+    v270 = (u8)((v269) & UINT64_C(1));
+    v271 = v261 == 5u;
+    v272 = (u8)(((u32)v271 | (u32)v270) & UINT64_C(1));
+    v273 = (u8)v272;
+    store8(v268, v273);
+    v274 = v36 + 8u * 1u;
+    v275 = (u64)v261;
+    v276 = (u64)v263;
+    v277 = (u64)((u64)v276 << (8u & 63u));
+    v278 = (u64)((u64)v277 | (u64)v275);
+    memory_cpy(v48, v274, 68u);
+    v22 = v48; v23 = v278; v24 = 0u; v25 = v265; goto L69;
 L58:;
-    f23(v32, v278, a1, a2, a3, a6, a7);
-    goto L65;
+    v279 = load_address(a0);
+    memory_set(v32, 0u, 96u);
+    if (a5) { goto L59; }
+    else { goto L60; }
 L59:;
+    f23(v32, v279, a1, a2, a3, a6, a7);
+    goto L66;
+L60:;
     memory_set(v31, 0u, 96u);
     switch (v55) {
-    case 0u: goto L60;
-    case 1u: goto L61;
-    case 2u: goto L62;
-    default: goto L63;
+    case 0u: goto L61;
+    case 1u: goto L62;
+    case 2u: goto L63;
+    default: goto L64;
     }
-L60:;
-    f43(v31, v278, a1, a2, a3, a6, a7);
-    goto L64;
 L61:;
-    f58(v31, v278, a1, a2, a3, v57, a6, a7);
-    goto L64;
-L62:;
-    f63(v31, v278, a1, a2, a3, v59, v61, a6, a7);
-    goto L64;
-L63:;
-    UNREACHABLE;
-L64:;
-    memory_cpy(v32, v31, 96u);
+    f44(v31, v279, a1, a2, a3, a6, a7);
     goto L65;
-L65:;
-    v279 = load64(v32);
-    v280 = v32 + 8u * 1u;
-    v281 = load64(v280);
-    v282 = v32 + 16u * 1u;
-    v283 = load64(v282);
-    v284 = v32 + 24u * 1u;
-    memory_cpy(v33, v284, 68u);
-    v285 = (u64)((u64)v279 & (u64)255u);
-    v286 = v285 == 5u;
-    if (v286) { goto L66; }
-    else { v19 = v279; v20 = v281; v21 = v283; goto L67; }
-L66:;
-    v287 = a0 + 776u * 1u;
-    f69(v287, a6, v281);
-    store8(v14, 1u);
-    v288 = a0 + 842u * 1u;
-    store8(v288, 1u);
-    v289 = (u64)((u64)v279 & (u64)65285u);
-    v19 = v289; v20 = 0u; v21 = v281; goto L67;
-L67:;
-    memory_cpy(v49, v33, 68u);
-    v22 = v49; v23 = v19; v24 = v20; v25 = v21; goto L68;
-L68:;
-    v290 = (u8)(v23);
-    v291 = (u64)((u64)v23 >> (8u & 63u));
-    v292 = (u8)(v291);
-    memory_cpy(v50, v22, 68u);
-    v26 = v290; v27 = v292; v28 = v24; v29 = v25; goto L69;
-L69:;
-    store64(a8, v28);
-    v293 = a8 + 8u * 1u;
-    store64(v293, v29);
-    v294 = a8 + 16u * 1u;
-    memory_cpy(v294, v50, 68u);
-    v295 = a8 + 84u * 1u;
-    store32(v295, 0u);
-    switch (v26) {
-    case 0u: goto L70;
-    case 9u: goto L78;
-    case 1u: v30 = 1u; goto L82;
-    case 2u: goto L71;
-    case 3u: goto L72;
-    case 4u: goto L73;
-    case 5u: goto L74;
-    case 6u: goto L75;
-    case 7u: goto L76;
-    case 8u: goto L77;
-    default: goto L79;
-    }
-L70:;
-    v296 = (u32)v27;
-    v297 = (u32)((u32)v296 + (u32)16u);
-    v30 = v297; goto L82;
-L71:;
-    v30 = 2u; goto L82;
-L72:;
-    v30 = 3u; goto L82;
-L73:;
-    v30 = 4u; goto L82;
-L74:;
-    v30 = 5u; goto L82;
-L75:;
-    v30 = 6u; goto L82;
-L76:;
-    v30 = 7u; goto L82;
-L77:;
-    v30 = 8u; goto L82;
-L78:;
-    v30 = 9u; goto L82;
-L79:;
+L62:;
+    f60(v31, v279, a1, a2, a3, v57, a6, a7);
+    goto L65;
+L63:;
+    f65(v31, v279, a1, a2, a3, v59, v61, a6, a7);
+    goto L65;
+L64:;
     UNREACHABLE;
+L65:;
+    memory_cpy(v32, v31, 96u);
+    goto L66;
+L66:;
+    v280 = load64(v32);
+    v281 = v32 + 8u * 1u;
+    v282 = load64(v281);
+    v283 = v32 + 16u * 1u;
+    v284 = load64(v283);
+    v285 = v32 + 24u * 1u;
+    memory_cpy(v33, v285, 68u);
+    v286 = (u64)((u64)v280 & (u64)255u);
+    v287 = v286 == 5u;
+    if (v287) { goto L67; }
+    else { v19 = v280; v20 = v282; v21 = v284; goto L68; }
+L67:;
+    v288 = a0 + 776u * 1u;
+    f71(v288, a6, v282);
+    store8(v14, 1u);
+    v289 = a0 + 842u * 1u;
+    store8(v289, 1u);
+    v290 = (u64)((u64)v280 & (u64)65285u);
+    v19 = v290; v20 = 0u; v21 = v282; goto L68;
+L68:;
+    memory_cpy(v49, v33, 68u);
+    v22 = v49; v23 = v19; v24 = v20; v25 = v21; goto L69;
+L69:;
+    v291 = (u8)(v23);
+    v292 = (u64)((u64)v23 >> (8u & 63u));
+    v293 = (u8)(v292);
+    memory_cpy(v50, v22, 68u);
+    v26 = v291; v27 = v293; v28 = v24; v29 = v25; goto L70;
+L70:;
+    store64(a8, v28);
+    v294 = a8 + 8u * 1u;
+    store64(v294, v29);
+    v295 = a8 + 16u * 1u;
+    memory_cpy(v295, v50, 68u);
+    v296 = a8 + 84u * 1u;
+    store32(v296, 0u);
+    switch (v26) {
+    case 0u: goto L71;
+    case 9u: goto L79;
+    case 1u: v30 = 1u; goto L83;
+    case 2u: goto L72;
+    case 3u: goto L73;
+    case 4u: goto L74;
+    case 5u: goto L75;
+    case 6u: goto L76;
+    case 7u: goto L77;
+    case 8u: goto L78;
+    default: goto L80;
+    }
+L71:;
+    v297 = (u32)v27;
+    v298 = (u32)((u32)v297 + (u32)16u);
+    v30 = v298; goto L83;
+L72:;
+    v30 = 2u; goto L83;
+L73:;
+    v30 = 3u; goto L83;
+L74:;
+    v30 = 4u; goto L83;
+L75:;
+    v30 = 5u; goto L83;
+L76:;
+    v30 = 6u; goto L83;
+L77:;
+    v30 = 7u; goto L83;
+L78:;
+    v30 = 8u; goto L83;
+L79:;
+    v30 = 9u; goto L83;
 L80:;
-    v298 = v47 + 1u * 1u;
-    v299 = load8(v298);
-    v300 = v47 + 2u * 1u;
-    v301 = load8(v300);
-    v302 = v299 == 0u;
-    v303 = v301 == 0u;
-    v304 = v303 ? 33u : 34u;
-    v305 = v302 ? v304 : 121u;
-    v30 = v305; goto L82;
+    UNREACHABLE;
 L81:;
-    v30 = 118u; goto L82;
+    v299 = v47 + 1u * 1u;
+    v300 = load8(v299);
+    v301 = v47 + 2u * 1u;
+    v302 = load8(v301);
+    v303 = v300 == 0u;
+    v304 = v302 == 0u;
+    v305 = v304 ? 33u : 34u;
+    v306 = v303 ? v305 : 121u;
+    v30 = v306; goto L83;
 L82:;
+    v30 = 118u; goto L83;
+L83:;
     return v30;
 }
 
-static void f82(address a0, address a1, address a2, u64 a3) {
+static void f90(address a0, address a1, address a2, u64 a3) {
     address v4, v7, v8, v9, v11, v13, v16, v18, v20, v22, v24, v29, v31, v33, v35, v37;
     address v39, v57, v58, v59, v60, v61, v62, v63, v64, v65, v66, v67;
     u8 v5, v6, v12, v14, v15, v19, v21, v23, v25, v26, v30, v32, v34, v36;
@@ -19109,7 +20790,7 @@ L1:;
     v12 = load8(v11);
     v13 = v4 + 25u * 1u;
     v14 = load8(v13);
-    v15 = f59(a1, v7);
+    v15 = f61(a1, v7);
     if (v15) { goto L5; }
     else { goto L4; }
 L2:;
@@ -19188,7 +20869,7 @@ L5:;
     goto L2;
 }
 
-static u64 f83(u8 a0, u8 a1) {
+static u64 f91(u8 a0, u8 a1) {
     u64 v2, v4, v5, v6, v12, v17, v18, v19, v20;
     address v3, v7, v8, v9, v10, v13, v15;
     u8 v11, v14, v16;
@@ -19240,7 +20921,7 @@ L13:;
     UNREACHABLE;
 L14:;
     v6 = (u64)a1;
-    v7 = ADDRESS(c360) + v6 * 8u;
+    v7 = ADDRESS(c361) + v6 * 8u;
     v8 = load_address(v7);
     v2 = 6u; v3 = v8; goto L15;
 L15:;
@@ -19290,7 +20971,7 @@ L22:;
     return v20;
 }
 
-static void f84(address a0, address a1, address a2, u64 a3, address a4) {
+static void f92(address a0, address a1, address a2, u64 a3, address a4) {
     u64 v5, v7, v10, v11, v13, v14, v16, v20, v21, v22, v79, v82, v88, v89, v90, v91;
     u64 v93, v95, v98, v99, v102, v302, v316, v317, v324, v325;
     address v6, v28, v29, v30, v31, v33, v35, v37, v39, v41, v44, v49, v52, v53, v80, v81;
@@ -19437,7 +21118,7 @@ L13:;
     else { goto L21; }
 L14:;
     memory_set(v28, 0u, 24u);
-    f27(v28, v29, v13);
+    f28(v28, v29, v13);
     v85 = load8(v28);
     v86 = v85 == 0u;
     if (v86) { goto L15; }
@@ -19455,7 +21136,7 @@ L15:;
     if (v94) { v14 = v91; goto L17; }
     else { goto L16; }
 L16:;
-    f30(a4, v91);
+    f31(a4, v91);
     v95 = load64(v92);
     v14 = v95; goto L17;
 L17:;
@@ -19498,7 +21179,7 @@ L24:;
     default: v23 = v34; v24 = 3u; v25 = 1u; v26 = v32; v27 = v36; goto L71;
     }
 L25:;
-    v107 = f85(127u, a2, a3);
+    v107 = f93(127u, a2, a3);
     v108 = v107.m0;
     v109 = (u8)((v108) & UINT64_C(1));
     if (v109) { goto L26; }
@@ -19508,7 +21189,7 @@ L26:;
     v111 = (u8)(v110);
     v18 = 0u; v19 = v111; v20 = 1u; goto L66;
 L27:;
-    v112 = f85(32767u, a2, a3);
+    v112 = f93(32767u, a2, a3);
     v113 = v112.m0;
     v114 = (u8)((v113) & UINT64_C(1));
     if (v114) { goto L28; }
@@ -19521,7 +21202,7 @@ L28:;
     v119 = (u8)(v118);
     v18 = v119; v19 = v117; v20 = 2u; goto L66;
 L29:;
-    v120 = f86(a2, a3);
+    v120 = f94(a2, a3);
     v121 = v120.m0;
     v122 = (u8)((v121) & UINT64_C(1));
     if (v122) { goto L30; }
@@ -19532,7 +21213,7 @@ L30:;
     v125 = v124 ? v42 : 0u;
     v18 = 0u; v19 = v125; v20 = 1u; goto L66;
 L31:;
-    v126 = f86(a2, a3);
+    v126 = f94(a2, a3);
     v127 = v126.m0;
     v128 = (u8)((v127) & UINT64_C(1));
     if (v128) { goto L32; }
@@ -19542,7 +21223,7 @@ L32:;
     v130 = (u8)((u32)v129 & (u32)1u);
     v18 = 0u; v19 = v130; v20 = 1u; goto L66;
 L33:;
-    v131 = f88(a2, a3);
+    v131 = f96(a2, a3);
     v132 = v131.m0;
     v133 = v132 == 1u;
     v134 = v131.m1;
@@ -19807,7 +21488,7 @@ L60:;
     if (v303) { v15 = 254u; goto L39; }
     else { v16 = v302; goto L59; }
 L61:;
-    v304 = f88(a2, a3);
+    v304 = f96(a2, a3);
     v17 = v304; goto L62;
 L62:;
     v305 = v17.m0;
@@ -19818,7 +21499,7 @@ L63:;
     v307 = v17.m1;
     v18 = 0u; v19 = v307; v20 = 1u; goto L66;
 L64:;
-    v308 = f88(a2, a3);
+    v308 = f96(a2, a3);
     v309 = v308.m0;
     v310 = v309 == 1u;
     if (v310) { goto L65; }
@@ -19871,7 +21552,7 @@ L71:;
     return;
 }
 
-static struct s4 f85(u16 a0, address a1, u64 a2) {
+static struct s4 f93(u16 a0, address a1, u64 a2) {
     u64 v3, v5, v6, v7, v8, v48, v50, v60, v62, v63, v65, v66, v71, v79, v81, v82;
     u64 v84, v85;
     u32 v4, v15, v20, v22, v23, v24, v28, v30, v31, v32, v33, v34, v38, v39, v40, v41;
@@ -20025,7 +21706,7 @@ L21:;
     return v93;
 }
 
-static struct s1 f86(address a0, u64 a1) {
+static struct s1 f94(address a0, u64 a1) {
     u64 v2, v3, v4, v34, v58, v60, v61, v63, v64;
     u8 v5, v6, v8, v9, v10, v11, v12, v13, v15, v16, v17, v18, v19, v20, v22, v23;
     u8 v24, v25, v26, v27, v28, v29, v30, v31, v32, v33, v35, v37, v39, v40, v41, v42;
@@ -20147,7 +21828,7 @@ L14:;
     return v70;
 }
 
-static void f87(address a0, u8 a1, u8 a2) {
+static void f95(address a0, u8 a1, u8 a2) {
     u64 v3, v5, v9, v12, v14, v18, v20, v21, v24, v26, v27, v30, v32;
     address v4, v10, v11, v13, v19, v22, v23, v25, v28, v29, v31, v33, v34;
     u8 v6, v7, v8, v15, v16, v17;
@@ -20242,7 +21923,7 @@ L18:;
     UNREACHABLE;
 }
 
-static struct s1 f88(address a0, u64 a1) {
+static struct s1 f96(address a0, u64 a1) {
     u8 v2, v3, v4, v7, v8, v9, v10, v11, v12, v13, v15, v16, v18, v20, v21, v22;
     u8 v23, v24, v25, v26, v27, v28, v29, v30, v31, v32, v33, v34, v35, v36, v37, v38;
     u8 v39, v40, v41, v42, v43, v44, v45, v47, v48, v49, v50, v51, v53, v56, v60, v61;
@@ -20370,7 +22051,7 @@ L20:;
     return v67;
 }
 
-static struct s5 f89(address a0) {
+static struct s5 f97(address a0) {
     u64 v1, v10;
     address v2, v4, v6, v9;
     u8 v3, v5, v7;
@@ -20437,7 +22118,7 @@ L1:;
     v5 = load8(v4);
     v6 = a0 + 1u * 1u;
     v7 = load8(v6);
-    v8 = f90(v7, v5);
+    v8 = f98(v7, v5);
     v9 = v8.m0;
     v10 = v8.m1;
     v1 = v10; v2 = v9; goto L53;
@@ -20553,7 +22234,7 @@ L54:;
     UNREACHABLE;
 }
 
-static struct s5 f90(u8 a0, u8 a1) {
+static struct s5 f98(u8 a0, u8 a1) {
     u64 v2, v4, v6, v7;
     address v3, v5, v8, v9;
     struct s5 v10, v11;
@@ -20676,7 +22357,7 @@ L35:;
     UNREACHABLE;
 }
 
-static u64 f91(u16 a0, address a1) {
+static u64 f99(u16 a0, address a1) {
     u64 v2, v4, v12, v22;
     address v3, v6, v8, v13, v16, v19;
     u8 v5, v7, v9, v10, v11, v14, v15, v17, v18, v20, v21, v23;
@@ -20787,7 +22468,7 @@ L27:;
     UNREACHABLE;
 }
 
-static void f92(u8 a0, u8 a1, address a2) {
+static void f100(u8 a0, u8 a1, address a2) {
     u64 v3, v4, v5, v6, v7, v14, v19, v21, v23, v27, v29, v30, v31, v36, v42, v44;
     u64 v46, v50, v52, v53, v56, v64, v66, v74;
     address v8, v11, v12, v13, v15, v18, v20, v26, v28, v33, v34, v38, v41, v43, v49, v51;
@@ -20797,7 +22478,7 @@ static void f92(u8 a0, u8 a1, address a2) {
     u64 block0[3];
     v8 = ADDRESS(block0);
     memory_set(v8, 0u, 24u);
-    f87(v8, a0, a1);
+    f95(v8, a0, a1);
     v9 = load8(v8);
     v10 = v9 == 1u;
     if (v10) { goto L1; }
@@ -20927,7 +22608,7 @@ L18:;
     return;
 }
 
-static struct s5 f93(u16 a0, address a1, u64 a2) {
+static struct s5 f101(u16 a0, address a1, u64 a2) {
     u8 v3, v4, v9, v11, v12, v17, v22, v25, v27, v30, v31, v32, v33, v36, v38, v40;
     u8 v45, v48, v49, v51, v52;
     u64 v5, v6, v8, v10, v13, v14, v15, v16, v19, v21, v24, v26, v28, v29, v35, v37;
@@ -21011,7 +22692,7 @@ L19:;
 L20:;
     v3 = 11u; v4 = 4u; goto L21;
 L21:;
-    v10 = f83(v3, v4);
+    v10 = f91(v3, v4);
     v11 = a2 == v10;
     if (v11) { goto L23; }
     else { v7 = ADDRESS(c148); v8 = 0u; goto L53; }
@@ -21085,7 +22766,7 @@ L41:;
 L42:;
     v5 = 6u; v6 = 8u; goto L49;
 L43:;
-    v20 = f94(a1, a2);
+    v20 = f102(a1, a2);
     v21 = v20.m1;
     v22 = v21 == 0u;
     if (v22) { v7 = ADDRESS(c148); v8 = 0u; goto L53; }
@@ -21147,7 +22828,7 @@ L51:;
     v7 = v56; v8 = v58; goto L53;
 L52:;
     v59 = (u64)v4;
-    v60 = ADDRESS(c360) + v59 * 8u;
+    v60 = ADDRESS(c361) + v59 * 8u;
     v61 = load_address(v60);
     v7 = v61; v8 = 1u; goto L53;
 L53:;
@@ -21158,7 +22839,7 @@ L53:;
     return v63;
 }
 
-static struct s5 f94(address a0, u64 a1) {
+static struct s5 f102(address a0, u64 a1) {
     u64 v2, v3, v5, v7, v11, v13, v16, v20, v21, v23, v24, v26, v29, v31, v34, v36;
     u64 v40, v41, v43, v44, v47, v50, v52, v58, v60, v63, v66, v68, v71, v73;
     address v4, v6, v9, v10, v15, v18, v25, v28, v30, v33, v35, v38, v45, v46, v49, v51;
@@ -21266,7 +22947,7 @@ L10:;
     return v75;
 }
 
-static void f95(address a0, u8 a1, u8 a2, address a3, u64 a4) {
+static void f103(address a0, u8 a1, u8 a2, address a3, u64 a4) {
     u64 v5, v7, v8, v10, v11, v13, v14, v16, v17, v18, v20, v22, v24, v25, v26, v28;
     u64 v30, v33, v35, v36, v40, v42, v43, v44, v45, v49, v50, v52, v53, v54, v55, v56;
     u64 v58, v59, v60, v62, v63, v64, v75, v76, v78, v79, v80, v81, v82, v85, v87, v88;
@@ -21754,10 +23435,10 @@ L49:;
     v339.m1 = v22;
     v31 = v339; goto L60;
 L50:;
-    v340 = f94(a3, a4);
+    v340 = f102(a3, a4);
     v31 = v340; goto L60;
 L51:;
-    v341 = f94(a3, a4);
+    v341 = f102(a3, a4);
     v342 = v341.m0;
     v343 = v341.m1;
     v344 = v343 == 0u;
@@ -21897,7 +23578,7 @@ L66:;
     UNREACHABLE;
 }
 
-static void f96(u64 a0, address a1) {
+static void f104(u64 a0, address a1) {
     u64 v2, v3, v4, v5, v6, v7, v8, v11, v12, v13, v14, v20, v28, v30, v42, v44;
     u64 v45, v57, v68, v70, v72, v80, v85, v87, v89, v93;
     address v9, v21, v23, v25, v26, v27, v31, v33, v35, v36, v43, v46, v48, v50, v51, v58;
@@ -22044,7 +23725,7 @@ L13:;
     return;
 }
 
-static struct s5 f97(address a0, u64 a1) {
+static struct s5 f105(address a0, u64 a1) {
     u64 v2, v3, v4, v5, v6, v7, v8, v10, v11, v12, v13, v19, v27, v29, v41, v43;
     u64 v44, v56, v67, v69, v71, v79, v82;
     u8 v9, v21, v23, v31, v33, v36, v37, v38, v39, v40, v46, v48, v58, v60, v64, v65;
@@ -22176,7 +23857,7 @@ L11:;
     return v84;
 }
 
-static struct s4 f98(address a0, u64 a1) {
+static struct s4 f106(address a0, u64 a1) {
     u64 v2, v4, v5, v8, v12, v27;
     address v3, v9, v14, v16;
     u8 v6, v11, v13, v15, v17, v18, v19, v20, v21, v22, v23, v24, v25, v26, v28;
@@ -22289,7 +23970,7 @@ L26:;
     return v30;
 }
 
-static struct s4 f99(address a0, u64 a1) {
+static struct s4 f107(address a0, u64 a1) {
     u8 v2, v3, v4, v5, v7, v8, v9, v11, v12, v13, v14, v15, v16, v17, v18, v19;
     u8 v20, v21, v22, v23, v24, v25, v26, v27, v29, v31, v32, v33, v34, v35, v36, v37;
     u8 v38, v39, v40, v41, v42, v43, v44, v45, v46, v47;
@@ -22412,7 +24093,7 @@ L22:;
     return v53;
 }
 
-static void f100(address a0, address a1, u64 a2) {
+static void f108(address a0, address a1, u64 a2) {
     u8 v3, v6, v7, v8, v11, v12, v13, v18, v20, v21, v23, v24, v26, v29, v31, v32;
     u8 v33, v34, v35, v36, v37, v38, v39, v40, v41, v42, v43, v44, v45, v46, v47, v50;
     u8 v60, v62, v63, v64, v65, v66, v67, v68, v69, v70, v71, v72, v73, v74, v75, v76;
@@ -22602,7 +24283,7 @@ L34:;
     v3 = v13; v4 = v14; goto L5;
 }
 
-static u32 f101(address a0, u64 a1, address a2, u64 a3) {
+static u32 f109(address a0, u64 a1, address a2, u64 a3) {
     u32 v4, v6, v7, v9, v13, v14, v15, v17, v18, v19, v20, v22, v23, v24, v25, v27;
     u32 v28, v29, v30, v32, v33, v34, v35, v37, v38, v39, v40, v42, v43, v44, v45, v47;
     u32 v48, v49, v50, v52, v53, v54, v60, v61, v62, v64, v65, v66, v67, v69, v70, v71;
@@ -22722,7 +24403,7 @@ L4:;
     return v104;
 }
 
-static void f102(address a0, address a1, u64 a2) {
+static void f110(address a0, address a1, u64 a2) {
     u32 v3, v31, v32, v33, v34, v35, v36, v37, v38, v39, v40, v41, v73, v74, v75, v77;
     u32 v78, v79, v80, v82, v83, v84, v85, v87, v88, v89, v90, v92, v93, v94, v95, v97;
     u32 v98, v99, v100, v102, v103, v104, v105, v107, v108, v109, v110, v112, v113, v114, v117, v118;
@@ -22756,7 +24437,7 @@ L1:;
     if (v19) { goto L4; }
     else { goto L2; }
 L2:;
-    v20 = f42(a1, 4u, ADDRESS(c326), 4u);
+    v20 = f43(a1, 4u, ADDRESS(c326), 4u);
     if (v20) { goto L5; }
     else { goto L4; }
 L3:;
@@ -22813,7 +24494,7 @@ L6:;
     if (v60) { goto L11; }
     else { goto L7; }
 L7:;
-    v61 = f42(v46, 4u, ADDRESS(c325), 4u);
+    v61 = f43(v46, 4u, ADDRESS(c325), 4u);
     if (v61) { goto L8; }
     else { goto L11; }
 L8:;
@@ -22949,7 +24630,7 @@ L12:;
     goto L3;
 }
 
-static void f103(address a0, address a1, address a2, address a3, u64 a4, address a5, u64 a6, address a7, u64 a8) {
+static void f111(address a0, address a1, address a2, address a3, u64 a4, address a5, u64 a6, address a7, u64 a8) {
     u8 v9, v10, v12, v13, v18, v19, v20, v21, v24, v25, v26, v27, v35, v38, v41, v54;
     u8 v57, v65, v66, v67, v68, v70, v71, v73, v76, v79, v81, v92, v94, v118, v131, v133;
     u8 v135, v142, v147, v148, v152, v155, v157, v159, v180, v181, v183, v184, v198, v205, v207, v209;
@@ -23056,7 +24737,7 @@ L9:;
     store64(v75, v14);
     return;
 L10:;
-    v76 = f104(a1, v53);
+    v76 = f112(a1, v53);
     if (v76) { goto L11; }
     else { v12 = 1u; v13 = 1u; v14 = 0u; goto L9; }
 L11:;
@@ -23363,7 +25044,7 @@ L35:;
     v237 = (u64)((u64)v45 - (u64)v221);
     v238 = swap32(v224);
     store32(v46, v238);
-    v239 = f101(v46, 4u, v231, v237);
+    v239 = f109(v46, 4u, v231, v237);
     v240 = (u64)((u64)v45 + (u64)UINT64_C(18446744073709543398));
     v241 = v240 < 4u;
     if (v241) { goto L37; }
@@ -23384,7 +25065,7 @@ L37:;
     if (v247) { v12 = 1u; v13 = 2u; v14 = 0u; goto L9; }
     else { goto L38; }
 L38:;
-    v248 = f105(a1, v53);
+    v248 = f113(a1, v53);
     v249 = v248 == 0u;
     if (v249) { goto L39; }
     else { v12 = 1u; v13 = 3u; v14 = 0u; goto L9; }
@@ -23394,7 +25075,7 @@ L39:;
     v12 = 0u; v13 = 0u; v14 = v246; goto L9;
 }
 
-static u8 f104(address a0, address a1) {
+static u8 f112(address a0, address a1) {
     u64 v2, v3, v15, v18, v22, v25, v35, v36, v43, v50, v52, v55, v71, v76, v79, v87;
     u64 v90, v98, v104, v106, v114, v117;
     u8 v4, v5, v6, v8, v11, v12, v13, v19, v20, v26, v28, v29, v37, v38, v40, v41;
@@ -23657,7 +25338,7 @@ L40:;
     UNREACHABLE;
 }
 
-static u8 f105(address a0, address a1) {
+static u8 f113(address a0, address a1) {
     u16 v2, v3, v4, v19, v21, v23;
     u8 v5, v9, v10, v11, v15, v17, v33, v34, v36, v37, v38, v44, v45, v61, v62, v65;
     u8 v76, v78, v79, v81, v82, v83, v89, v90, v95, v97, v98, v99, v100, v101, v103, v104;
@@ -23732,7 +25413,7 @@ L5:;
     if (v44) { goto L6; }
     else { v6 = v43; goto L8; }
 L6:;
-    v45 = f106(v39);
+    v45 = f114(v39);
     if (v45) { goto L7; }
     else { v10 = 1u; goto L32; }
 L7:;
@@ -23764,7 +25445,7 @@ L8:;
     if (v61) { goto L9; }
     else { v7 = v60; goto L13; }
 L9:;
-    v62 = f107(v56);
+    v62 = f115(v56);
     if (v62) { goto L10; }
     else { goto L11; }
 L10:;
@@ -23893,7 +25574,7 @@ L33:;
     UNREACHABLE;
 }
 
-static u8 f106(address a0) {
+static u8 f114(address a0) {
     u8 v1, v5, v10, v14, v15, v21, v26;
     struct pair v2, v19, v23, v24;
     address v3, v6, v16, v28;
@@ -23946,7 +25627,7 @@ L6:;
     v1 = 1u; goto L1;
 }
 
-static u8 f107(address a0) {
+static u8 f115(address a0) {
     u8 v1, v5, v10, v14, v15, v19, v23;
     struct pair v2, v17, v20, v21;
     address v3, v6, v16, v25;
@@ -23996,7 +25677,7 @@ L6:;
     v1 = 1u; goto L1;
 }
 
-static void f108(address a0, address a1, address a2, u64 a3) {
+static void f116(address a0, address a1, address a2, u64 a3) {
     u8 v4, v7, v16, v17, v18, v23, v36, v37, v38, v39, v40, v42, v43, v44, v46, v47;
     u8 v48, v50, v51, v52, v53, v54, v55, v56, v61, v63, v65, v66, v67, v68, v70, v76;
     u8 v77, v81, v84, v88, v93, v100, v108, v110, v112, v113, v114, v115, v117, v123, v124, v125;
@@ -24060,7 +25741,7 @@ L2:;
     if (v52) { v4 = v39; goto L6; }
     else { goto L3; }
 L3:;
-    v53 = f42(a2, 4u, ADDRESS(c327), 4u);
+    v53 = f43(a2, 4u, ADDRESS(c327), 4u);
     if (v53) { v5 = 4u; goto L8; }
     else { goto L7; }
 L4:;
@@ -24138,7 +25819,7 @@ L14:;
     v97 = swap32(v96);
     v98 = swap32(v60);
     store32(v33, v98);
-    v99 = f101(v33, 4u, v57, v78);
+    v99 = f109(v33, 4u, v57, v78);
     v100 = v97 == v99;
     if (v100) { goto L33; }
     else { v17 = 0u; v18 = 0u; v19 = 0u; v20 = 0u; v21 = 0u; v22 = 0u; v23 = 1u; v24 = 0u; v25 = 0u; v26 = 0u; goto L63; }
@@ -24364,7 +26045,7 @@ L53:;
     if (v190) { goto L57; }
     else { goto L54; }
 L54:;
-    f109(v28, v143);
+    f117(v28, v143);
     v191 = load8(v28);
     v192 = v191 == 1u;
     if (v192) { goto L55; }
@@ -24383,7 +26064,7 @@ L55:;
     v199 = v31 + 8u * 1u;
     v200 = v30 + 6u * 1u;
     memory_cpy(v199, v200, 24u);
-    v201 = f104(a1, v31);
+    v201 = f112(a1, v31);
     if (v201) { goto L60; }
     else { v16 = 1u; goto L62; }
 L56:;
@@ -24410,7 +26091,7 @@ L60:;
     store8(v210, v194);
     v211 = v32 + 8u * 1u;
     memory_cpy(v211, v200, 24u);
-    v212 = f105(a1, v32);
+    v212 = f113(a1, v32);
     v213 = v212 == 0u;
     if (v213) { goto L61; }
     else { v16 = 2u; goto L62; }
@@ -24418,7 +26099,7 @@ L61:;
     v214 = load32(v59);
     v215 = swap32(v214);
     store32(v27, v215);
-    v216 = f101(v27, 4u, v57, v78);
+    v216 = f109(v27, 4u, v57, v78);
     store32(v59, v216);
     memory_cpy(v35, v30, 30u);
     memory_cpy(v34, v35, 30u);
@@ -24457,7 +26138,7 @@ L63:;
     goto L15;
 }
 
-static void f109(address a0, address a1) {
+static void f117(address a0, address a1) {
     u64 v2, v8, v11, v39, v40, v41, v42, v43, v44, v45, v46, v47, v48, v49, v50, v51;
     u64 v52, v53, v54, v55, v56, v57, v58, v59, v60, v61, v66, v67, v68, v73, v74, v75;
     u64 v77, v79, v81, v82, v83, v84, v85, v86, v87, v88, v89, v91, v109, v110, v111, v112;
@@ -25027,7 +26708,7 @@ L17:;
     goto L2;
 }
 
-static u8 f110(address a0, u64 a1, address a2) {
+static u8 f118(address a0, u64 a1, address a2) {
     address v3, v7, v8, v10, v14, v21, v24, v27, v30, v33, v36, v39, v42, v45, v48, v51;
     address v54, v57, v60, v63, v66, v69, v72, v75, v78, v81, v84, v87, v90, v93, v96, v99;
     address v102, v105, v108, v111, v114;
@@ -25266,7 +26947,7 @@ L38:;
     return v5;
 }
 
-static void f111(address a0, address a1, u64 a2) {
+static void f119(address a0, address a1, u64 a2) {
     u64 v3, v4, v5, v11, v12, v13, v32, v40, v42, v50, v62, v63, v79, v89, v98, v99;
     u16 v6, v7, v8, v9, v14, v15, v16, v17, v37, v38, v39, v47, v48, v49, v51, v56;
     u16 v57, v58, v59, v60, v68, v69, v70, v71, v84, v85, v86, v87, v94, v95, v96, v97;
@@ -25425,7 +27106,7 @@ L7:;
     return;
 }
 
-static u8 f112(u64 a0, address a1, u64 a2, address a3, u64 a4, u64 a5) {
+static u8 f120(u64 a0, address a1, u64 a2, address a3, u64 a4, u64 a5) {
     u64 v6, v8, v12, v13, v16, v17, v18, v19, v20, v21, v22, v24, v25, v26, v27, v28;
     u64 v31, v32, v35, v36, v37, v40, v41, v42, v43, v44, v45, v46, v47, v48, v49, v50;
     u64 v51, v52, v54, v55, v56, v58, v59, v61, v69, v72, v84, v86, v88, v90, v91, v92;
@@ -25571,7 +27252,7 @@ L13:;
     v7 = 1u; goto L10;
 }
 
-static void f113(address a0, u32 a1, address a2, u64 a3) {
+static void f121(address a0, u32 a1, address a2, u64 a3) {
     u64 v4, v5, v6, v7, v8, v9, v10, v12, v14, v15, v27, v44, v45, v46, v47, v48;
     u64 v49, v50, v51, v52, v53, v54, v55, v56, v57, v58, v59, v60, v61, v62, v63, v64;
     u64 v65, v66, v67, v68, v69, v70, v71, v72, v74, v75, v76, v94, v95, v96, v97, v98;
@@ -25865,7 +27546,7 @@ L7:;
     else { v6 = v5; goto L9; }
 L8:;
     v251 = (u64)((u64)v5 + (u64)32u);
-    v252 = f114(v16, v251, a3);
+    v252 = f122(v16, v251, a3);
     v253 = (u64)((u64)a3 - (u64)v252);
     v254 = v253 > 31u;
     if (v254) { v5 = v252; goto L7; }
@@ -26002,7 +27683,7 @@ L19:;
     v358 = (u64)((u64)v10 + (u64)1u);
     v359 = a2 + v358 * 1u;
     v360 = (u64)((u64)a3 - (u64)v358);
-    f100(v17, a2, v10);
+    f108(v17, a2, v10);
     v361 = load8(v17);
     v362 = v361 == 1u;
     if (v362) { goto L21; }
@@ -26057,7 +27738,7 @@ L27:;
     v11 = 1u; v12 = v366; v13 = v385; goto L20;
 }
 
-static u64 f114(address a0, u64 a1, u64 a2) {
+static u64 f122(address a0, u64 a1, u64 a2) {
     u64 v3, v4, v5, v10, v11, v28, v29, v30, v31, v32, v33, v34, v35, v36, v37, v38;
     u64 v39, v40, v41, v42, v43, v44, v45, v46, v47, v48, v49, v50, v51, v52, v53, v70;
     u64 v71, v72, v73, v74, v75, v76, v77, v78, v79, v80, v81, v82, v83, v84, v85, v86;
@@ -26451,7 +28132,7 @@ L4:;
     return v4;
 }
 
-static void f115(address a0, u16 a1, address a2, u64 a3) {
+static void f123(address a0, u16 a1, address a2, u64 a3) {
     u64 v4, v5, v8, v10, v11, v12, v15, v16, v21, v22, v25, v26, v27, v28, v31, v32;
     u64 v33, v36, v37, v40, v41, v46, v47, v50, v51, v52, v55, v56, v59, v60, v63, v64;
     u64 v67, v68, v71, v73, v74, v77, v79, v80, v84, v85, v113, v129, v131, v132, v134, v135;
@@ -26544,7 +28225,7 @@ static void f115(address a0, u16 a1, address a2, u64 a3) {
     v110 = v98 + 8u * 1u;
     store64(v110, 0u);
     store_address(v98, v100);
-    v111 = f93(a1, a2, a3);
+    v111 = f101(a1, a2, a3);
     v112 = v111.m0;
     v113 = v111.m1;
     v114 = v113 == 0u;
@@ -26568,7 +28249,7 @@ L2:;
     v127 = v100 + 16u * 1u;
     store_address(v100, v92);
     memory_set(v103, 0u, 16u);
-    v128 = f119(v100, 6u);
+    v128 = f127(v100, 6u);
     if (v128) { goto L3; }
     else { goto L7; }
 L3:;
@@ -26607,7 +28288,7 @@ L7:;
     v142 = (u8)(((u32)v128 ^ (u32)1u) & UINT64_C(1));
     v143 = (u8)v142;
     store8(v110, v143);
-    f116(a2, a3, v98);
+    f124(a2, a3, v98);
     v144 = load8(v110);
     v145 = v144 == 0u;
     if (v145) { goto L9; }
@@ -26631,7 +28312,7 @@ L10:;
     if (v154) { goto L11; }
     else { v4 = v151; v5 = v153; goto L13; }
 L11:;
-    v155 = f119(v146, 1u);
+    v155 = f127(v146, 1u);
     if (v155) { goto L12; }
     else { v6 = 1u; goto L14; }
 L12:;
@@ -26651,7 +28332,7 @@ L14:;
     v161 = (u8)v6;
     v89 = v161; goto L225;
 L15:;
-    v162 = f120(v146, ADDRESS(c314), 1u);
+    v162 = f128(v146, ADDRESS(c314), 1u);
     v89 = v162; goto L225;
 L16:;
     v163 = (u64)((u64)v8 * (u64)6u);
@@ -26681,7 +28362,7 @@ L17:;
     if (v183) { v9 = 0u; goto L19; }
     else { goto L18; }
 L18:;
-    v184 = f120(v180, ADDRESS(c148), 0u);
+    v184 = f128(v180, ADDRESS(c148), 0u);
     v9 = v184; goto L19;
 L19:;
     store8(v110, v9);
@@ -26689,7 +28370,7 @@ L19:;
     store8(v97, v165);
     store8(v115, v167);
     store8(v116, v169);
-    v186 = f89(v97);
+    v186 = f97(v97);
     v187 = v186.m0;
     v188 = v186.m1;
     if (v185) { goto L20; }
@@ -26709,7 +28390,7 @@ L21:;
     if (v196) { goto L22; }
     else { v10 = v192; v11 = v194; goto L24; }
 L22:;
-    v197 = f119(v180, v188);
+    v197 = f127(v180, v188);
     if (v197) { goto L23; }
     else { v13 = 1u; goto L28; }
 L23:;
@@ -26748,7 +28429,7 @@ L28:;
     v212 = (u8)v13;
     v14 = v212; goto L30;
 L29:;
-    v213 = f120(v180, v187, v188);
+    v213 = f128(v180, v187, v188);
     v14 = v213; goto L30;
 L30:;
     store8(v110, v14);
@@ -26769,7 +28450,7 @@ L32:;
     if (v221) { goto L33; }
     else { v15 = v218; v16 = v220; goto L35; }
 L33:;
-    v222 = f119(v180, 1u);
+    v222 = f127(v180, 1u);
     if (v222) { goto L34; }
     else { v17 = 1u; goto L36; }
 L34:;
@@ -26789,7 +28470,7 @@ L36:;
     v228 = (u8)v17;
     v18 = v228; goto L38;
 L37:;
-    v229 = f120(v180, ADDRESS(c316), 1u);
+    v229 = f128(v180, ADDRESS(c316), 1u);
     v18 = v229; goto L38;
 L38:;
     store8(v110, v18);
@@ -26826,7 +28507,7 @@ L43:;
     if (v242) { goto L44; }
     else { v21 = v238; v22 = v240; goto L46; }
 L44:;
-    v243 = f119(v233, 2u);
+    v243 = f127(v233, 2u);
     if (v243) { goto L45; }
     else { v23 = 1u; goto L50; }
 L45:;
@@ -26859,7 +28540,7 @@ L50:;
     v253 = (u8)v23;
     v24 = v253; goto L52;
 L51:;
-    v254 = f120(v233, ADDRESS(c294), 2u);
+    v254 = f128(v233, ADDRESS(c294), 2u);
     v24 = v254; goto L52;
 L52:;
     store8(v110, v24);
@@ -26871,13 +28552,13 @@ L53:;
 L54:;
     v256 = v177 + v25 * 1u;
     v257 = load8(v256);
-    f117(v257, v98);
+    f125(v257, v98);
     v258 = (u64)((u64)v25 + (u64)1u);
     v259 = v258 == v232;
     if (v259) { goto L214; }
     else { v25 = v258; goto L54; }
 L55:;
-    f95(v96, v173, v175, v177, v178);
+    f103(v96, v173, v175, v177, v178);
     v260 = load8(v96);
     v261 = load8(v117);
     v262 = load8(v118);
@@ -26905,11 +28586,11 @@ L55:;
     default: goto L213;
     }
 L56:;
-    f121(v270, v98);
+    f129(v270, v98);
     goto L214;
 L57:;
     memory_set(v95, 0u, 40u);
-    v272 = f97(v95, v270);
+    v272 = f105(v95, v270);
     v273 = v272.m0;
     v274 = v272.m1;
     v275 = v19 == 0u;
@@ -26932,7 +28613,7 @@ L59:;
     if (v285) { goto L60; }
     else { v26 = v281; v27 = v283; goto L62; }
 L60:;
-    v286 = f119(v276, v274);
+    v286 = f127(v276, v274);
     if (v286) { goto L61; }
     else { v29 = 1u; goto L66; }
 L61:;
@@ -26971,7 +28652,7 @@ L66:;
     v301 = (u8)v29;
     v30 = v301; goto L68;
 L67:;
-    v302 = f120(v276, v273, v274);
+    v302 = f128(v276, v273, v274);
     v30 = v302; goto L68;
 L68:;
     store8(v110, v30);
@@ -27004,7 +28685,7 @@ L73:;
     if (v316) { goto L74; }
     else { v31 = v312; v32 = v314; goto L76; }
 L74:;
-    v317 = f119(v307, v304);
+    v317 = f127(v307, v304);
     if (v317) { goto L75; }
     else { v34 = 1u; goto L80; }
 L75:;
@@ -27042,7 +28723,7 @@ L80:;
     v332 = (u8)v34;
     v35 = v332; goto L82;
 L81:;
-    v333 = f120(v307, v305, v304);
+    v333 = f128(v307, v305, v304);
     v35 = v333; goto L82;
 L82:;
     store8(v110, v35);
@@ -27070,7 +28751,7 @@ L85:;
     if (v346) { goto L86; }
     else { v36 = v343; v37 = v345; goto L88; }
 L86:;
-    v347 = f119(v338, 1u);
+    v347 = f127(v338, 1u);
     if (v347) { goto L87; }
     else { v38 = 1u; goto L89; }
 L87:;
@@ -27090,14 +28771,14 @@ L89:;
     v353 = (u8)v38;
     v39 = v353; goto L91;
 L90:;
-    v354 = f120(v338, ADDRESS(c315), 1u);
+    v354 = f128(v338, ADDRESS(c315), 1u);
     v39 = v354; goto L91;
 L91:;
     store8(v110, v39);
     goto L92;
 L92:;
     v355 = (u64)((u64)v334 >> (16u & 63u));
-    f121(v355, v98);
+    f129(v355, v98);
     v356 = load8(v110);
     v357 = v356 == 0u;
     if (v357) { goto L93; }
@@ -27118,7 +28799,7 @@ L94:;
     if (v366) { goto L95; }
     else { v40 = v363; v41 = v365; goto L97; }
 L95:;
-    v367 = f119(v358, 1u);
+    v367 = f127(v358, 1u);
     if (v367) { goto L96; }
     else { v42 = 1u; goto L98; }
 L96:;
@@ -27138,7 +28819,7 @@ L98:;
     v373 = (u8)v42;
     v43 = v373; goto L100;
 L99:;
-    v374 = f120(v358, ADDRESS(c318), 1u);
+    v374 = f128(v358, ADDRESS(c318), 1u);
     v43 = v374; goto L100;
 L100:;
     store8(v110, v43);
@@ -27151,7 +28832,7 @@ L102:;
     v377 = (u32)((u32)v44 * (u32)10u);
     v378 = (u32)((u32)v377 >> (16u & 31u));
     v379 = (u64)v378;
-    f121(v379, v98);
+    f129(v379, v98);
     v380 = (u32)((u32)v377 & (u32)65534u);
     v381 = v380 == 0u;
     v382 = (u8)((u32)v45 + (u32)255u);
@@ -27161,27 +28842,27 @@ L102:;
     else { v44 = v380; v45 = v382; goto L102; }
 L103:;
     v385 = (u8)(v270);
-    f117(v261, v98);
-    f117(v262, v98);
-    f117(v263, v98);
-    f117(v265, v98);
-    f117(v267, v98);
-    f117(v268, v98);
-    f117(v269, v98);
-    f117(v385, v98);
+    f125(v261, v98);
+    f125(v262, v98);
+    f125(v263, v98);
+    f125(v265, v98);
+    f125(v267, v98);
+    f125(v268, v98);
+    f125(v269, v98);
+    f125(v385, v98);
     goto L214;
 L104:;
-    f117(v262, v98);
-    f117(v263, v98);
-    f117(v265, v98);
-    f117(v267, v98);
-    f117(v268, v98);
-    f117(v269, v98);
+    f125(v262, v98);
+    f125(v263, v98);
+    f125(v265, v98);
+    f125(v267, v98);
+    f125(v268, v98);
+    f125(v269, v98);
     v386 = (u8)(v270);
-    f117(v386, v98);
+    f125(v386, v98);
     v387 = (u64)((u64)v270 >> (8u & 63u));
     v388 = (u8)(v387);
-    f117(v388, v98);
+    f125(v388, v98);
     v389 = load8(v110);
     v390 = v389 == 0u;
     if (v390) { goto L105; }
@@ -27202,7 +28883,7 @@ L106:;
     if (v399) { goto L107; }
     else { v46 = v396; v47 = v398; goto L109; }
 L107:;
-    v400 = f119(v391, 1u);
+    v400 = f127(v391, 1u);
     if (v400) { goto L108; }
     else { v48 = 1u; goto L110; }
 L108:;
@@ -27222,7 +28903,7 @@ L110:;
     v406 = (u8)v48;
     v49 = v406; goto L112;
 L111:;
-    v407 = f120(v391, ADDRESS(c319), 1u);
+    v407 = f128(v391, ADDRESS(c319), 1u);
     v49 = v407; goto L112;
 L112:;
     store8(v110, v49);
@@ -27230,11 +28911,11 @@ L112:;
 L113:;
     v408 = (u64)((u64)v270 >> (16u & 63u));
     v409 = (u64)((u64)v408 & (u64)65535u);
-    f121(v409, v98);
+    f129(v409, v98);
     goto L214;
 L114:;
     memory_set(v94, 0u, 24u);
-    f87(v94, v261, v262);
+    f95(v94, v261, v262);
     v410 = load8(v94);
     v411 = v410 == 1u;
     if (v411) { goto L115; }
@@ -27262,7 +28943,7 @@ L117:;
     if (v424) { goto L118; }
     else { v50 = v420; v51 = v422; goto L120; }
 L118:;
-    v425 = f119(v415, v413);
+    v425 = f127(v415, v413);
     if (v425) { goto L119; }
     else { v53 = 1u; goto L124; }
 L119:;
@@ -27301,7 +28982,7 @@ L124:;
     v440 = (u8)v53;
     v54 = v440; goto L126;
 L125:;
-    v441 = f120(v415, v412, v413);
+    v441 = f128(v415, v412, v413);
     v54 = v441; goto L126;
 L126:;
     store8(v110, v54);
@@ -27327,7 +29008,7 @@ L129:;
     if (v452) { goto L130; }
     else { v55 = v448; v56 = v450; goto L132; }
 L130:;
-    v453 = f119(v443, 2u);
+    v453 = f127(v443, 2u);
     if (v453) { goto L131; }
     else { v57 = 1u; goto L136; }
 L131:;
@@ -27360,13 +29041,13 @@ L136:;
     v463 = (u8)v57;
     v58 = v463; goto L138;
 L137:;
-    v464 = f120(v443, ADDRESS(c294), 2u);
+    v464 = f128(v443, ADDRESS(c294), 2u);
     v58 = v464; goto L138;
 L138:;
     store8(v110, v58);
     goto L139;
 L139:;
-    f117(v262, v98);
+    f125(v262, v98);
     goto L140;
 L140:;
     goto L214;
@@ -27391,7 +29072,7 @@ L143:;
     if (v475) { goto L144; }
     else { v59 = v471; v60 = v473; goto L146; }
 L144:;
-    v476 = f119(v466, 6u);
+    v476 = f127(v466, 6u);
     if (v476) { goto L145; }
     else { v61 = 1u; goto L150; }
 L145:;
@@ -27432,14 +29113,14 @@ L150:;
     v490 = (u8)v61;
     v62 = v490; goto L152;
 L151:;
-    v491 = f120(v466, ADDRESS(c320), 6u);
+    v491 = f128(v466, ADDRESS(c320), 6u);
     v62 = v491; goto L152;
 L152:;
     store8(v110, v62);
     goto L153;
 L153:;
     v492 = (u64)v262;
-    f121(v492, v98);
+    f129(v492, v98);
     v493 = load8(v110);
     v494 = v493 == 0u;
     if (v494) { goto L154; }
@@ -27461,7 +29142,7 @@ L155:;
     if (v504) { goto L156; }
     else { v63 = v500; v64 = v502; goto L158; }
 L156:;
-    v505 = f119(v495, 12u);
+    v505 = f127(v495, 12u);
     if (v505) { goto L157; }
     else { v65 = 1u; goto L162; }
 L157:;
@@ -27514,13 +29195,13 @@ L162:;
     v525 = (u8)v65;
     v66 = v525; goto L164;
 L163:;
-    v526 = f120(v495, ADDRESS(c321), 12u);
+    v526 = f128(v495, ADDRESS(c321), 12u);
     v66 = v526; goto L164;
 L164:;
     store8(v110, v66);
     goto L165;
 L165:;
-    f117(v263, v98);
+    f125(v263, v98);
     v527 = load8(v110);
     v528 = v527 == 0u;
     if (v528) { goto L166; }
@@ -27542,7 +29223,7 @@ L167:;
     if (v538) { goto L168; }
     else { v67 = v534; v68 = v536; goto L170; }
 L168:;
-    v539 = f119(v529, 12u);
+    v539 = f127(v529, 12u);
     if (v539) { goto L169; }
     else { v69 = 1u; goto L174; }
 L169:;
@@ -27595,14 +29276,14 @@ L174:;
     v559 = (u8)v69;
     v70 = v559; goto L176;
 L175:;
-    v560 = f120(v529, ADDRESS(c322), 12u);
+    v560 = f128(v529, ADDRESS(c322), 12u);
     v70 = v560; goto L176;
 L176:;
     store8(v110, v70);
     goto L177;
 L177:;
-    f117(v267, v98);
-    f117(v265, v98);
+    f125(v267, v98);
+    f125(v265, v98);
     goto L214;
 L178:;
     v561 = (address)v270;
@@ -27633,10 +29314,10 @@ L181:;
     if (v574) { goto L182; }
     else { goto L183; }
 L182:;
-    v575 = f118(v571, v93, 1u);
+    v575 = f126(v571, v93, 1u);
     v72 = v575; goto L184;
 L183:;
-    v576 = f120(v571, v93, 1u);
+    v576 = f128(v571, v93, 1u);
     v72 = v576; goto L184;
 L184:;
     store8(v110, v72);
@@ -27661,7 +29342,7 @@ L187:;
     if (v586) { goto L188; }
     else { v73 = v582; v74 = v584; goto L190; }
 L188:;
-    v587 = f119(v577, 2u);
+    v587 = f127(v577, 2u);
     if (v587) { goto L189; }
     else { v75 = 1u; goto L194; }
 L189:;
@@ -27694,13 +29375,13 @@ L194:;
     v597 = (u8)v75;
     v76 = v597; goto L196;
 L195:;
-    v598 = f120(v577, ADDRESS(c323), 2u);
+    v598 = f128(v577, ADDRESS(c323), 2u);
     v76 = v598; goto L196;
 L196:;
     store8(v110, v76);
     goto L197;
 L197:;
-    f117(v564, v98);
+    f125(v564, v98);
     goto L198;
 L198:;
     v599 = (u64)((u64)v71 + (u64)1u);
@@ -27709,7 +29390,7 @@ L198:;
     else { v71 = v599; goto L179; }
 L199:;
     v601 = (address)v270;
-    f116(v601, v271, v98);
+    f124(v601, v271, v98);
     goto L214;
 L200:;
     v602 = v271 < 8u;
@@ -27720,28 +29401,28 @@ L201:;
     v77 = v271; v78 = v603; goto L202;
 L202:;
     v604 = load8(v78);
-    f117(v604, v98);
+    f125(v604, v98);
     v605 = v78 + 1u * 1u;
     v606 = load8(v605);
-    f117(v606, v98);
+    f125(v606, v98);
     v607 = v78 + 2u * 1u;
     v608 = load8(v607);
-    f117(v608, v98);
+    f125(v608, v98);
     v609 = v78 + 3u * 1u;
     v610 = load8(v609);
-    f117(v610, v98);
+    f125(v610, v98);
     v611 = v78 + 4u * 1u;
     v612 = load8(v611);
-    f117(v612, v98);
+    f125(v612, v98);
     v613 = v78 + 5u * 1u;
     v614 = load8(v613);
-    f117(v614, v98);
+    f125(v614, v98);
     v615 = v78 + 6u * 1u;
     v616 = load8(v615);
-    f117(v616, v98);
+    f125(v616, v98);
     v617 = v78 + 7u * 1u;
     v618 = load8(v617);
-    f117(v618, v98);
+    f125(v618, v98);
     v619 = v78 + 8u * 1u;
     v620 = (u64)((u64)v77 + (u64)UINT64_C(18446744073709551608));
     v621 = v620 > 7u;
@@ -27768,7 +29449,7 @@ L205:;
     if (v632) { goto L206; }
     else { v79 = v629; v80 = v631; goto L208; }
 L206:;
-    v633 = f119(v624, 1u);
+    v633 = f127(v624, 1u);
     if (v633) { goto L207; }
     else { v81 = 1u; goto L209; }
 L207:;
@@ -27788,7 +29469,7 @@ L209:;
     v639 = (u8)v81;
     v82 = v639; goto L211;
 L210:;
-    v640 = f120(v624, ADDRESS(c316), 1u);
+    v640 = f128(v624, ADDRESS(c316), 1u);
     v82 = v640; goto L211;
 L211:;
     store8(v110, v82);
@@ -27820,7 +29501,7 @@ L217:;
     if (v651) { goto L218; }
     else { v84 = v648; v85 = v650; goto L220; }
 L218:;
-    v652 = f119(v643, 1u);
+    v652 = f127(v643, 1u);
     if (v652) { goto L219; }
     else { v86 = 1u; goto L221; }
 L219:;
@@ -27840,7 +29521,7 @@ L221:;
     v658 = (u8)v86;
     v87 = v658; goto L223;
 L222:;
-    v659 = f120(v643, ADDRESS(c314), 1u);
+    v659 = f128(v643, ADDRESS(c314), 1u);
     v87 = v659; goto L223;
 L223:;
     store8(v110, v87);
@@ -27879,7 +29560,7 @@ L229:;
     return;
 }
 
-static void f116(address a0, u64 a1, address a2) {
+static void f124(address a0, u64 a1, address a2) {
     u64 v3, v4, v7, v14, v17, v19, v22, v23, v24, v31;
     u8 v5, v6, v8, v10, v11, v15, v20, v21, v27, v28, v30, v32;
     address v9, v12, v13, v16, v18, v25, v26, v29;
@@ -27908,7 +29589,7 @@ L3:;
     if (v20) { goto L4; }
     else { v3 = v17; v4 = v19; goto L6; }
 L4:;
-    v21 = f119(v12, 1u);
+    v21 = f127(v12, 1u);
     if (v21) { goto L5; }
     else { v5 = 1u; goto L7; }
 L5:;
@@ -27928,7 +29609,7 @@ L7:;
     v27 = (u8)v5;
     v6 = v27; goto L9;
 L8:;
-    v28 = f120(v12, ADDRESS(c315), 1u);
+    v28 = f128(v12, ADDRESS(c315), 1u);
     v6 = v28; goto L9;
 L9:;
     store8(v9, v6);
@@ -27936,7 +29617,7 @@ L9:;
 L10:;
     v29 = a0 + v7 * 1u;
     v30 = load8(v29);
-    f117(v30, a2);
+    f125(v30, a2);
     v31 = (u64)((u64)v7 + (u64)1u);
     v32 = v31 == a1;
     if (v32) { goto L11; }
@@ -27945,7 +29626,7 @@ L11:;
     return;
 }
 
-static void f117(u8 a0, address a1) {
+static void f125(u8 a0, address a1) {
     u8 v2, v3, v7, v8, v9, v10, v11, v12, v13, v17, v18, v19, v20, v21, v22, v23;
     u8 v24, v25, v29, v30, v31;
     address v4, v5, v6, v14, v15, v26, v27;
@@ -27974,10 +29655,10 @@ L1:;
     if (v17) { goto L2; }
     else { goto L3; }
 L2:;
-    v18 = f118(v14, v5, 1u);
+    v18 = f126(v14, v5, 1u);
     v2 = v18; goto L4;
 L3:;
-    v19 = f120(v14, v5, 1u);
+    v19 = f128(v14, v5, 1u);
     v2 = v19; goto L4;
 L4:;
     store8(v6, v2);
@@ -27999,10 +29680,10 @@ L5:;
     if (v29) { goto L6; }
     else { goto L7; }
 L6:;
-    v30 = f118(v26, v4, 1u);
+    v30 = f126(v26, v4, 1u);
     v3 = v30; goto L8;
 L7:;
-    v31 = f120(v26, v4, 1u);
+    v31 = f128(v26, v4, 1u);
     v3 = v31; goto L8;
 L8:;
     store8(v6, v3);
@@ -28011,7 +29692,7 @@ L9:;
     return;
 }
 
-static u8 f118(address a0, address a1, u64 a2) {
+static u8 f126(address a0, address a1, u64 a2) {
     u64 v3, v4, v5, v6, v7, v15, v27, v41, v51, v54, v56, v57, v60, v61, v62, v65;
     u64 v66, v67, v72;
     u8 v8, v9, v10, v12, v14, v16, v18, v19, v20, v21, v23, v24, v25, v26, v28, v30;
@@ -28116,7 +29797,7 @@ L15:;
     if (v58) { goto L16; }
     else { v5 = v54; v6 = v56; goto L18; }
 L16:;
-    v59 = f119(a0, a2);
+    v59 = f127(a0, a2);
     if (v59) { goto L17; }
     else { v8 = 1u; goto L22; }
 L17:;
@@ -28158,7 +29839,7 @@ L23:;
     return v9;
 }
 
-static u8 f119(address a0, u64 a1) {
+static u8 f127(address a0, u64 a1) {
     u8 v2, v7, v12, v16, v17, v21, v25;
     struct pair v3, v19, v22, v23;
     address v4, v8, v18, v27;
@@ -28209,7 +29890,7 @@ L6:;
     v2 = 1u; goto L1;
 }
 
-static u8 f120(address a0, address a1, u64 a2) {
+static u8 f128(address a0, address a1, u64 a2) {
     u64 v3, v4, v5, v6, v7, v15, v17, v18, v23, v25, v33, v34, v41, v43;
     u8 v8, v9, v13, v14, v16, v20, v21, v22, v24, v26, v27, v28, v29, v30, v31, v32;
     u8 v36, v38, v39, v42, v44, v45, v46, v47;
@@ -28252,13 +29933,13 @@ L6:;
     if (v26) { goto L8; }
     else { v5 = v25; goto L7; }
 L7:;
-    v27 = f118(a0, ADDRESS(c339), 4u);
+    v27 = f126(a0, ADDRESS(c339), 4u);
     v28 = (u8)((v27) & UINT64_C(1));
     if (v28) { v8 = 1u; goto L16; }
     else { goto L6; }
 L8:;
     store8(v10, 1u);
-    v29 = f118(a0, v19, v17);
+    v29 = f126(a0, v19, v17);
     v30 = (u8)((v29) & UINT64_C(1));
     if (v30) { v8 = 1u; goto L16; }
     else { v6 = v15; goto L9; }
@@ -28292,19 +29973,19 @@ L13:;
     if (v44) { goto L15; }
     else { v7 = v43; goto L14; }
 L14:;
-    v45 = f118(a0, ADDRESS(c339), 4u);
+    v45 = f126(a0, ADDRESS(c339), 4u);
     v46 = (u8)((v45) & UINT64_C(1));
     if (v46) { v8 = 1u; goto L16; }
     else { goto L13; }
 L15:;
     store8(v37, 0u);
-    v47 = f118(a0, v35, v33);
+    v47 = f126(a0, v35, v33);
     v8 = v47; goto L16;
 L16:;
     return v8;
 }
 
-static void f121(u64 a0, address a1) {
+static void f129(u64 a0, address a1) {
     u64 v2, v3, v4, v5, v6, v7, v8, v13, v14, v15, v16, v22, v30, v32, v44, v46;
     u64 v47, v59, v70, v72, v74, v82, v88, v91, v93, v94, v97, v98, v99;
     u8 v9, v10, v12, v24, v26, v34, v36, v39, v40, v41, v42, v43, v49, v51, v61, v63;
@@ -28444,7 +30125,7 @@ L11:;
     if (v95) { goto L12; }
     else { v7 = v91; v8 = v93; goto L14; }
 L12:;
-    v96 = f119(v86, v82);
+    v96 = f127(v86, v82);
     if (v96) { goto L13; }
     else { v9 = 1u; goto L15; }
 L13:;
@@ -28464,7 +30145,7 @@ L15:;
     v102 = (u8)v9;
     v10 = v102; goto L17;
 L16:;
-    v103 = f120(v86, v81, v82);
+    v103 = f128(v86, v81, v82);
     v10 = v103; goto L17;
 L17:;
     store8(v83, v10);
@@ -28473,7 +30154,7 @@ L18:;
     return;
 }
 
-static void f122(address a0, u64 a1) {
+static void f130(address a0, u64 a1) {
     u64 v2, v3, v4, v5, v6, v8, v10, v12, v14, v15, v16, v18, v20, v22, v48, v61;
     u64 v62, v63, v65, v69, v71, v74, v78, v82, v85, v87, v90, v92, v100, v101, v121, v125;
     u64 v137, v138, v141, v147, v159, v163, v186, v188, v190, v192, v195, v197, v200, v205, v208, v210;
@@ -28603,7 +30284,7 @@ L9:;
     store16(v57, 1u);
     v76 = (u16)(v3);
     store16(v58, v76);
-    v77 = f104(v56, v44);
+    v77 = f112(v56, v44);
     if (v77) { v5 = v2; goto L20; }
     else { goto L10; }
 L10:;
@@ -28696,7 +30377,7 @@ L23:;
     v114 = v43 + 18u * 1u;
     store16(v114, 65535u);
     v115 = a0 + 8u * 1u;
-    v116 = f104(v115, v43);
+    v116 = f112(v115, v43);
     if (v116) { goto L24; }
     else { goto L27; }
 L24:;
@@ -28708,7 +30389,7 @@ L24:;
     v119 = load_address(v118);
     v120 = a0 + 192u * 1u;
     v121 = load64(v120);
-    f103(v42, v115, v41, ADDRESS(c148), 0u, ADDRESS(c148), 0u, v119, v121);
+    f111(v42, v115, v41, ADDRESS(c148), 0u, ADDRESS(c148), 0u, v119, v121);
     v122 = load8(v42);
     v123 = v122 == 0u;
     if (v123) { goto L25; }
@@ -28786,7 +30467,7 @@ L35:;
     v152 = v40 + 18u * 1u;
     store16(v152, v149);
     v153 = a0 + 8u * 1u;
-    v154 = f104(v153, v40);
+    v154 = f112(v153, v40);
     if (v154) { goto L36; }
     else { goto L39; }
 L36:;
@@ -28798,7 +30479,7 @@ L36:;
     v157 = load_address(v156);
     v158 = a0 + 192u * 1u;
     v159 = load64(v158);
-    f103(v39, v153, v38, ADDRESS(c148), 0u, ADDRESS(c148), 0u, v157, v159);
+    f111(v39, v153, v38, ADDRESS(c148), 0u, ADDRESS(c148), 0u, v157, v159);
     v160 = load8(v39);
     v161 = v160 == 0u;
     if (v161) { goto L37; }
@@ -28848,7 +30529,7 @@ L42:;
     store8(v37, 2u);
     v182 = (u16)(v8);
     store16(v179, v182);
-    v183 = f104(v178, v37);
+    v183 = f112(v178, v37);
     if (v183) { goto L43; }
     else { goto L50; }
 L43:;
@@ -28941,11 +30622,11 @@ L57:;
     store8(v36, 4u);
     v226 = v36 + 18u * 1u;
     store16(v226, 65535u);
-    v227 = f104(v225, v36);
+    v227 = f112(v225, v36);
     if (v227) { goto L58; }
     else { goto L59; }
 L58:;
-    f123(a0, a1);
+    f131(a0, a1);
     goto L19;
 L59:;
     v228 = a0 + 172u * 1u;
@@ -29066,7 +30747,7 @@ L76:;
     store8(v35, 2u);
     v286 = (u16)(v16);
     store16(v283, v286);
-    v287 = f104(v282, v35);
+    v287 = f112(v282, v35);
     if (v287) { goto L77; }
     else { goto L84; }
 L77:;
@@ -29159,7 +30840,7 @@ L91:;
     store8(v34, 4u);
     v330 = v34 + 18u * 1u;
     store16(v330, 65535u);
-    v331 = f104(v329, v34);
+    v331 = f112(v329, v34);
     if (v331) { goto L98; }
     else { goto L92; }
 L92:;
@@ -29171,7 +30852,7 @@ L92:;
     store8(v333, 7u);
     v334 = v33 + 18u * 1u;
     store16(v334, 65535u);
-    v335 = f104(v329, v33);
+    v335 = f112(v329, v33);
     if (v335) { goto L93; }
     else { goto L96; }
 L93:;
@@ -29183,7 +30864,7 @@ L93:;
     v338 = load_address(v337);
     v339 = a0 + 192u * 1u;
     v340 = load64(v339);
-    f103(v32, v329, v31, ADDRESS(c148), 0u, ADDRESS(c148), 0u, v338, v340);
+    f111(v32, v329, v31, ADDRESS(c148), 0u, ADDRESS(c148), 0u, v338, v340);
     v341 = load8(v32);
     v342 = v341 == 0u;
     if (v342) { goto L94; }
@@ -29233,7 +30914,7 @@ L99:;
     store8(v359, 3u);
     v360 = v30 + 18u * 1u;
     store16(v360, 65535u);
-    v361 = f104(v329, v30);
+    v361 = f112(v329, v30);
     if (v361) { goto L100; }
     else { goto L103; }
 L100:;
@@ -29245,7 +30926,7 @@ L100:;
     v364 = load_address(v363);
     v365 = a0 + 192u * 1u;
     v366 = load64(v365);
-    f103(v29, v329, v28, ADDRESS(c148), 0u, ADDRESS(c148), 0u, v364, v366);
+    f111(v29, v329, v28, ADDRESS(c148), 0u, ADDRESS(c148), 0u, v364, v366);
     v367 = load8(v29);
     v368 = v367 == 0u;
     if (v368) { goto L101; }
@@ -29281,7 +30962,7 @@ L103:;
 L104:;
     goto L19;
 L105:;
-    f123(a0, a1);
+    f131(a0, a1);
     goto L19;
 L106:;
     v381 = a0 + 104u * 1u;
@@ -29326,7 +31007,7 @@ L112:;
     v400 = v27 + 18u * 1u;
     store16(v400, v397);
     v401 = a0 + 8u * 1u;
-    v402 = f104(v401, v27);
+    v402 = f112(v401, v27);
     v403 = (u16)v24;
     if (v402) { goto L113; }
     else { goto L116; }
@@ -29339,7 +31020,7 @@ L113:;
     v406 = load_address(v405);
     v407 = a0 + 192u * 1u;
     v408 = load64(v407);
-    f103(v26, v401, v25, ADDRESS(c148), 0u, ADDRESS(c148), 0u, v406, v408);
+    f111(v26, v401, v25, ADDRESS(c148), 0u, ADDRESS(c148), 0u, v406, v408);
     v409 = load8(v26);
     v410 = v409 == 0u;
     if (v410) { goto L114; }
@@ -29390,7 +31071,7 @@ L119:;
     UNREACHABLE;
 }
 
-static void f123(address a0, u64 a1) {
+static void f131(address a0, u64 a1) {
     address v2, v3, v4, v5, v9, v10, v11, v13, v14, v15, v16, v20, v22, v23, v24, v25;
     address v26, v27, v28, v29, v30, v31, v32, v33, v34, v35;
     u64 v6, v7, v17, v21;
@@ -29415,7 +31096,7 @@ L1:;
     v10 = v4 + 18u * 1u;
     store16(v10, 65535u);
     v11 = a0 + 8u * 1u;
-    v12 = f104(v11, v4);
+    v12 = f112(v11, v4);
     if (v12) { goto L2; }
     else { goto L5; }
 L2:;
@@ -29427,7 +31108,7 @@ L2:;
     v15 = load_address(v14);
     v16 = a0 + 192u * 1u;
     v17 = load64(v16);
-    f103(v3, v11, v2, ADDRESS(c148), 0u, ADDRESS(c148), 0u, v15, v17);
+    f111(v3, v11, v2, ADDRESS(c148), 0u, ADDRESS(c148), 0u, v15, v17);
     v18 = load8(v3);
     v19 = v18 == 0u;
     if (v19) { goto L3; }
@@ -29476,7 +31157,7 @@ L8:;
     return;
 }
 
-static void f124(address a0, address a1, u64 a2) {
+static void f132(address a0, address a1, u64 a2) {
     u16 v3, v6, v9, v10, v12, v13, v56, v57, v58, v59, v64, v65, v66, v67, v75, v76;
     u16 v77, v78, v102, v103, v105, v106;
     address v4, v14, v19, v24, v26, v28, v30, v32, v34, v36, v38, v40, v42, v44, v46, v52;
@@ -29621,7 +31302,7 @@ L8:;
     return;
 }
 
-static void f125(address a0, u16 a1, u8 a2) {
+static void f133(address a0, u16 a1, u8 a2) {
     u64 v3, v6, v10, v11, v14, v15, v19, v24, v26, v29, v31, v38, v43, v45, v48, v50;
     u64 v57, v61, v64;
     u8 v4, v8, v12, v16, v22, v30, v32, v35, v36, v37, v39, v41, v49, v51, v54, v55;
@@ -29763,7 +31444,7 @@ L22:;
     return;
 }
 
-static void f126(address a0, u64 a1, u8 a2, u16 a3, address a4, u64 a5) {
+static void f134(address a0, u64 a1, u8 a2, u16 a3, address a4, u64 a5) {
     u16 v6, v8, v10, v12, v17, v19, v20, v22, v42, v63, v102, v133, v139, v185, v215, v235;
     u16 v240, v259, v291, v310;
     u64 v7, v9, v11, v13, v14, v21, v23, v46, v47, v51, v53, v57, v59, v61, v64, v66;
@@ -29910,7 +31591,7 @@ L10:;
     store8(v76, 1u);
     goto L11;
 L11:;
-    f122(a0, a1);
+    f130(a0, a1);
     goto L90;
 L12:;
     store16(v39, 13u);
@@ -29980,7 +31661,7 @@ L21:;
     store8(v111, 1u);
     goto L22;
 L22:;
-    f122(a0, a1);
+    f130(a0, a1);
     goto L90;
 L23:;
     memory_set(v38, 0u, 32u);
@@ -29992,7 +31673,7 @@ L23:;
     v114 = v38 + 18u * 1u;
     store16(v114, v42);
     v115 = a0 + 8u * 1u;
-    v116 = f104(v115, v38);
+    v116 = f112(v115, v38);
     if (v116) { goto L24; }
     else { goto L27; }
 L24:;
@@ -30004,7 +31685,7 @@ L24:;
     v119 = load_address(v118);
     v120 = a0 + 192u * 1u;
     v121 = load64(v120);
-    f103(v37, v115, v36, ADDRESS(c148), 0u, ADDRESS(c148), 0u, v119, v121);
+    f111(v37, v115, v36, ADDRESS(c148), 0u, ADDRESS(c148), 0u, v119, v121);
     v122 = load8(v37);
     v123 = v122 == 0u;
     if (v123) { goto L25; }
@@ -30073,7 +31754,7 @@ L33:;
     v143 = v35 + 18u * 1u;
     store16(v143, 65535u);
     v144 = a0 + 8u * 1u;
-    v145 = f104(v144, v35);
+    v145 = f112(v144, v35);
     if (v145) { goto L34; }
     else { goto L37; }
 L34:;
@@ -30085,7 +31766,7 @@ L34:;
     v148 = load_address(v147);
     v149 = a0 + 192u * 1u;
     v150 = load64(v149);
-    f103(v34, v144, v33, ADDRESS(c148), 0u, ADDRESS(c148), 0u, v148, v150);
+    f111(v34, v144, v33, ADDRESS(c148), 0u, ADDRESS(c148), 0u, v148, v150);
     v151 = load8(v34);
     v152 = v151 == 0u;
     if (v152) { goto L35; }
@@ -30136,7 +31817,7 @@ L40:;
     v166 = v32 + 18u * 1u;
     store16(v166, v133);
     v167 = a0 + 8u * 1u;
-    v168 = f104(v167, v32);
+    v168 = f112(v167, v32);
     if (v168) { goto L41; }
     else { goto L44; }
 L41:;
@@ -30148,7 +31829,7 @@ L41:;
     v171 = load_address(v170);
     v172 = a0 + 192u * 1u;
     v173 = load64(v172);
-    f103(v31, v167, v30, ADDRESS(c148), 0u, ADDRESS(c148), 0u, v171, v173);
+    f111(v31, v167, v30, ADDRESS(c148), 0u, ADDRESS(c148), 0u, v171, v173);
     v174 = load8(v31);
     v175 = v174 == 0u;
     if (v175) { goto L42; }
@@ -30210,7 +31891,7 @@ L47:;
     v194 = load_address(v193);
     v195 = a0 + 192u * 1u;
     v196 = load64(v195);
-    f103(v29, v192, v28, ADDRESS(c148), 0u, ADDRESS(c148), 0u, v194, v196);
+    f111(v29, v192, v28, ADDRESS(c148), 0u, ADDRESS(c148), 0u, v194, v196);
     v197 = load8(v29);
     v198 = v197 == 0u;
     if (v198) { goto L48; }
@@ -30245,7 +31926,7 @@ L51:;
     v213 = load8(v212);
     v15 = v213; goto L52;
 L52:;
-    f127(a0, a1, v185, v15);
+    f135(a0, a1, v185, v15);
     goto L90;
 L53:;
     v214 = a5 < 258u ? a5 : 258u;
@@ -30280,7 +31961,7 @@ L56:;
     v224 = load_address(v223);
     v225 = a0 + 192u * 1u;
     v226 = load64(v225);
-    f103(v27, v222, v26, a4, v214, ADDRESS(c148), 0u, v224, v226);
+    f111(v27, v222, v26, a4, v214, ADDRESS(c148), 0u, v224, v226);
     v227 = load8(v27);
     v228 = v227 == 0u;
     if (v228) { goto L57; }
@@ -30310,7 +31991,7 @@ L60:;
     else { goto L62; }
 L61:;
     v238 = load8(v236);
-    f127(a0, a1, v235, v238);
+    f135(a0, a1, v235, v238);
     goto L90;
 L62:;
     v239 = a5 < 258u ? a5 : 258u;
@@ -30345,7 +32026,7 @@ L65:;
     v249 = load_address(v248);
     v250 = a0 + 192u * 1u;
     v251 = load64(v250);
-    f103(v25, v247, v24, a4, v239, ADDRESS(c148), 0u, v249, v251);
+    f111(v25, v247, v24, a4, v239, ADDRESS(c148), 0u, v249, v251);
     v252 = load8(v25);
     v253 = v252 == 0u;
     if (v253) { goto L66; }
@@ -30390,7 +32071,7 @@ L71:;
     store8(v271, 1u);
     goto L72;
 L72:;
-    f122(a0, a1);
+    f130(a0, a1);
     goto L90;
 L73:;
     store16(v39, 13u);
@@ -30493,7 +32174,7 @@ L86:;
     store8(v323, 1u);
     goto L87;
 L87:;
-    f122(a0, a1);
+    f130(a0, a1);
     goto L90;
 L88:;
     store16(v39, 13u);
@@ -30514,7 +32195,7 @@ L91:;
     UNREACHABLE;
 }
 
-static void f127(address a0, u64 a1, u16 a2, u8 a3) {
+static void f135(address a0, u64 a1, u16 a2, u8 a3) {
     u16 v4, v6, v17, v41;
     u64 v5, v7, v11, v12, v14, v20, v31, v35, v37, v39, v42, v44, v48, v52;
     address v8, v9, v10, v15, v16, v19, v22, v23, v26, v27, v28, v29, v30, v32, v33, v34;
@@ -30606,7 +32287,7 @@ L11:;
     store8(v54, 1u);
     goto L12;
 L12:;
-    f122(a0, a1);
+    f130(a0, a1);
     goto L14;
 L13:;
     v55 = a0 + 172u * 1u;
@@ -30624,7 +32305,7 @@ L14:;
     return;
 }
 
-static u8 f128(address a0) {
+static u8 f136(address a0) {
     u64 v1, v6, v11, v13, v15, v16, v18, v20, v24, v25, v27, v29, v32, v34, v38, v40;
     u64 v41, v43, v45, v49, v50, v52, v54, v57, v59;
     struct pair v2, v3, v26, v30, v31, v51, v55, v56;
@@ -30637,7 +32318,7 @@ static u8 f128(address a0) {
     else { v1 = v6; goto L3; }
 L1:;
     v8 = a0 + 48u * 1u;
-    v9 = f129(v8);
+    v9 = f137(v8);
     v10 = (u8)((v9) & UINT64_C(1));
     if (v10) { v4 = 1u; goto L17; }
     else { goto L2; }
@@ -30741,7 +32422,7 @@ L17:;
     return v4;
 }
 
-static u8 f129(address a0) {
+static u8 f137(address a0) {
     u64 v1, v2, v3, v5, v7, v8, v9, v10, v12, v13, v14, v15, v19, v22, v23, v24;
     u64 v25, v32, v34, v35, v36, v39, v40, v47, v118, v119, v121, v124, v127, v128, v131, v133;
     u64 v134, v135, v136, v138, v139, v141, v142, v144, v150, v151, v153, v155, v158, v160, v162, v163;
@@ -31066,7 +32747,7 @@ L30:;
     if (v190) { goto L31; }
     else { v9 = v7; v10 = 0u; goto L33; }
 L31:;
-    v191 = f130(a0, v3);
+    v191 = f138(a0, v3);
     if (v191) { goto L32; }
     else { goto L36; }
 L32:;
@@ -31257,7 +32938,7 @@ L44:;
     return v16;
 }
 
-static u8 f130(address a0, u64 a1) {
+static u8 f138(address a0, u64 a1) {
     u8 v2, v7, v12, v16, v17, v23, v28;
     struct pair v3, v21, v25, v26;
     address v4, v8, v18, v30;
@@ -31311,7 +32992,7 @@ L6:;
     v2 = 1u; goto L1;
 }
 
-static void f131(address a0, address a1, u64 a2, address a3, address a4, u16 a5, u16 a6) {
+static void f139(address a0, address a1, u64 a2, address a3, address a4, u16 a5, u16 a6) {
     u8 v7, v16, v19, v24, v30, v31, v32, v36, v41, v53, v54, v55, v57, v58, v59, v61;
     u8 v62, v63, v65, v66, v67, v68, v70, v71, v73, v74, v75, v77, v78, v79, v80, v84;
     u8 v86, v90, v92, v94, v96, v98, v100, v102, v104, v106, v108, v110, v112, v114, v116, v118;
@@ -31383,7 +33064,7 @@ L1:;
     if (v67) { v16 = 0u; goto L38; }
     else { goto L2; }
 L2:;
-    v68 = f42(a1, 4u, (ADDRESS(c341) + 8u * 1u), 4u);
+    v68 = f43(a1, 4u, (ADDRESS(c341) + 8u * 1u), 4u);
     if (v68) { goto L3; }
     else { v16 = 0u; goto L38; }
 L3:;
@@ -31707,7 +33388,7 @@ L24:;
     if (v292) { goto L27; }
     else { goto L33; }
 L25:;
-    v293 = f42(a1, v253, v43, v253);
+    v293 = f43(a1, v253, v43, v253);
     v294 = v262 == v259;
     v295 = (u8)(((u32)v294 & (u32)v293) & UINT64_C(1));
     if (v295) { goto L27; }
@@ -31768,7 +33449,7 @@ L32:;
 L33:;
     goto L39;
 L34:;
-    v328 = f42(v261, v262, v258, v259);
+    v328 = f43(v261, v262, v258, v259);
     if (v328) { goto L36; }
     else { goto L39; }
 L35:;
@@ -31930,134 +33611,86 @@ L50:;
     goto L37;
 }
 
-static struct s1 f132(address a0, u64 a1) {
-    address v2, v5;
-    u8 v3, v4, v6, v7;
-    struct s1 v8, v9;
-    u64 block0[98];
-    v2 = ADDRESS(block0);
-    memory_set(v2, 0u, 784u);
-    f133(v2, a0, a1);
-    v3 = load8(v2);
-    v4 = v3 == 0u;
-    v5 = v2 + 1u * 1u;
-    v6 = load8(v5);
-    v7 = v4 ? 0u : v6;
-    v8 = (struct s1){ 0 };
-    v8.m0 = v3;
-    v9 = v8;
-    v9.m1 = v7;
-    return v9;
-}
-
-static void f133(address a0, address a1, u64 a2) {
-    u64 v3, v4, v6, v15, v17, v26, v29, v30, v38, v39, v41;
-    address v5, v7, v8, v9, v10, v12, v13, v16, v18, v20, v22, v23, v24, v25, v32, v33;
-    address v35, v42, v44, v45, v46, v47, v48;
-    u8 v11, v14, v21, v27, v28, v31, v37, v40, v43;
-    u16 v19, v34, v36;
+static struct s1 f140(address a0, u64 a1) {
+    u64 v2, v3, v5, v12, v14, v23, v26, v27, v35, v36, v38;
+    address v4, v6, v9, v13, v15, v17, v19, v20, v21, v22, v29, v30, v32, v39;
+    u8 v7, v8, v10, v11, v18, v24, v25, v28, v34, v37, v40;
+    u16 v16, v31, v33;
+    struct s1 v41, v42;
     u64 block0[96];
-    u64 block1[96];
-    u64 block2[96];
-    v8 = ADDRESS(block0);
-    v9 = ADDRESS(block1);
-    v10 = ADDRESS(block2);
-    v11 = a2 > 64u;
-    if (v11) { goto L2; }
-    else { goto L3; }
+    v9 = ADDRESS(block0);
+    v10 = a1 > 64u;
+    if (v10) { v7 = 0u; v8 = 1u; goto L10; }
+    else { goto L1; }
 L1:;
-    return;
-L2:;
-    store8(a0, 1u);
-    v12 = a0 + 1u * 1u;
-    store8(v12, 0u);
-    v13 = a0 + 8u * 1u;
-    memory_set(v13, 0u, 776u);
-    goto L1;
-L3:;
-    v14 = a2 == 0u;
-    memory_set(v8, 0u, 768u);
-    if (v14) { goto L4; }
-    else { v3 = 0u; goto L5; }
-L4:;
     memory_set(v9, 0u, 768u);
-    goto L14;
+    v11 = a1 == 0u;
+    if (v11) { v7 = 0u; v8 = 0u; goto L10; }
+    else { v2 = 0u; goto L2; }
+L2:;
+    v12 = (u64)((u64)v2 * (u64)12u);
+    v13 = a0 + v12 * 1u;
+    v14 = load64(v13);
+    v15 = v13 + 8u * 1u;
+    v16 = load16(v15);
+    v17 = v13 + 10u * 1u;
+    v18 = load8(v17);
+    v19 = v9 + v12 * 1u;
+    store64(v19, v14);
+    v20 = v19 + 8u * 1u;
+    store16(v20, v16);
+    v21 = v19 + 10u * 1u;
+    store8(v21, v18);
+    v22 = v19 + 11u * 1u;
+    store8(v22, 0u);
+    v23 = (u64)((u64)v2 + (u64)1u);
+    v24 = v23 == a1;
+    if (v24) { goto L3; }
+    else { v2 = v23; goto L2; }
+L3:;
+    v25 = a1 == 1u;
+    if (v25) { v7 = 0u; v8 = 0u; goto L10; }
+    else { goto L4; }
+L4:;
+    v26 = (u64)((u64)a1 + (u64)UINT64_C(18446744073709551615));
+    v3 = v26; v4 = v9; goto L6;
 L5:;
-    v15 = (u64)((u64)v3 * (u64)12u);
-    v16 = a1 + v15 * 1u;
-    v17 = load64(v16);
-    v18 = v16 + 8u * 1u;
-    v19 = load16(v18);
-    v20 = v16 + 10u * 1u;
-    v21 = load8(v20);
-    v22 = v8 + v15 * 1u;
-    store64(v22, v17);
-    v23 = v22 + 8u * 1u;
-    store16(v23, v19);
-    v24 = v22 + 10u * 1u;
-    store8(v24, v21);
-    v25 = v22 + 11u * 1u;
-    store8(v25, 0u);
-    v26 = (u64)((u64)v3 + (u64)1u);
-    v27 = v26 == a2;
-    if (v27) { goto L6; }
-    else { v3 = v26; goto L5; }
+    v27 = (u64)((u64)v3 + (u64)UINT64_C(18446744073709551615));
+    v28 = v27 == 0u;
+    if (v28) { v7 = 0u; v8 = 0u; goto L10; }
+    else { v3 = v27; v4 = v29; goto L6; }
 L6:;
-    memory_cpy(v10, v8, 768u);
-    memory_cpy(v9, v10, 768u);
-    v28 = a2 == 1u;
-    if (v28) { goto L14; }
-    else { goto L7; }
+    v29 = v4 + 12u * 1u;
+    v30 = v4 + 8u * 1u;
+    v31 = load16(v30);
+    v5 = v3; v6 = v29; goto L7;
 L7:;
-    v29 = (u64)((u64)a2 + (u64)UINT64_C(18446744073709551615));
-    v4 = v29; v5 = v9; goto L9;
+    v32 = v6 + 8u * 1u;
+    v33 = load16(v32);
+    v34 = v31 == v33;
+    if (v34) { goto L8; }
+    else { goto L9; }
 L8:;
-    v30 = (u64)((u64)v4 + (u64)UINT64_C(18446744073709551615));
-    v31 = v30 == 0u;
-    if (v31) { goto L14; }
-    else { v4 = v30; v5 = v32; goto L9; }
+    v35 = load64(v4);
+    v36 = load64(v6);
+    v37 = v35 == v36;
+    if (v37) { v7 = 1u; v8 = 1u; goto L10; }
+    else { goto L9; }
 L9:;
-    v32 = v5 + 12u * 1u;
-    v33 = v5 + 8u * 1u;
-    v34 = load16(v33);
-    v6 = v4; v7 = v32; goto L10;
+    v38 = (u64)((u64)v5 + (u64)UINT64_C(18446744073709551615));
+    v39 = v6 + 12u * 1u;
+    v40 = v38 == 0u;
+    if (v40) { goto L5; }
+    else { v5 = v38; v6 = v39; goto L7; }
 L10:;
-    v35 = v7 + 8u * 1u;
-    v36 = load16(v35);
-    v37 = v34 == v36;
-    if (v37) { goto L11; }
-    else { goto L12; }
-L11:;
-    v38 = load64(v5);
-    v39 = load64(v7);
-    v40 = v38 == v39;
-    if (v40) { goto L13; }
-    else { goto L12; }
-L12:;
-    v41 = (u64)((u64)v6 + (u64)UINT64_C(18446744073709551615));
-    v42 = v7 + 12u * 1u;
-    v43 = v41 == 0u;
-    if (v43) { goto L8; }
-    else { v6 = v41; v7 = v42; goto L10; }
-L13:;
-    store8(a0, 1u);
-    v44 = a0 + 1u * 1u;
-    store8(v44, 1u);
-    v45 = a0 + 8u * 1u;
-    memory_set(v45, 0u, 776u);
-    goto L1;
-L14:;
-    store8(a0, 0u);
-    v46 = a0 + 1u * 1u;
-    store8(v46, 0u);
-    v47 = a0 + 8u * 1u;
-    memory_cpy(v47, v9, 768u);
-    v48 = a0 + 776u * 1u;
-    store64(v48, a2);
-    goto L1;
+    v41 = (struct s1){ 0 };
+    v41.m0 = v8;
+    v42 = v41;
+    v42.m1 = v7;
+    return v42;
 }
 
-static void f134(address a0, address a1, u64 a2, address a3, u64 a4, address a5, u64 a6) {
+static void f141(address a0, address a1, u64 a2, address a3, u64 a4, address a5, u64 a6) {
     u64 v7, v9, v15, v34, v38, v40, v45, v54, v57, v60;
     u8 v8, v10, v13, v16, v19, v20, v22, v24, v28, v30, v41, v42, v43, v44, v48, v55;
     u8 v58, v59, v61, v62;
@@ -32070,7 +33703,7 @@ static void f134(address a0, address a1, u64 a2, address a3, u64 a4, address a5,
     v12 = ADDRESS(block1);
     memory_set(v11, 0u, 16u);
     memory_set(v12, 0u, 7u);
-    f135(v11, a1, a2, a3, a4, a5, a6);
+    f142(v11, a1, a2, a3, a4, a5, a6);
     v13 = load8(v11);
     v14 = v11 + 8u * 1u;
     v15 = load64(v14);
@@ -32079,7 +33712,7 @@ static void f134(address a0, address a1, u64 a2, address a3, u64 a4, address a5,
     else { goto L3; }
 L1:;
     v17 = (address)v15;
-    v18 = f145(a5, a6, v17);
+    v18 = f152(a5, a6, v17);
     v19 = v18.m0;
     v20 = v19 == 0u;
     if (v20) { goto L4; }
@@ -32186,7 +33819,7 @@ L16:;
     goto L2;
 }
 
-static void f135(address a0, address a1, u64 a2, address a3, u64 a4, address a5, u64 a6) {
+static void f142(address a0, address a1, u64 a2, address a3, u64 a4, address a5, u64 a6) {
     u8 v7, v8, v9, v10, v11, v19, v20, v21, v23, v24, v25, v26, v28, v29, v30, v32;
     u8 v33, v34, v36, v37, v38, v39, v41, v42, v44, v45, v47, v48, v49, v50, v52, v54;
     u8 v55, v60, v62, v63, v65, v68, v69, v70, v78, v79, v82, v84, v87, v88, v89;
@@ -32208,9 +33841,9 @@ static void f135(address a0, address a1, u64 a2, address a3, u64 a4, address a5,
     v17 = ADDRESS(block4);
     memory_set(v14, 0u, 384u);
     memory_set(v15, 0u, 48u);
-    f24(v14);
+    f25(v14);
     memory_cpy(v13, v14, 384u);
-    v18 = f132(a3, a4);
+    v18 = f140(a3, a4);
     v19 = v18.m0;
     v20 = v19 == 1u;
     if (v20) { goto L1; }
@@ -32245,7 +33878,7 @@ L4:;
     if (v38) { v7 = 2u; v8 = 0u; goto L13; }
     else { goto L5; }
 L5:;
-    v39 = f42(a5, 4u, (ADDRESS(c341) + 8u * 1u), 4u);
+    v39 = f43(a5, 4u, (ADDRESS(c341) + 8u * 1u), 4u);
     if (v39) { goto L6; }
     else { v7 = 2u; v8 = 0u; goto L13; }
 L6:;
@@ -32261,7 +33894,7 @@ L7:;
     if (v45) { goto L8; }
     else { v7 = 2u; v8 = 2u; goto L13; }
 L8:;
-    v46 = f136(a5, a6, v13);
+    v46 = f143(a5, a6, v13);
     v47 = v46.m0;
     v48 = v47 == 0u;
     if (v48) { goto L9; }
@@ -32290,7 +33923,7 @@ L11:;
 L12:;
     store64(v16, v22);
     v61 = (u16)(v58);
-    f142(v15, v16, v61, a3, a4);
+    f150(v15, v16, v61, a3, a4);
     v62 = load8(v15);
     v63 = v62 == 0u;
     if (v63) { goto L16; }
@@ -32322,7 +33955,7 @@ L15:;
 L16:;
     v76 = v15 + 8u * 1u;
     memory_cpy(v17, v13, 384u);
-    v77 = f144(v17, v76);
+    v77 = f151(v17, v76);
     v78 = v77.m0;
     v79 = v78 == 0u;
     v80 = v77.m1;
@@ -32346,111 +33979,98 @@ L18:;
     v9 = 1u; v10 = 3u; v11 = 0u; v12 = 0u; goto L15;
 }
 
-static struct s1 f136(address a0, u64 a1, address a2) {
-    u8 v3, v4, v8, v11, v14, v16, v21, v24, v27, v32, v37, v38, v39, v40, v42, v43;
-    u8 v48, v49, v51, v55, v56;
-    address v5, v6, v7, v9, v12, v17, v18, v28, v29, v33, v34, v35, v41, v45, v50, v52;
-    address v54;
-    u64 v10, v13, v15, v19, v20, v22, v23, v25, v26, v30, v31, v44, v46, v53;
-    struct s1 v36, v57, v58;
-    u16 v47;
+static struct s1 f143(address a0, u64 a1, address a2) {
+    u8 v3, v4, v6, v9, v12, v14, v19, v22, v25, v30, v35, v36, v37, v38, v40, v41;
+    u8 v47, v48, v49, v50, v51, v52, v53;
+    address v5, v7, v10, v15, v16, v26, v27, v31, v32, v33, v39, v43;
+    u64 v8, v11, v13, v17, v18, v20, v21, v23, v24, v28, v29, v42, v44;
+    struct s1 v34, v46, v54, v55;
+    u16 v45;
     u64 block0[3];
-    u64 block1[163];
-    u64 block2[162];
     v5 = ADDRESS(block0);
-    v6 = ADDRESS(block1);
-    v7 = ADDRESS(block2);
-    memory_set(v6, 0u, 1304u);
-    v8 = a1 < 12u;
-    if (v8) { v3 = 0u; v4 = 0u; goto L9; }
+    v6 = a1 < 12u;
+    if (v6) { v3 = 0u; v4 = 0u; goto L8; }
     else { goto L1; }
 L1:;
-    v9 = a0 + 12u * 1u;
-    v10 = (u64)((u64)a1 + (u64)UINT64_C(18446744073709551604));
-    v11 = v10 < 75u;
-    if (v11) { v3 = 0u; v4 = 0u; goto L9; }
+    v7 = a0 + 12u * 1u;
+    v8 = (u64)((u64)a1 + (u64)UINT64_C(18446744073709551604));
+    v9 = v8 < 75u;
+    if (v9) { v3 = 0u; v4 = 0u; goto L8; }
     else { goto L2; }
 L2:;
-    v12 = a0 + 86u * 1u;
-    v13 = (u64)((u64)a1 + (u64)UINT64_C(18446744073709551529));
-    v14 = load8(v12);
-    v15 = (u64)v14;
-    v16 = v13 > v15;
-    if (v16) { goto L3; }
-    else { v3 = 0u; v4 = 0u; goto L9; }
+    v10 = a0 + 86u * 1u;
+    v11 = (u64)((u64)a1 + (u64)UINT64_C(18446744073709551529));
+    v12 = load8(v10);
+    v13 = (u64)v12;
+    v14 = v11 > v13;
+    if (v14) { goto L3; }
+    else { v3 = 0u; v4 = 0u; goto L8; }
 L3:;
-    v17 = a0 + 87u * 1u;
-    v18 = v17 + v15 * 1u;
-    v19 = (u64)((u64)v15 ^ (u64)UINT64_C(18446744073709551615));
-    v20 = (u64)((u64)v13 + (u64)v19);
-    v21 = load8(v18);
-    v22 = (u64)v21;
-    v23 = (u64)((u64)v22 * (u64)15u);
-    v24 = v20 < v23;
-    if (v24) { v3 = 0u; v4 = 0u; goto L9; }
+    v15 = a0 + 87u * 1u;
+    v16 = v15 + v13 * 1u;
+    v17 = (u64)((u64)v13 ^ (u64)UINT64_C(18446744073709551615));
+    v18 = (u64)((u64)v11 + (u64)v17);
+    v19 = load8(v16);
+    v20 = (u64)v19;
+    v21 = (u64)((u64)v20 * (u64)15u);
+    v22 = v18 < v21;
+    if (v22) { v3 = 0u; v4 = 0u; goto L8; }
     else { goto L4; }
 L4:;
-    v25 = (u64)((u64)v15 + (u64)76u);
-    v26 = (u64)((u64)v25 + (u64)v23);
-    v27 = v10 == v26;
-    if (v27) { v3 = 0u; v4 = 0u; goto L9; }
+    v23 = (u64)((u64)v13 + (u64)76u);
+    v24 = (u64)((u64)v23 + (u64)v21);
+    v25 = v8 == v24;
+    if (v25) { v3 = 0u; v4 = 0u; goto L8; }
     else { goto L5; }
 L5:;
-    v28 = v9 + v26 * 1u;
-    v29 = v28 + 1u * 1u;
-    v30 = (u64)((u64)v26 ^ (u64)UINT64_C(18446744073709551615));
-    v31 = (u64)((u64)v10 + (u64)v30);
-    v32 = load8(v28);
-    store8(v5, v32);
-    v33 = v5 + 1u * 1u;
-    memory_set(v33, 0u, 7u);
-    v34 = v5 + 8u * 1u;
-    store_address(v34, v29);
-    v35 = v5 + 16u * 1u;
-    store64(v35, v31);
-    v36 = f137(a0, a1, a2);
-    v37 = v36.m0;
-    v38 = v37 == 0u;
-    if (v38) { goto L6; }
-    else { v3 = 0u; v4 = 1u; goto L9; }
+    v26 = v7 + v24 * 1u;
+    v27 = v26 + 1u * 1u;
+    v28 = (u64)((u64)v24 ^ (u64)UINT64_C(18446744073709551615));
+    v29 = (u64)((u64)v8 + (u64)v28);
+    v30 = load8(v26);
+    store8(v5, v30);
+    v31 = v5 + 1u * 1u;
+    memory_set(v31, 0u, 7u);
+    v32 = v5 + 8u * 1u;
+    store_address(v32, v27);
+    v33 = v5 + 16u * 1u;
+    store64(v33, v29);
+    v34 = f144(a0, a1, a2);
+    v35 = v34.m0;
+    v36 = v35 == 0u;
+    if (v36) { goto L6; }
+    else { v3 = 0u; v4 = 1u; goto L8; }
 L6:;
-    v39 = v36.m1;
-    v40 = (u8)((v39) & UINT64_C(1));
-    if (v40) { goto L7; }
-    else { v3 = 0u; v4 = 0u; goto L9; }
+    v37 = v34.m1;
+    v38 = (u8)((v37) & UINT64_C(1));
+    if (v38) { goto L7; }
+    else { v3 = 0u; v4 = 0u; goto L8; }
 L7:;
-    v41 = a2 + 240u * 1u;
-    v42 = load8(v41);
-    v43 = v42 == 0u;
-    v44 = v43 ? 376u : 256u;
-    v45 = a2 + v44 * 1u;
-    v46 = load64(v45);
-    v47 = (u16)(v46);
-    f138(v6, v47);
-    v48 = load8(v6);
-    v49 = v48 == 0u;
-    if (v49) { goto L8; }
-    else { v3 = 0u; v4 = 1u; goto L9; }
+    v39 = a2 + 240u * 1u;
+    v40 = load8(v39);
+    v41 = v40 == 0u;
+    v42 = v41 ? 376u : 256u;
+    v43 = a2 + v42 * 1u;
+    v44 = load64(v43);
+    v45 = (u16)(v44);
+    v46 = f145(v5, v45);
+    v47 = v46.m0;
+    v48 = v46.m1;
+    v49 = v47 != 0u;
+    v50 = (u8)((u32)v48 & (u32)1u);
+    v51 = v47 == 0u;
+    v52 = v51 ? v50 : 0u;
+    v53 = (u8)v49;
+    v3 = v52; v4 = v53; goto L8;
 L8:;
-    v50 = v6 + 8u * 1u;
-    v51 = load8(v50);
-    v52 = v6 + 16u * 1u;
-    v53 = (u64)v51;
-    store64(v7, v53);
-    v54 = v7 + 8u * 1u;
-    memory_cpy(v54, v52, 1288u);
-    v55 = f139(v5, v7);
-    v56 = (u8)v55;
-    v3 = v56; v4 = 0u; goto L9;
-L9:;
-    v57 = (struct s1){ 0 };
-    v57.m0 = v4;
-    v58 = v57;
-    v58.m1 = v3;
-    return v58;
+    v54 = (struct s1){ 0 };
+    v54.m0 = v4;
+    v55 = v54;
+    v55.m1 = v3;
+    return v55;
 }
 
-static struct s1 f137(address a0, u64 a1, address a2) {
+static struct s1 f144(address a0, u64 a1, address a2) {
     u8 v3, v4, v5, v6, v8, v12, v14, v16, v17, v29, v30, v32, v33, v34, v36, v37;
     u8 v38, v40, v41, v42, v43, v45, v46, v47, v48, v49, v50, v51, v52, v53;
     address v7, v9, v18, v19, v20, v21, v22, v23, v24, v25, v26, v27, v28, v31, v35, v39;
@@ -32513,11 +34133,11 @@ L1:;
 L2:;
     v5 = 0u; v6 = 0u; goto L9;
 L3:;
-    v43 = f42(a0, 12u, v7, 12u);
+    v43 = f43(a0, 12u, v7, 12u);
     if (v43) { goto L4; }
     else { v5 = 0u; v6 = 0u; goto L9; }
 L4:;
-    v44 = f75(a2, v9, v10);
+    v44 = f83(a2, v9, v10);
     v45 = v44.m0;
     v46 = v45 == 0u;
     if (v46) { goto L5; }
@@ -32528,7 +34148,7 @@ L5:;
     if (v48) { goto L6; }
     else { v3 = 0u; goto L7; }
 L6:;
-    v49 = f80(a2, v9, v10);
+    v49 = f88(a2, v9, v10);
     v3 = v49; goto L7;
 L7:;
     v50 = (u8)v3;
@@ -32546,7 +34166,52 @@ L9:;
     return v55;
 }
 
-static void f138(address a0, u16 a1) {
+static struct s1 f145(address a0, u16 a1) {
+    u8 v2, v5, v6, v8, v12, v13, v16, v17, v18, v20;
+    address v3, v4, v7, v9, v11, v14, v19;
+    u64 v10, v15;
+    struct s1 v21, v22;
+    u64 block0[162];
+    u64 block1[163];
+    v3 = ADDRESS(block0);
+    v4 = ADDRESS(block1);
+    memory_set(v4, 0u, 1304u);
+    f146(v4, a1);
+    v5 = load8(v4);
+    v6 = v5 == 0u;
+    if (v6) { goto L1; }
+    else { v2 = 0u; goto L3; }
+L1:;
+    v7 = v4 + 8u * 1u;
+    v8 = load8(v7);
+    v9 = v4 + 16u * 1u;
+    v10 = (u64)v8;
+    store64(v3, v10);
+    v11 = v3 + 8u * 1u;
+    memory_cpy(v11, v9, 1288u);
+    v12 = f147(a0, v3);
+    v13 = load8(v3);
+    v14 = v3 + 24u * 1u;
+    v15 = load64(v14);
+    v16 = v13 != 1u;
+    v17 = v15 == 0u;
+    v18 = v16 ? 1u : v17;
+    if (v18) { v2 = v12; goto L3; }
+    else { goto L2; }
+L2:;
+    v19 = load_address(v11);
+    portable_rattle_dealloc(v19);
+    v2 = v12; goto L3;
+L3:;
+    v20 = (u8)v2;
+    v21 = (struct s1){ 0 };
+    v21.m0 = v5;
+    v22 = v21;
+    v22.m1 = v20;
+    return v22;
+}
+
+static void f146(address a0, u16 a1) {
     u64 v2, v3, v4, v31, v32, v34, v38;
     address v5, v6, v7, v8, v9, v10, v11, v12, v14, v15, v16, v17, v18, v19, v20, v21;
     address v22, v23, v24, v25, v26, v27, v28, v29, v30, v39, v40, v41, v42, v43, v44, v45;
@@ -32683,216 +34348,152 @@ L5:;
     goto L1;
 }
 
-static u8 f139(address a0, address a1) {
-    address v2, v7, v24, v25, v26, v28, v30, v31, v37, v39, v40, v41, v42, v43, v46, v47;
-    address v48, v49, v50, v51, v52, v53, v54, v55, v56, v57, v58, v63, v84, v116, v122, v131;
-    u8 v3, v4, v5, v9, v10, v11, v12, v13, v14, v15, v16, v17, v18, v21, v23, v32;
-    u8 v33, v34, v35, v36, v45, v59, v60, v62, v65, v66, v67, v68, v69, v70, v71, v72;
-    u8 v73, v74, v75, v76, v77, v78, v79, v80, v81, v82, v86, v87, v88, v89, v90, v91;
-    u8 v92, v93, v94, v95, v96, v97, v98, v99, v100, v101, v102, v103, v104, v105, v106, v107;
-    u8 v108, v109, v110, v111, v113, v114, v115, v117, v119, v120, v121, v123, v124, v125, v127, v128;
-    u8 v129, v130;
-    u64 v6, v19, v20, v22, v27, v29, v38, v44, v61, v85, v112, v118, v126;
-    u16 v8, v64, v83;
-    u64 block0[162];
-    u64 block1[8];
-    v23 = load8(a1);
-    v24 = a1 + 8u * 1u;
-    v25 = load_address(v24);
-    v26 = a1 + 16u * 1u;
-    v27 = load64(v26);
-    v28 = a1 + 24u * 1u;
-    v29 = load64(v28);
-    v30 = ADDRESS(block0);
-    v31 = ADDRESS(block1);
-    memory_set(v31, 0u, 64u);
-    v32 = load8(a0);
-    v33 = v32 > 64u;
-    if (v33) { goto L1; }
-    else { goto L4; }
+static u8 f147(address a0, address a1) {
+    u8 v2, v5, v7, v8, v9, v10, v11, v12, v13, v14, v15, v16, v19, v20, v23, v37;
+    u8 v38, v40, v43, v44, v45, v46, v47, v48, v49, v50, v51, v52, v53, v54, v55, v56;
+    u8 v57, v58, v59, v60, v64, v65, v66, v67, v68, v69, v70, v71, v72, v73, v74, v75;
+    u8 v76, v77, v78, v79, v80, v81, v82, v83, v84, v85, v86, v87, v88, v89, v90, v91;
+    address v3, v18, v21, v24, v25, v26, v27, v28, v29, v30, v31, v32, v33, v34, v35, v36;
+    address v41, v62;
+    u64 v4, v17, v22, v39, v63;
+    u16 v6, v42, v61;
+    u64 block0[8];
+    v18 = ADDRESS(block0);
+    memory_set(v18, 0u, 64u);
+    v19 = load8(a0);
+    v20 = v19 > 64u;
+    if (v20) { v2 = 0u; goto L1; }
+    else { goto L2; }
 L1:;
-    v34 = v23 != 1u;
-    v35 = v29 == 0u;
-    v36 = v34 ? 1u : v35;
-    if (v36) { v4 = 0u; goto L3; }
-    else { v2 = v25; v3 = 0u; goto L2; }
+    return v2;
 L2:;
-    portable_rattle_dealloc(v2);
-    v4 = v3; goto L3;
+    v21 = a0 + 16u * 1u;
+    v22 = load64(v21);
+    v23 = v19 == 0u;
+    if (v23) { v17 = v22; goto L19; }
+    else { goto L3; }
 L3:;
-    return v4;
+    v24 = a0 + 8u * 1u;
+    v25 = load_address(v24);
+    v26 = v18 + 8u * 1u;
+    v27 = v18 + 9u * 1u;
+    v28 = v18 + 10u * 1u;
+    v29 = v18 + 11u * 1u;
+    v30 = v18 + 12u * 1u;
+    v31 = v18 + 13u * 1u;
+    v32 = v18 + 14u * 1u;
+    v33 = v18 + 15u * 1u;
+    v34 = v18 + 16u * 1u;
+    v35 = v18 + 48u * 1u;
+    v36 = v18 + 56u * 1u;
+    f148(v18, v25, v22, a1);
+    v37 = load8(v18);
+    v38 = v37 == 1u;
+    if (v38) { goto L4; }
+    else { v2 = 0u; goto L1; }
 L4:;
-    v37 = a1 + 32u * 1u;
-    v38 = (u64)v23;
-    store64(v30, v38);
-    v39 = v30 + 8u * 1u;
-    store_address(v39, v25);
-    v40 = v30 + 16u * 1u;
-    store64(v40, v27);
-    v41 = v30 + 24u * 1u;
-    store64(v41, v29);
-    v42 = v30 + 32u * 1u;
-    memory_cpy(v42, v37, 1264u);
-    v43 = a0 + 16u * 1u;
-    v44 = load64(v43);
-    v45 = v32 == 0u;
-    if (v45) { v20 = v29; v21 = v23; v22 = v44; goto L26; }
+    v39 = load64(v36);
+    v40 = v19 == 1u;
+    if (v40) { v17 = v39; goto L19; }
     else { goto L5; }
 L5:;
-    v46 = a0 + 8u * 1u;
-    v47 = load_address(v46);
-    v48 = v31 + 8u * 1u;
-    v49 = v31 + 9u * 1u;
-    v50 = v31 + 10u * 1u;
-    v51 = v31 + 11u * 1u;
-    v52 = v31 + 12u * 1u;
-    v53 = v31 + 13u * 1u;
-    v54 = v31 + 14u * 1u;
-    v55 = v31 + 15u * 1u;
-    v56 = v31 + 16u * 1u;
-    v57 = v31 + 48u * 1u;
-    v58 = v31 + 56u * 1u;
-    f140(v31, v47, v44, v30);
-    v59 = load8(v31);
-    v60 = v59 == 1u;
-    if (v60) { goto L6; }
-    else { goto L20; }
+    v41 = load_address(v35);
+    v42 = load16(v34);
+    v43 = load8(v33);
+    v44 = load8(v32);
+    v45 = load8(v31);
+    v46 = load8(v30);
+    v47 = load8(v29);
+    v48 = load8(v28);
+    v49 = load8(v27);
+    v50 = load8(v26);
+    v3 = v41; v4 = v39; v5 = 1u; v6 = v42; v7 = v43; v8 = v44; v9 = v45; v10 = v46; v11 = v47; v12 = v48; v13 = v49; v14 = v50; goto L6;
 L6:;
-    v61 = load64(v58);
-    v62 = v32 == 1u;
-    if (v62) { v19 = v61; goto L25; }
-    else { goto L7; }
+    f148(v18, v3, v4, a1);
+    v51 = load8(v18);
+    v52 = v51 == 1u;
+    if (v52) { goto L7; }
+    else { v2 = 0u; goto L1; }
 L7:;
-    v63 = load_address(v57);
-    v64 = load16(v56);
-    v65 = load8(v55);
-    v66 = load8(v54);
-    v67 = load8(v53);
-    v68 = load8(v52);
-    v69 = load8(v51);
-    v70 = load8(v50);
-    v71 = load8(v49);
-    v72 = load8(v48);
-    v5 = 1u; v6 = v61; v7 = v63; v8 = v64; v9 = v65; v10 = v66; v11 = v67; v12 = v68; v13 = v69; v14 = v70; v15 = v71; v16 = v72; goto L8;
+    v53 = load8(v26);
+    v54 = load8(v27);
+    v55 = load8(v28);
+    v56 = load8(v29);
+    v57 = load8(v30);
+    v58 = load8(v31);
+    v59 = load8(v32);
+    v60 = load8(v33);
+    v61 = load16(v34);
+    v62 = load_address(v35);
+    v63 = load64(v36);
+    v64 = v14 != v53;
+    v65 = v13 != v54;
+    v66 = (u8)(((u32)v64 | (u32)v65) & UINT64_C(1));
+    v67 = v12 != v55;
+    v68 = (u8)(((u32)v66 | (u32)v67) & UINT64_C(1));
+    v69 = v11 != v56;
+    v70 = (u8)(((u32)v68 | (u32)v69) & UINT64_C(1));
+    v71 = v10 != v57;
+    v72 = (u8)(((u32)v70 | (u32)v71) & UINT64_C(1));
+    v73 = v9 != v58;
+    v74 = (u8)(((u32)v72 | (u32)v73) & UINT64_C(1));
+    v75 = v8 != v59;
+    v76 = (u8)(((u32)v74 | (u32)v75) & UINT64_C(1));
+    v77 = v7 != v60;
+    v78 = (u8)(((u32)v76 | (u32)v77) & UINT64_C(1));
+    if (v78) { goto L8; }
+    else { goto L17; }
 L8:;
-    f140(v31, v7, v6, v30);
-    v73 = load8(v31);
-    v74 = v73 == 1u;
-    if (v74) { goto L9; }
-    else { goto L20; }
+    v79 = v14 == v53;
+    if (v79) { goto L9; }
+    else { v15 = v14; v16 = v53; goto L16; }
 L9:;
-    v75 = load8(v48);
-    v76 = load8(v49);
-    v77 = load8(v50);
-    v78 = load8(v51);
-    v79 = load8(v52);
-    v80 = load8(v53);
-    v81 = load8(v54);
-    v82 = load8(v55);
-    v83 = load16(v56);
-    v84 = load_address(v57);
-    v85 = load64(v58);
-    v86 = v16 != v75;
-    v87 = v15 != v76;
-    v88 = (u8)(((u32)v86 | (u32)v87) & UINT64_C(1));
-    v89 = v14 != v77;
-    v90 = (u8)(((u32)v88 | (u32)v89) & UINT64_C(1));
-    v91 = v13 != v78;
-    v92 = (u8)(((u32)v90 | (u32)v91) & UINT64_C(1));
-    v93 = v12 != v79;
-    v94 = (u8)(((u32)v92 | (u32)v93) & UINT64_C(1));
-    v95 = v11 != v80;
-    v96 = (u8)(((u32)v94 | (u32)v95) & UINT64_C(1));
-    v97 = v10 != v81;
-    v98 = (u8)(((u32)v96 | (u32)v97) & UINT64_C(1));
-    v99 = v9 != v82;
-    v100 = (u8)(((u32)v98 | (u32)v99) & UINT64_C(1));
-    if (v100) { goto L10; }
-    else { goto L19; }
+    v80 = v13 == v54;
+    if (v80) { goto L10; }
+    else { v15 = v13; v16 = v54; goto L16; }
 L10:;
-    v101 = v16 == v75;
-    if (v101) { goto L11; }
-    else { v17 = v16; v18 = v75; goto L18; }
+    v81 = v12 == v55;
+    if (v81) { goto L11; }
+    else { v15 = v12; v16 = v55; goto L16; }
 L11:;
-    v102 = v15 == v76;
-    if (v102) { goto L12; }
-    else { v17 = v15; v18 = v76; goto L18; }
+    v82 = v11 == v56;
+    if (v82) { goto L12; }
+    else { v15 = v11; v16 = v56; goto L16; }
 L12:;
-    v103 = v14 == v77;
-    if (v103) { goto L13; }
-    else { v17 = v14; v18 = v77; goto L18; }
+    v83 = v10 == v57;
+    if (v83) { goto L13; }
+    else { v15 = v10; v16 = v57; goto L16; }
 L13:;
-    v104 = v13 == v78;
-    if (v104) { goto L14; }
-    else { v17 = v13; v18 = v78; goto L18; }
+    v84 = v9 == v58;
+    if (v84) { goto L14; }
+    else { v15 = v9; v16 = v58; goto L16; }
 L14:;
-    v105 = v12 == v79;
-    if (v105) { goto L15; }
-    else { v17 = v12; v18 = v79; goto L18; }
+    v85 = v8 == v59;
+    if (v85) { goto L15; }
+    else { v15 = v8; v16 = v59; goto L16; }
 L15:;
-    v106 = v11 == v80;
-    if (v106) { goto L16; }
-    else { v17 = v11; v18 = v80; goto L18; }
+    v86 = v7 == v60;
+    if (v86) { goto L17; }
+    else { v15 = v7; v16 = v60; goto L16; }
 L16:;
-    v107 = v10 == v81;
-    if (v107) { goto L17; }
-    else { v17 = v10; v18 = v81; goto L18; }
+    v87 = v15 < v16;
+    if (v87) { goto L18; }
+    else { v2 = 0u; goto L1; }
 L17:;
-    v108 = v9 == v82;
-    if (v108) { goto L19; }
-    else { v17 = v9; v18 = v82; goto L18; }
+    v88 = v6 < v61;
+    if (v88) { goto L18; }
+    else { v2 = 0u; goto L1; }
 L18:;
-    v109 = v17 < v18;
-    if (v109) { goto L24; }
-    else { goto L22; }
+    v89 = (u8)((u32)v5 + (u32)1u);
+    v90 = v89 < v19;
+    if (v90) { v3 = v62; v4 = v63; v5 = v89; v6 = v61; v7 = v60; v8 = v59; v9 = v58; v10 = v57; v11 = v56; v12 = v55; v13 = v54; v14 = v53; goto L6; }
+    else { v17 = v63; goto L19; }
 L19:;
-    v110 = v8 < v83;
-    if (v110) { goto L24; }
-    else { goto L22; }
-L20:;
-    v111 = load8(v30);
-    v112 = load64(v41);
-    v113 = v111 != 1u;
-    v114 = v112 == 0u;
-    v115 = v113 ? 1u : v114;
-    if (v115) { v4 = 0u; goto L3; }
-    else { goto L21; }
-L21:;
-    v116 = load_address(v39);
-    v2 = v116; v3 = 0u; goto L2;
-L22:;
-    v117 = load8(v30);
-    v118 = load64(v41);
-    v119 = v117 != 1u;
-    v120 = v118 == 0u;
-    v121 = v119 ? 1u : v120;
-    if (v121) { v4 = 0u; goto L3; }
-    else { goto L23; }
-L23:;
-    v122 = load_address(v39);
-    v2 = v122; v3 = 0u; goto L2;
-L24:;
-    v123 = (u8)((u32)v5 + (u32)1u);
-    v124 = v123 < v32;
-    if (v124) { v5 = v123; v6 = v85; v7 = v84; v8 = v83; v9 = v82; v10 = v81; v11 = v80; v12 = v79; v13 = v78; v14 = v77; v15 = v76; v16 = v75; goto L8; }
-    else { v19 = v85; goto L25; }
-L25:;
-    v125 = load8(v30);
-    v126 = load64(v41);
-    v20 = v126; v21 = v125; v22 = v19; goto L26;
-L26:;
-    v127 = v22 == 0u;
-    v128 = v21 != 1u;
-    v129 = v20 == 0u;
-    v130 = v128 ? 1u : v129;
-    if (v130) { v4 = v127; goto L3; }
-    else { goto L27; }
-L27:;
-    v131 = load_address(v39);
-    v2 = v131; v3 = v127; goto L2;
+    v91 = v17 == 0u;
+    v2 = v91; goto L1;
 }
 
-static void f140(address a0, address a1, u64 a2, address a3) {
+static void f148(address a0, address a1, u64 a2, address a3) {
     u8 v4, v12, v13, v18, v28, v31, v34, v38, v42, v45, v48, v51, v52, v54, v57, v60;
     u8 v63, v66, v70, v73, v76, v79, v82, v86, v89, v90, v91, v92, v93, v94, v95, v96;
     u8 v97, v98, v101, v105, v111, v114, v115, v124, v128, v131, v135, v138, v139, v141, v143, v144;
@@ -33270,7 +34871,7 @@ L50:;
 L51:;
     v186 = a3 + v21 * 1u;
     v187 = load64(v186);
-    v188 = f141(v4, v51, v22, v187);
+    v188 = f149(v4, v51, v22, v187);
     if (v188) { goto L54; }
     else { goto L55; }
 L52:;
@@ -33312,7 +34913,7 @@ L55:;
     goto L2;
 }
 
-static u8 f141(u8 a0, u8 a1, address a2, u64 a3) {
+static u8 f149(u8 a0, u8 a1, address a2, u64 a3) {
     u64 v4, v14, v21, v25;
     address v5, v11, v13, v18, v20, v26;
     u8 v6, v7, v8, v9, v10, v12, v15, v16, v17, v19, v22, v23, v24, v27;
@@ -33393,246 +34994,227 @@ L16:;
     return v6;
 }
 
-static void f142(address a0, address a1, u16 a2, address a3, u64 a4) {
-    address v5, v6, v8, v11, v12, v15, v16;
-    u64 v7, v13;
-    u8 v9, v10, v14;
-    u64 block0[6];
-    u64 block1[1];
-    u64 block2[98];
-    v5 = ADDRESS(block0);
-    v6 = ADDRESS(block1);
-    v7 = load64(a1);
-    store64(v6, v7);
-    v8 = ADDRESS(block2);
-    memory_set(v5, 0u, 48u);
-    memory_set(v8, 0u, 784u);
-    f133(v8, a3, a4);
-    v9 = load8(v8);
-    v10 = v9 == 0u;
-    if (v10) { goto L1; }
-    else { goto L2; }
-L1:;
-    v11 = v8 + 8u * 1u;
-    v12 = v8 + 776u * 1u;
-    v13 = load64(v12);
-    f143(v5, v6, a2, v11, v13);
-    v14 = load8(v5);
-    store8(a0, v14);
-    v15 = a0 + 8u * 1u;
-    v16 = v5 + 8u * 1u;
-    memory_cpy(v15, v16, 40u);
-    return;
-L2:;
-    TRAP;
-    UNREACHABLE;
-}
-
-static void f143(address a0, address a1, u16 a2, address a3, u64 a4) {
-    u64 v5, v6, v7, v9, v11, v16, v21, v24, v26, v28, v32, v39, v42, v45, v47, v49;
-    u64 v50, v52, v54, v57, v59, v61, v65, v80, v83, v92, v95, v98;
-    u8 v8, v18, v19, v20, v25, v31, v40, v41, v46, v53, v58, v64, v81, v82, v86, v93;
-    u8 v96, v97, v99;
-    address v10, v13, v14, v15, v17, v27, v29, v30, v33, v34, v35, v36, v37, v38, v48, v55;
-    address v60, v62, v63, v66, v67, v68, v69, v70, v71, v72, v73, v74, v75, v76, v77, v78;
-    address v79, v84, v85, v87, v88, v89, v90, v91, v94, v100, v101, v102, v103, v104, v105;
-    u16 v12;
-    struct pair v22, v23, v43, v44, v51, v56;
+static void f150(address a0, address a1, u16 a2, address a3, u64 a4) {
+    u64 v5, v6, v7, v8, v10, v12, v15, v18, v20, v29, v34, v37, v39, v41, v45, v52;
+    u64 v54, v57, v59, v61, v62, v65, v67, v71, v73, v75, v79, v94, v97, v106, v109, v112;
+    u8 v9, v17, v24, v30, v32, v33, v38, v44, v53, v58, v66, v72, v78, v95, v96, v100;
+    u8 v107, v110, v111, v113;
+    address v11, v14, v16, v19, v21, v23, v25, v26, v27, v28, v40, v42, v43, v46, v47, v48;
+    address v49, v50, v51, v60, v68, v74, v76, v77, v80, v81, v82, v83, v84, v85, v86, v87;
+    address v88, v89, v90, v91, v92, v93, v98, v99, v101, v102, v103, v104, v105, v108, v114, v115;
+    address v116, v117, v118, v119;
+    u16 v13, v22, v31;
+    struct pair v35, v36, v55, v56, v63, v64, v69, v70;
     u64 block0[1];
-    u64 block1[2];
-    u64 block2[2];
-    u64 block3[1];
-    v13 = ADDRESS(block0);
-    v14 = ADDRESS(block1);
-    v15 = ADDRESS(block2);
-    v16 = load64(a1);
-    v17 = ADDRESS(block3);
-    v18 = a2 < 9u;
-    v19 = a4 == 0u;
-    if (v18) { goto L1; }
-    else { goto L6; }
+    u64 block1[96];
+    v14 = ADDRESS(block0);
+    v15 = load64(a1);
+    v16 = ADDRESS(block1);
+    v17 = a4 == 0u;
+    memory_set(v16, 0u, 768u);
+    if (v17) { goto L2; }
+    else { v5 = 0u; goto L1; }
 L1:;
-    if (v19) { v8 = 0u; v9 = v16; v10 = v13; v11 = a4; v12 = 8u; goto L22; }
-    else { goto L2; }
+    v18 = (u64)((u64)v5 * (u64)12u);
+    v19 = a3 + v18 * 1u;
+    v20 = load64(v19);
+    v21 = v19 + 8u * 1u;
+    v22 = load16(v21);
+    v23 = v19 + 10u * 1u;
+    v24 = load8(v23);
+    v25 = v16 + v18 * 1u;
+    store64(v25, v20);
+    v26 = v25 + 8u * 1u;
+    store16(v26, v22);
+    v27 = v25 + 10u * 1u;
+    store8(v27, v24);
+    v28 = v25 + 11u * 1u;
+    store8(v28, 0u);
+    v29 = (u64)((u64)v5 + (u64)1u);
+    v30 = v29 == a4;
+    if (v30) { goto L3; }
+    else { v5 = v29; goto L1; }
 L2:;
-    v20 = a4 < UINT64_C(4301945912712116);
-    if (v20) { goto L3; }
-    else { v8 = 1u; v9 = 0u; v10 = 0u; v11 = 0u; v12 = 0u; goto L22; }
+    v31 = a2 > 8u ? a2 : 8u;
+    v9 = 0u; v10 = v15; v11 = v14; v12 = 0u; v13 = v31; goto L23;
 L3:;
-    v21 = (u64)((u64)a4 * (u64)2144u);
-    v22 = portable_rattle_alloc(v21, 8u);
-    v23 = v22;
-    v24 = v23.m0;
-    v25 = (u8)((v24) & UINT64_C(1));
-    if (v25) { goto L4; }
-    else { v8 = 1u; v9 = 0u; v10 = 0u; v11 = 0u; v12 = 0u; goto L22; }
+    v32 = a2 < 9u;
+    v33 = a4 < UINT64_C(4301945912712116);
+    if (v32) { goto L4; }
+    else { goto L8; }
 L4:;
-    v26 = v23.m1;
-    v27 = (address)v26;
-    v5 = 0u; goto L5;
+    if (v33) { goto L5; }
+    else { v9 = 1u; v10 = 0u; v11 = 0u; v12 = 0u; v13 = 0u; goto L23; }
 L5:;
-    v28 = (u64)((u64)v5 * (u64)12u);
-    v29 = a3 + v28 * 1u;
-    v30 = v29 + 10u * 1u;
-    v31 = load8(v30);
-    memory_cpy(v15, v29, 10u);
-    v32 = (u64)((u64)v5 * (u64)2144u);
-    v33 = v27 + v32 * 1u;
-    v34 = v33 + 2104u * 1u;
-    memory_set(v33, 0u, 2104u);
-    store64(v34, v16);
-    v35 = v33 + 2112u * 1u;
-    memory_cpy(v35, v15, 10u);
-    v36 = v33 + 2122u * 1u;
-    memory_set(v36, 0u, 14u);
-    v37 = v33 + 2136u * 1u;
-    store8(v37, v31);
-    v38 = v33 + 2137u * 1u;
-    v39 = (u64)((u64)v5 + (u64)1u);
-    memory_set(v38, 0u, 7u);
-    v40 = v39 == a4;
-    if (v40) { v8 = 0u; v9 = v16; v10 = v27; v11 = a4; v12 = 8u; goto L22; }
-    else { v5 = v39; goto L5; }
+    v34 = (u64)((u64)a4 * (u64)2144u);
+    v35 = portable_rattle_alloc(v34, 8u);
+    v36 = v35;
+    v37 = v36.m0;
+    v38 = (u8)((v37) & UINT64_C(1));
+    if (v38) { goto L6; }
+    else { v9 = 1u; v10 = 0u; v11 = 0u; v12 = 0u; v13 = 0u; goto L23; }
 L6:;
-    if (v19) { v8 = 0u; v9 = v16; v10 = v13; v11 = a4; v12 = a2; goto L22; }
-    else { goto L7; }
+    v39 = v36.m1;
+    v40 = (address)v39;
+    v6 = 0u; goto L7;
 L7:;
-    v41 = a4 < UINT64_C(4301945912712116);
-    if (v41) { goto L8; }
-    else { v8 = 1u; v9 = 0u; v10 = 0u; v11 = 0u; v12 = 0u; goto L22; }
+    v41 = (u64)((u64)v6 * (u64)12u);
+    v42 = v16 + v41 * 1u;
+    v43 = v42 + 10u * 1u;
+    v44 = load8(v43);
+    v45 = (u64)((u64)v6 * (u64)2144u);
+    v46 = v40 + v45 * 1u;
+    v47 = v46 + 2104u * 1u;
+    memory_set(v46, 0u, 2104u);
+    store64(v47, v15);
+    v48 = v46 + 2112u * 1u;
+    memory_cpy(v48, v42, 10u);
+    v49 = v46 + 2122u * 1u;
+    memory_set(v49, 0u, 14u);
+    v50 = v46 + 2136u * 1u;
+    store8(v50, v44);
+    v51 = v46 + 2137u * 1u;
+    v52 = (u64)((u64)v6 + (u64)1u);
+    memory_set(v51, 0u, 7u);
+    v53 = v52 == a4;
+    if (v53) { v9 = 0u; v10 = v15; v11 = v40; v12 = a4; v13 = 8u; goto L23; }
+    else { v6 = v52; goto L7; }
 L8:;
-    v42 = (u64)((u64)a4 * (u64)2144u);
-    v43 = portable_rattle_alloc(v42, 8u);
-    v44 = v43;
-    v45 = v44.m0;
-    v46 = (u8)((v45) & UINT64_C(1));
-    if (v46) { goto L9; }
-    else { v8 = 1u; v9 = 0u; v10 = 0u; v11 = 0u; v12 = 0u; goto L22; }
+    if (v33) { goto L9; }
+    else { v9 = 1u; v10 = 0u; v11 = 0u; v12 = 0u; v13 = 0u; goto L23; }
 L9:;
-    v47 = v44.m1;
-    v48 = (address)v47;
-    v49 = (u64)a2;
-    v50 = (u64)((u64)v49 * (u64)80u);
-    v6 = 0u; goto L10;
-L10:;
-    v51 = portable_rattle_alloc(v49, 1u);
-    v52 = v51.m0;
-    v53 = (u8)((v52) & UINT64_C(1));
-    v54 = v51.m1;
-    v55 = (address)v54;
-    if (v53) { goto L11; }
-    else { goto L14; }
-L11:;
-    v56 = portable_rattle_alloc(v50, 1u);
+    v54 = (u64)((u64)a4 * (u64)2144u);
+    v55 = portable_rattle_alloc(v54, 8u);
+    v56 = v55;
     v57 = v56.m0;
     v58 = (u8)((v57) & UINT64_C(1));
-    if (v58) { goto L13; }
-    else { goto L12; }
-L12:;
-    portable_rattle_dealloc(v55);
-    goto L14;
-L13:;
+    if (v58) { goto L10; }
+    else { v9 = 1u; v10 = 0u; v11 = 0u; v12 = 0u; v13 = 0u; goto L23; }
+L10:;
     v59 = v56.m1;
     v60 = (address)v59;
-    v61 = (u64)((u64)v6 * (u64)12u);
-    v62 = a3 + v61 * 1u;
-    v63 = v62 + 10u * 1u;
-    v64 = load8(v63);
-    memory_cpy(v14, v62, 10u);
-    v65 = (u64)((u64)v6 * (u64)2144u);
-    v66 = v48 + v65 * 1u;
-    memory_set(v66, 0u, 1432u);
-    v67 = v66 + 1432u * 1u;
-    store64(v67, 1u);
-    v68 = v66 + 1440u * 1u;
-    store_address(v68, v55);
-    v69 = v66 + 1448u * 1u;
-    store64(v69, 0u);
-    v70 = v66 + 1456u * 1u;
-    store64(v70, v49);
-    v71 = v66 + 1464u * 1u;
-    store_address(v71, v60);
-    v72 = v66 + 1472u * 1u;
-    store64(v72, 0u);
-    v73 = v66 + 1480u * 1u;
-    store64(v73, v50);
-    v74 = v66 + 1488u * 1u;
-    memory_set(v74, 0u, 616u);
-    v75 = v66 + 2104u * 1u;
-    store64(v75, v16);
-    v76 = v66 + 2112u * 1u;
-    memory_cpy(v76, v14, 10u);
-    v77 = v66 + 2122u * 1u;
-    memory_set(v77, 0u, 14u);
-    v78 = v66 + 2136u * 1u;
-    store8(v78, v64);
-    v79 = v66 + 2137u * 1u;
-    v80 = (u64)((u64)v6 + (u64)1u);
-    memory_set(v79, 0u, 7u);
-    v81 = v80 == a4;
-    if (v81) { v8 = 0u; v9 = v16; v10 = v48; v11 = a4; v12 = a2; goto L22; }
-    else { v6 = v80; goto L10; }
+    v61 = (u64)a2;
+    v62 = (u64)((u64)v61 * (u64)80u);
+    v7 = 0u; goto L11;
+L11:;
+    v63 = portable_rattle_alloc(v61, 1u);
+    v64 = v63;
+    v65 = v64.m0;
+    v66 = (u8)((v65) & UINT64_C(1));
+    v67 = v64.m1;
+    v68 = (address)v67;
+    if (v66) { goto L12; }
+    else { goto L15; }
+L12:;
+    v69 = portable_rattle_alloc(v62, 1u);
+    v70 = v69;
+    v71 = v70.m0;
+    v72 = (u8)((v71) & UINT64_C(1));
+    if (v72) { goto L14; }
+    else { goto L13; }
+L13:;
+    portable_rattle_dealloc(v68);
+    goto L15;
 L14:;
-    v82 = v6 == 0u;
-    if (v82) { goto L21; }
-    else { v7 = 0u; goto L15; }
+    v73 = v70.m1;
+    v74 = (address)v73;
+    v75 = (u64)((u64)v7 * (u64)12u);
+    v76 = v16 + v75 * 1u;
+    v77 = v76 + 10u * 1u;
+    v78 = load8(v77);
+    v79 = (u64)((u64)v7 * (u64)2144u);
+    v80 = v60 + v79 * 1u;
+    memory_set(v80, 0u, 1432u);
+    v81 = v80 + 1432u * 1u;
+    store64(v81, 1u);
+    v82 = v80 + 1440u * 1u;
+    store_address(v82, v68);
+    v83 = v80 + 1448u * 1u;
+    store64(v83, 0u);
+    v84 = v80 + 1456u * 1u;
+    store64(v84, v61);
+    v85 = v80 + 1464u * 1u;
+    store_address(v85, v74);
+    v86 = v80 + 1472u * 1u;
+    store64(v86, 0u);
+    v87 = v80 + 1480u * 1u;
+    store64(v87, v62);
+    v88 = v80 + 1488u * 1u;
+    memory_set(v88, 0u, 616u);
+    v89 = v80 + 2104u * 1u;
+    store64(v89, v15);
+    v90 = v80 + 2112u * 1u;
+    memory_cpy(v90, v76, 10u);
+    v91 = v80 + 2122u * 1u;
+    memory_set(v91, 0u, 14u);
+    v92 = v80 + 2136u * 1u;
+    store8(v92, v78);
+    v93 = v80 + 2137u * 1u;
+    v94 = (u64)((u64)v7 + (u64)1u);
+    memory_set(v93, 0u, 7u);
+    v95 = v94 == a4;
+    if (v95) { v9 = 0u; v10 = v15; v11 = v60; v12 = a4; v13 = a2; goto L23; }
+    else { v7 = v94; goto L11; }
 L15:;
-    v83 = (u64)((u64)v7 * (u64)2144u);
-    v84 = v48 + v83 * 1u;
-    v85 = v84 + 1432u * 1u;
-    v86 = load8(v85);
-    v87 = v84 + 1440u * 1u;
-    v88 = load_address(v87);
-    v89 = v84 + 1464u * 1u;
-    v90 = load_address(v89);
-    v91 = v84 + 1480u * 1u;
-    v92 = load64(v91);
-    v93 = v86 == 0u;
-    if (v93) { goto L20; }
-    else { goto L16; }
+    v96 = v7 == 0u;
+    if (v96) { goto L22; }
+    else { v8 = 0u; goto L16; }
 L16:;
-    v94 = v84 + 1456u * 1u;
-    v95 = load64(v94);
-    v96 = v95 == 0u;
-    if (v96) { goto L18; }
+    v97 = (u64)((u64)v8 * (u64)2144u);
+    v98 = v60 + v97 * 1u;
+    v99 = v98 + 1432u * 1u;
+    v100 = load8(v99);
+    v101 = v98 + 1440u * 1u;
+    v102 = load_address(v101);
+    v103 = v98 + 1464u * 1u;
+    v104 = load_address(v103);
+    v105 = v98 + 1480u * 1u;
+    v106 = load64(v105);
+    v107 = v100 == 0u;
+    if (v107) { goto L21; }
     else { goto L17; }
 L17:;
-    portable_rattle_dealloc(v88);
-    goto L18;
+    v108 = v98 + 1456u * 1u;
+    v109 = load64(v108);
+    v110 = v109 == 0u;
+    if (v110) { goto L19; }
+    else { goto L18; }
 L18:;
-    v97 = v92 == 0u;
-    if (v97) { goto L20; }
-    else { goto L19; }
+    portable_rattle_dealloc(v102);
+    goto L19;
 L19:;
-    portable_rattle_dealloc(v90);
-    goto L20;
+    v111 = v106 == 0u;
+    if (v111) { goto L21; }
+    else { goto L20; }
 L20:;
-    v98 = (u64)((u64)v7 + (u64)1u);
-    v99 = v98 == v6;
-    if (v99) { goto L21; }
-    else { v7 = v98; goto L15; }
+    portable_rattle_dealloc(v104);
+    goto L21;
 L21:;
-    portable_rattle_dealloc(v48);
-    v8 = 1u; v9 = 0u; v10 = 0u; v11 = 0u; v12 = 0u; goto L22;
+    v112 = (u64)((u64)v8 + (u64)1u);
+    v113 = v112 == v7;
+    if (v113) { goto L22; }
+    else { v8 = v112; goto L16; }
 L22:;
-    memory_set(v17, 0u, 6u);
-    store8(a0, v8);
-    v100 = a0 + 8u * 1u;
-    store64(v100, v9);
-    v101 = a0 + 16u * 1u;
-    store_address(v101, v10);
-    v102 = a0 + 24u * 1u;
-    store64(v102, v11);
-    v103 = a0 + 32u * 1u;
-    store64(v103, v11);
-    v104 = a0 + 40u * 1u;
-    store16(v104, v12);
-    v105 = a0 + 42u * 1u;
-    memory_cpy(v105, v17, 6u);
+    portable_rattle_dealloc(v60);
+    v9 = 1u; v10 = 0u; v11 = 0u; v12 = 0u; v13 = 0u; goto L23;
+L23:;
+    store8(a0, v9);
+    v114 = a0 + 8u * 1u;
+    store64(v114, v10);
+    v115 = a0 + 16u * 1u;
+    store_address(v115, v11);
+    v116 = a0 + 24u * 1u;
+    store64(v116, v12);
+    v117 = a0 + 32u * 1u;
+    store64(v117, v12);
+    v118 = a0 + 40u * 1u;
+    store16(v118, v13);
+    v119 = a0 + 42u * 1u;
+    memory_set(v119, 0u, 6u);
     return;
 }
 
-static struct s3 f144(address a0, address a1) {
+static struct s3 f151(address a0, address a1) {
     u64 v2, v16, v18, v20, v24, v26, v28, v30, v32, v51, v60, v63, v66;
     u8 v3, v11, v31, v47, v48, v49, v50, v54, v61, v64, v65, v67, v68;
     address v4, v5, v6, v7, v8, v9, v10, v12, v13, v14, v15, v17, v19, v21, v22, v23;
@@ -33769,20 +35351,21 @@ L13:;
     return v70;
 }
 
-static struct s1 f145(address a0, u64 a1, address a2) {
-    u8 v3, v7, v10, v13, v15, v20, v23, v26, v31, v36, v37, v42, v43, v45, v49;
+static struct s1 f152(address a0, u64 a1, address a2) {
+    u8 v3, v7, v10, v13, v15, v20, v23, v26, v31, v36, v37, v42, v43, v45, v49, v50;
+    u8 v53, v54, v55;
     address v4, v5, v6, v8, v11, v16, v17, v27, v28, v32, v33, v34, v35, v39, v44, v46;
-    address v48;
-    u64 v9, v12, v14, v18, v19, v21, v22, v24, v25, v29, v30, v38, v40, v47;
+    address v48, v51, v56;
+    u64 v9, v12, v14, v18, v19, v21, v22, v24, v25, v29, v30, v38, v40, v47, v52;
     u16 v41;
-    struct s1 v50, v51;
+    struct s1 v57, v58;
     u64 block0[3];
-    u64 block1[163];
-    u64 block2[162];
+    u64 block1[162];
+    u64 block2[163];
     v4 = ADDRESS(block0);
     v5 = ADDRESS(block1);
     v6 = ADDRESS(block2);
-    memory_set(v5, 0u, 1304u);
+    memory_set(v6, 0u, 1304u);
     v7 = a1 < 12u;
     if (v7) { goto L6; }
     else { goto L1; }
@@ -33837,147 +35420,742 @@ L5:;
     v39 = a2 + v38 * 1u;
     v40 = load64(v39);
     v41 = (u16)(v40);
-    f138(v5, v41);
-    v42 = load8(v5);
+    f146(v6, v41);
+    v42 = load8(v6);
     v43 = v42 == 0u;
     if (v43) { goto L7; }
-    else { v3 = 0u; goto L8; }
+    else { v3 = 0u; goto L9; }
 L6:;
     TRAP;
     UNREACHABLE;
 L7:;
-    v44 = v5 + 8u * 1u;
+    v44 = v6 + 8u * 1u;
     v45 = load8(v44);
-    v46 = v5 + 16u * 1u;
+    v46 = v6 + 16u * 1u;
     v47 = (u64)v45;
-    store64(v6, v47);
-    v48 = v6 + 8u * 1u;
+    store64(v5, v47);
+    v48 = v5 + 8u * 1u;
     memory_cpy(v48, v46, 1288u);
-    v49 = f146(v4, v6, a2);
-    v3 = v49; goto L8;
+    v49 = f153(v4, v5, a2);
+    v50 = load8(v5);
+    v51 = v5 + 24u * 1u;
+    v52 = load64(v51);
+    v53 = v50 != 1u;
+    v54 = v52 == 0u;
+    v55 = v53 ? 1u : v54;
+    if (v55) { v3 = v49; goto L9; }
+    else { goto L8; }
 L8:;
-    v50 = (struct s1){ 0 };
-    v50.m0 = v42;
-    v51 = v50;
-    v51.m1 = v3;
-    return v51;
+    v56 = load_address(v48);
+    portable_rattle_dealloc(v56);
+    v3 = v49; goto L9;
+L9:;
+    v57 = (struct s1){ 0 };
+    v57.m0 = v42;
+    v58 = v57;
+    v58.m1 = v3;
+    return v58;
 }
 
-static u8 f146(address a0, address a1, address a2) {
-    address v3, v7, v14, v15, v16, v17, v18, v21, v23, v24, v25, v26, v27, v28, v29, v30;
-    address v31, v32, v35, v39, v41, v42, v46, v49, v51, v54, v63, v68;
-    u64 v4, v8, v13, v22, v36, v40, v43, v44, v48, v50, v55, v64;
-    u8 v5, v6, v9, v10, v11, v12, v19, v20, v33, v34, v37, v38, v45, v53, v56, v57;
-    u8 v59, v60, v61, v62, v65, v66, v67;
-    u16 v47, v52, v58;
-    u64 block0[162];
-    u64 block1[5];
-    u64 block2[8];
-    v12 = load8(a1);
-    v13 = (u64)v12;
-    v14 = a1 + 8u * 1u;
-    v15 = ADDRESS(block0);
-    v16 = ADDRESS(block1);
-    v17 = ADDRESS(block2);
-    memory_set(v17, 0u, 64u);
-    v18 = v15 + 8u * 1u;
-    memory_cpy(v18, v14, 1288u);
-    store64(v15, v13);
-    v19 = load8(a0);
-    v20 = v19 == 0u;
-    if (v20) { v10 = v12; v11 = 0u; goto L12; }
+static u8 f153(address a0, address a1, address a2) {
+    address v3, v8, v9, v13, v14, v17, v19, v20, v21, v22, v23, v24, v25, v26, v27, v28;
+    address v29, v32, v36, v37, v41, v44, v46, v49;
+    u64 v4, v7, v10, v18, v33, v38, v39, v43, v45, v50;
+    u8 v5, v6, v11, v12, v15, v16, v30, v31, v34, v35, v40, v48, v51, v52, v54, v55;
+    u8 v56;
+    u16 v42, v47, v53;
+    u64 block0[5];
+    u64 block1[8];
+    v13 = ADDRESS(block0);
+    v14 = ADDRESS(block1);
+    memory_set(v14, 0u, 64u);
+    v15 = load8(a0);
+    v16 = v15 == 0u;
+    if (v16) { v12 = 0u; goto L13; }
     else { goto L1; }
 L1:;
-    v21 = a0 + 16u * 1u;
-    v22 = load64(v21);
-    v23 = a0 + 8u * 1u;
-    v24 = load_address(v23);
-    v25 = v17 + 8u * 1u;
-    v26 = v17 + 48u * 1u;
-    v27 = v17 + 56u * 1u;
-    v28 = a2 + 400u * 1u;
-    v29 = a2 + 392u * 1u;
-    v30 = v16 + 8u * 1u;
-    v31 = v16 + 10u * 1u;
-    v32 = v16 + 16u * 1u;
-    v3 = v24; v4 = v22; v5 = 0u; v6 = 0u; goto L2;
+    v17 = a0 + 16u * 1u;
+    v18 = load64(v17);
+    v19 = a0 + 8u * 1u;
+    v20 = load_address(v19);
+    v21 = v14 + 8u * 1u;
+    v22 = v14 + 48u * 1u;
+    v23 = v14 + 56u * 1u;
+    v24 = a1 + 8u * 1u;
+    v25 = a2 + 400u * 1u;
+    v26 = a2 + 392u * 1u;
+    v27 = v13 + 8u * 1u;
+    v28 = v13 + 10u * 1u;
+    v29 = v13 + 16u * 1u;
+    v3 = v20; v4 = v18; v5 = 0u; v6 = 0u; goto L2;
 L2:;
-    f140(v17, v3, v4, v15);
-    v33 = load8(v17);
-    v34 = v33 == 1u;
-    if (v34) { goto L3; }
-    else { goto L10; }
+    f148(v14, v3, v4, a1);
+    v30 = load8(v14);
+    v31 = v30 == 1u;
+    if (v31) { goto L3; }
+    else { goto L12; }
 L3:;
-    memory_cpy(v16, v25, 40u);
-    v35 = load_address(v26);
-    v36 = load64(v27);
-    v37 = load8(v15);
-    v38 = v37 == 0u;
-    v39 = load_address(v18);
-    v40 = v38 ? 1288u : 16u;
-    v41 = v15 + v40 * 1u;
-    v42 = v38 ? v18 : v39;
-    v43 = load64(v41);
-    v44 = load64(v28);
-    v45 = v44 == 0u;
-    if (v45) { v9 = 1u; goto L9; }
+    memory_cpy(v13, v21, 40u);
+    v32 = load_address(v22);
+    v33 = load64(v23);
+    v34 = load8(a1);
+    v35 = v34 == 0u;
+    if (v35) { v7 = 1288u; v8 = v24; goto L5; }
     else { goto L4; }
 L4:;
-    v46 = load_address(v29);
-    v47 = load16(v30);
-    v48 = load64(v16);
-    v7 = v46; v8 = v44; goto L5;
+    v36 = load_address(v24);
+    v7 = 16u; v8 = v36; goto L5;
 L5:;
-    v49 = v7 + 2144u * 1u;
-    v50 = (u64)((u64)v8 + (u64)UINT64_C(18446744073709551615));
-    v51 = v7 + 2120u * 1u;
-    v52 = load16(v51);
-    v53 = v47 == v52;
-    if (v53) { goto L6; }
-    else { goto L7; }
+    v37 = a1 + v7 * 1u;
+    v38 = load64(v37);
+    v39 = load64(v25);
+    v40 = v39 == 0u;
+    if (v40) { v11 = 1u; goto L11; }
+    else { goto L6; }
 L6:;
-    v54 = v7 + 2112u * 1u;
-    v55 = load64(v54);
-    v56 = v48 == v55;
-    if (v56) { goto L8; }
-    else { goto L7; }
+    v41 = load_address(v26);
+    v42 = load16(v27);
+    v43 = load64(v13);
+    v9 = v41; v10 = v39; goto L7;
 L7:;
-    v57 = v50 == 0u;
-    if (v57) { v9 = 1u; goto L9; }
-    else { v7 = v49; v8 = v50; goto L5; }
+    v44 = v9 + 2144u * 1u;
+    v45 = (u64)((u64)v10 + (u64)UINT64_C(18446744073709551615));
+    v46 = v9 + 2120u * 1u;
+    v47 = load16(v46);
+    v48 = v42 == v47;
+    if (v48) { goto L8; }
+    else { goto L9; }
 L8:;
-    v58 = load16(v31);
-    f67(a2, v25, v58, v32, v42, v43);
-    v9 = 0u; goto L9;
+    v49 = v9 + 2112u * 1u;
+    v50 = load64(v49);
+    v51 = v43 == v50;
+    if (v51) { goto L10; }
+    else { goto L9; }
 L9:;
-    v59 = (u8)((u32)v9 + (u32)v5);
-    v60 = (u8)((u32)v6 + (u32)1u);
-    v61 = v60 < v19;
-    if (v61) { v3 = v35; v4 = v36; v5 = v59; v6 = v60; goto L2; }
-    else { goto L11; }
+    v52 = v45 == 0u;
+    if (v52) { v11 = 1u; goto L11; }
+    else { v9 = v44; v10 = v45; goto L7; }
 L10:;
+    v53 = load16(v28);
+    f69(a2, v21, v53, v29, v8, v38);
+    v11 = 0u; goto L11;
+L11:;
+    v54 = (u8)((u32)v11 + (u32)v5);
+    v55 = (u8)((u32)v6 + (u32)1u);
+    v56 = v55 < v15;
+    if (v56) { v3 = v32; v4 = v33; v5 = v54; v6 = v55; goto L2; }
+    else { v12 = v54; goto L13; }
+L12:;
     TRAP;
     UNREACHABLE;
-L11:;
-    v62 = load8(v15);
-    v10 = v62; v11 = v59; goto L12;
-L12:;
-    v63 = v15 + 24u * 1u;
-    v64 = load64(v63);
-    v65 = v10 != 1u;
-    v66 = v64 == 0u;
-    v67 = v65 ? 1u : v66;
-    if (v67) { goto L14; }
-    else { goto L13; }
 L13:;
-    v68 = load_address(v18);
-    portable_rattle_dealloc(v68);
-    goto L14;
-L14:;
-    return v11;
+    return v12;
 }
 
-static u8 f147(address a0) {
+static void f154(address a0, address a1, address a2, u64 a3, address a4, u64 a5) {
+    u64 v6, v17, v18, v36, v39, v41, v43, v49, v60, v71, v74, v80, v99, v101, v105, v109;
+    u64 v157, v160, v264, v266, v314, v330, v333, v334;
+    address v7, v16, v19, v20, v21, v22, v23, v24, v25, v26, v27, v28, v29, v30, v31, v32;
+    address v33, v42, v44, v45, v47, v50, v52, v54, v56, v58, v61, v62, v63, v64, v65, v66;
+    address v67, v68, v69, v70, v73, v75, v77, v81, v82, v83, v87, v89, v91, v93, v95, v97;
+    address v100, v102, v104, v106, v111, v115, v117, v119, v121, v126, v128, v133, v135, v140, v142, v147;
+    address v149, v154, v156, v161, v163, v167, v171, v175, v179, v183, v187, v189, v191, v192, v193, v194;
+    address v195, v196, v197, v198, v199, v200, v201, v202, v203, v204, v205, v206, v207, v208, v209, v210;
+    address v211, v212, v213, v214, v215, v216, v217, v218, v219, v220, v221, v222, v223, v224, v225, v226;
+    address v227, v228, v229, v230, v231, v232, v236, v237, v238, v240, v242, v244, v245, v247, v249, v251;
+    address v253, v256, v257, v258, v260, v261, v262, v263, v265, v267, v269, v270, v271, v272, v273, v278;
+    address v279, v280, v281, v282, v283, v284, v285, v286, v287, v288, v289, v290, v291, v292, v293, v294;
+    address v295, v296, v297, v298, v299, v303, v304, v305, v306, v307, v308, v309, v310, v311, v312, v313;
+    address v319, v320, v321, v322, v323, v324, v325, v326, v327, v328, v329, v332, v335, v336, v337, v338;
+    address v339, v340, v341, v342, v343, v344, v345;
+    u8 v8, v9, v10, v11, v12, v13, v14, v15, v34, v35, v40, v46, v48, v51, v53, v55;
+    u8 v57, v59, v72, v76, v78, v79, v84, v85, v86, v88, v90, v92, v96, v103, v108, v112;
+    u8 v113, v114, v120, v122, v123, v124, v125, v127, v129, v130, v131, v132, v134, v136, v137, v138;
+    u8 v139, v141, v144, v148, v150, v151, v152, v153, v155, v158, v159, v164, v165, v166, v168, v169;
+    u8 v170, v172, v173, v174, v176, v177, v178, v180, v181, v182, v184, v185, v186, v188, v233, v234;
+    u8 v235, v239, v241, v243, v246, v248, v250, v252, v254, v255, v259, v268, v275, v276, v277, v300;
+    u8 v301, v302, v315, v316, v317, v318, v331;
+    struct pair v37, v38;
+    u16 v94, v98, v107, v110, v116, v143, v145, v146, v162, v190;
+    u32 v118;
+    struct s1 v274;
+    u64 block0[1];
+    u64 block1[49];
+    u64 block2[49];
+    u64 block3[49];
+    u64 block4[18];
+    u64 block5[19];
+    u64 block6[31];
+    u64 block7[1];
+    u64 block8[14];
+    u64 block9[31];
+    u64 block10[1];
+    u64 block11[14];
+    u64 block12[19];
+    u64 block13[31];
+    v19 = ADDRESS(block0);
+    v20 = ADDRESS(block1);
+    v21 = ADDRESS(block2);
+    v22 = ADDRESS(block3);
+    v23 = ADDRESS(block4);
+    v24 = ADDRESS(block5);
+    v25 = ADDRESS(block6);
+    v26 = ADDRESS(block7);
+    v27 = ADDRESS(block8);
+    v28 = ADDRESS(block9);
+    v29 = ADDRESS(block10);
+    v30 = ADDRESS(block11);
+    v31 = ADDRESS(block12);
+    v32 = ADDRESS(block13);
+    memory_set(v25, 0u, 243u);
+    memory_set(v26, 0u, 7u);
+    memory_set(v27, 0u, 112u);
+    memory_set(v28, 0u, 243u);
+    memory_set(v29, 0u, 7u);
+    memory_set(v30, 0u, 112u);
+    v33 = v32 + 216u * 1u;
+    memory_set(v33, 0u, 32u);
+    v34 = a3 == 0u;
+    if (v34) { v7 = v19; goto L5; }
+    else { goto L1; }
+L1:;
+    v35 = a3 < UINT64_C(384307168202282326);
+    if (v35) { goto L2; }
+    else { goto L13; }
+L2:;
+    v36 = (u64)((u64)a3 * (u64)24u);
+    v37 = portable_rattle_alloc(v36, 8u);
+    v38 = v37;
+    v39 = v38.m0;
+    v40 = (u8)((v39) & UINT64_C(1));
+    if (v40) { goto L3; }
+    else { goto L13; }
+L3:;
+    v41 = v38.m1;
+    v42 = (address)v41;
+    v6 = 0u; goto L4;
+L4:;
+    v43 = (u64)((u64)v6 << (4u & 63u));
+    v44 = a2 + v43 * 1u;
+    v45 = v44 + 8u * 1u;
+    v46 = load8(v45);
+    v47 = v44 + 9u * 1u;
+    v48 = load8(v47);
+    v49 = load64(v44);
+    v50 = v44 + 10u * 1u;
+    v51 = load8(v50);
+    v52 = v44 + 11u * 1u;
+    v53 = load8(v52);
+    v54 = v44 + 12u * 1u;
+    v55 = load8(v54);
+    v56 = v44 + 13u * 1u;
+    v57 = load8(v56);
+    v58 = v44 + 14u * 1u;
+    v59 = load8(v58);
+    v60 = (u64)((u64)v6 * (u64)24u);
+    v61 = v42 + v60 * 1u;
+    store8(v61, v46);
+    v62 = v61 + 1u * 1u;
+    store8(v62, v48);
+    v63 = v61 + 2u * 1u;
+    memory_set(v63, 0u, 6u);
+    v64 = v61 + 8u * 1u;
+    store64(v64, v49);
+    v65 = v61 + 16u * 1u;
+    store8(v65, v51);
+    v66 = v61 + 17u * 1u;
+    store8(v66, v53);
+    v67 = v61 + 18u * 1u;
+    store8(v67, v55);
+    v68 = v61 + 19u * 1u;
+    store8(v68, v57);
+    v69 = v61 + 20u * 1u;
+    store8(v69, v59);
+    v70 = v61 + 21u * 1u;
+    memory_set(v70, 0u, 3u);
+    v71 = (u64)((u64)v6 + (u64)1u);
+    v72 = v71 == a3;
+    if (v72) { v7 = v42; goto L5; }
+    else { v6 = v71; goto L4; }
+L5:;
+    memory_set(v24, 0u, 7u);
+    v73 = a1 + 32u * 1u;
+    v74 = load64(v73);
+    v75 = a1 + 56u * 1u;
+    v76 = load8(v75);
+    v77 = a1 + 81u * 1u;
+    v78 = load8(v77);
+    memory_set(v23, 0u, 136u);
+    v79 = v78 < 129u ? v78 : 129u;
+    v80 = (u64)v79;
+    v81 = a1 + 82u * 1u;
+    memory_cpy(v23, v81, v80);
+    v82 = v23 + 136u * 1u;
+    store64(v82, v80);
+    v83 = a1 + 57u * 1u;
+    v84 = load8(v83);
+    v85 = v84 != 0u;
+    v86 = (u8)v85;
+    v87 = a1 + 58u * 1u;
+    v88 = load8(v87);
+    v89 = a1 + 59u * 1u;
+    v90 = load8(v89);
+    v91 = a1 + 60u * 1u;
+    v92 = load8(v91);
+    v93 = a1 + 20u * 1u;
+    v94 = load16(v93);
+    v95 = a1 + 61u * 1u;
+    v96 = load8(v95);
+    v97 = a1 + 22u * 1u;
+    v98 = load16(v97);
+    v99 = load64(a1);
+    v100 = a1 + 8u * 1u;
+    v101 = load64(v100);
+    v102 = a1 + 74u * 1u;
+    v103 = load8(v102);
+    v104 = a1 + 40u * 1u;
+    v105 = load64(v104);
+    v106 = a1 + 28u * 1u;
+    v107 = load16(v106);
+    v108 = v103 != 0u;
+    v109 = v108 ? v105 : 0u;
+    v110 = v108 ? v107 : 0u;
+    v111 = a1 + 62u * 1u;
+    v112 = load8(v111);
+    v113 = v112 != 0u;
+    v114 = (u8)v113;
+    v115 = a1 + 24u * 1u;
+    v116 = load16(v115);
+    v117 = a1 + 16u * 1u;
+    v118 = load32(v117);
+    v119 = a1 + 76u * 1u;
+    v120 = load8(v119);
+    v121 = a1 + 63u * 1u;
+    v122 = load8(v121);
+    v123 = v120 != 0u;
+    v124 = (u8)v123;
+    v125 = v123 ? v122 : 0u;
+    v126 = a1 + 77u * 1u;
+    v127 = load8(v126);
+    v128 = a1 + 64u * 1u;
+    v129 = load8(v128);
+    v130 = v127 != 0u;
+    v131 = (u8)v130;
+    v132 = v130 ? v129 : 0u;
+    v133 = a1 + 78u * 1u;
+    v134 = load8(v133);
+    v135 = a1 + 65u * 1u;
+    v136 = load8(v135);
+    v137 = v134 != 0u;
+    v138 = (u8)v137;
+    v139 = v137 ? v136 : 0u;
+    v140 = a1 + 79u * 1u;
+    v141 = load8(v140);
+    v142 = a1 + 26u * 1u;
+    v143 = load16(v142);
+    v144 = v141 != 0u;
+    v145 = v144 ? v143 : 0u;
+    v146 = (u16)v144;
+    v147 = a1 + 80u * 1u;
+    v148 = load8(v147);
+    v149 = a1 + 66u * 1u;
+    v150 = load8(v149);
+    v151 = v148 != 0u;
+    v152 = (u8)v151;
+    v153 = v151 ? v150 : 0u;
+    v154 = a1 + 75u * 1u;
+    v155 = load8(v154);
+    v156 = a1 + 48u * 1u;
+    v157 = load64(v156);
+    v158 = v155 != 0u;
+    v159 = (u8)v158;
+    v160 = v158 ? v157 : 0u;
+    v161 = a1 + 30u * 1u;
+    v162 = load16(v161);
+    v163 = a1 + 67u * 1u;
+    v164 = load8(v163);
+    v165 = v164 != 0u;
+    v166 = (u8)v165;
+    v167 = a1 + 68u * 1u;
+    v168 = load8(v167);
+    v169 = v168 != 0u;
+    v170 = (u8)v169;
+    v171 = a1 + 69u * 1u;
+    v172 = load8(v171);
+    v173 = v172 != 0u;
+    v174 = (u8)v173;
+    v175 = a1 + 70u * 1u;
+    v176 = load8(v175);
+    v177 = v176 != 0u;
+    v178 = (u8)v177;
+    v179 = a1 + 71u * 1u;
+    v180 = load8(v179);
+    v181 = v180 != 0u;
+    v182 = (u8)v181;
+    v183 = a1 + 72u * 1u;
+    v184 = load8(v183);
+    v185 = v184 != 0u;
+    v186 = (u8)v185;
+    v187 = a1 + 73u * 1u;
+    v188 = load8(v187);
+    v189 = v24 + 7u * 1u;
+    memory_cpy(v189, v23, 144u);
+    v190 = (u16)v108;
+    memory_cpy(v31, v24, 151u);
+    store64(v32, v74);
+    v191 = v32 + 8u * 1u;
+    store8(v191, v76);
+    v192 = v32 + 9u * 1u;
+    memory_cpy(v192, v31, 151u);
+    v193 = v32 + 160u * 1u;
+    store8(v193, v86);
+    v194 = v32 + 161u * 1u;
+    store8(v194, v88);
+    v195 = v32 + 162u * 1u;
+    store8(v195, v90);
+    v196 = v32 + 163u * 1u;
+    store8(v196, v92);
+    v197 = v32 + 164u * 1u;
+    store16(v197, v94);
+    v198 = v32 + 166u * 1u;
+    store8(v198, v96);
+    v199 = v32 + 167u * 1u;
+    store8(v199, 0u);
+    v200 = v32 + 168u * 1u;
+    store16(v200, v98);
+    v201 = v32 + 170u * 1u;
+    memory_set(v201, 0u, 6u);
+    v202 = v32 + 176u * 1u;
+    store64(v202, v99);
+    v203 = v32 + 184u * 1u;
+    store64(v203, v101);
+    v204 = v32 + 192u * 1u;
+    store16(v204, v190);
+    v205 = v32 + 194u * 1u;
+    store64(v205, v109);
+    v206 = v32 + 202u * 1u;
+    store16(v206, v110);
+    v207 = v32 + 204u * 1u;
+    store8(v207, v114);
+    v208 = v32 + 205u * 1u;
+    store8(v208, 0u);
+    v209 = v32 + 206u * 1u;
+    store16(v209, v116);
+    v210 = v32 + 208u * 1u;
+    store32(v210, v118);
+    v211 = v32 + 212u * 1u;
+    store8(v211, v124);
+    v212 = v32 + 213u * 1u;
+    store8(v212, v125);
+    v213 = v32 + 214u * 1u;
+    store8(v213, v131);
+    v214 = v32 + 215u * 1u;
+    store8(v214, v132);
+    v215 = v32 + 216u * 1u;
+    store8(v215, v138);
+    v216 = v32 + 217u * 1u;
+    store8(v216, v139);
+    v217 = v32 + 218u * 1u;
+    store16(v217, v146);
+    v218 = v32 + 220u * 1u;
+    store16(v218, v145);
+    v219 = v32 + 222u * 1u;
+    store8(v219, v152);
+    v220 = v32 + 223u * 1u;
+    store8(v220, v153);
+    v221 = v32 + 224u * 1u;
+    store8(v221, v159);
+    v222 = v32 + 225u * 1u;
+    store64(v222, v160);
+    v223 = v32 + 233u * 1u;
+    store8(v223, 0u);
+    v224 = v32 + 234u * 1u;
+    store16(v224, v162);
+    v225 = v32 + 236u * 1u;
+    store8(v225, v166);
+    v226 = v32 + 237u * 1u;
+    store8(v226, v170);
+    v227 = v32 + 238u * 1u;
+    store8(v227, v174);
+    v228 = v32 + 239u * 1u;
+    store8(v228, v178);
+    v229 = v32 + 240u * 1u;
+    store8(v229, v182);
+    v230 = v32 + 241u * 1u;
+    store8(v230, v186);
+    v231 = v32 + 242u * 1u;
+    store8(v231, v188);
+    v232 = v32 + 243u * 1u;
+    memory_set(v232, 0u, 5u);
+    memory_set(v20, 0u, 392u);
+    memory_set(v21, 0u, 392u);
+    memory_set(v22, 0u, 387u);
+    v233 = a3 > 8u;
+    if (v233) { goto L10; }
+    else { goto L6; }
+L6:;
+    f26(v21, v32, v7, a3);
+    v234 = load8(v21);
+    v235 = v234 == 0u;
+    if (v235) { goto L7; }
+    else { goto L8; }
+L7:;
+    v236 = v21 + 8u * 1u;
+    v237 = v22 + 3u * 1u;
+    memory_cpy(v237, v236, 384u);
+    v8 = 0u; v9 = 0u; v10 = 0u; goto L9;
+L8:;
+    v238 = v21 + 1u * 1u;
+    v239 = load8(v238);
+    v240 = v21 + 2u * 1u;
+    v241 = load8(v240);
+    v242 = v21 + 3u * 1u;
+    v243 = load8(v242);
+    v8 = v239; v9 = v241; v10 = v243; goto L9;
+L9:;
+    v244 = v20 + 8u * 1u;
+    v245 = v22 + 3u * 1u;
+    memory_cpy(v244, v245, 384u);
+    v11 = v10; v12 = v9; v13 = v8; v14 = 1u; v15 = v234; goto L11;
+L10:;
+    f87(v20, v32, v7, a3);
+    v246 = load8(v20);
+    v247 = v20 + 1u * 1u;
+    v248 = load8(v247);
+    v249 = v20 + 2u * 1u;
+    v250 = load8(v249);
+    v251 = v20 + 3u * 1u;
+    v252 = load8(v251);
+    v253 = v20 + 4u * 1u;
+    v254 = load8(v253);
+    v255 = v248 == 0u;
+    v11 = v254; v12 = v252; v13 = v250; v14 = v255; v15 = v246; goto L11;
+L11:;
+    v256 = v20 + 8u * 1u;
+    v257 = v28 + 3u * 1u;
+    memory_cpy(v257, v256, 240u);
+    v258 = v20 + 248u * 1u;
+    v259 = load8(v258);
+    v260 = v20 + 249u * 1u;
+    memory_cpy(v29, v260, 7u);
+    v261 = v20 + 256u * 1u;
+    v262 = load_address(v261);
+    v263 = v20 + 264u * 1u;
+    v264 = load64(v263);
+    v265 = v20 + 272u * 1u;
+    v266 = load64(v265);
+    v267 = v20 + 280u * 1u;
+    memory_cpy(v30, v267, 112u);
+    v268 = v15 == 0u;
+    if (v268) { goto L14; }
+    else { goto L15; }
+L12:;
+    return;
+L13:;
+    store8(a0, 1u);
+    v269 = a0 + 1u * 1u;
+    store8(v269, 3u);
+    v270 = a0 + 2u * 1u;
+    store8(v270, 0u);
+    v271 = a0 + 3u * 1u;
+    store8(v271, 0u);
+    v272 = a0 + 4u * 1u;
+    store8(v272, 0u);
+    v273 = a0 + 8u * 1u;
+    memory_set(v273, 0u, 416u);
+    goto L12;
+L14:;
+    v274 = f140(a4, a5);
+    v275 = v274.m0;
+    v276 = v274.m1;
+    v277 = v275 == 1u;
+    if (v277) { goto L22; }
+    else { goto L27; }
+L15:;
+    if (v14) { goto L16; }
+    else { goto L19; }
+L16:;
+    if (v34) { goto L18; }
+    else { goto L17; }
+L17:;
+    portable_rattle_dealloc(v7);
+    goto L18;
+L18:;
+    store8(a0, 1u);
+    v278 = a0 + 1u * 1u;
+    store8(v278, 0u);
+    v279 = a0 + 2u * 1u;
+    store8(v279, v13);
+    v280 = a0 + 3u * 1u;
+    store8(v280, v12);
+    v281 = a0 + 4u * 1u;
+    store8(v281, v11);
+    v282 = a0 + 8u * 1u;
+    v283 = v25 + 3u * 1u;
+    memory_cpy(v282, v283, 240u);
+    v284 = a0 + 248u * 1u;
+    store8(v284, 0u);
+    v285 = a0 + 249u * 1u;
+    memory_cpy(v285, v26, 7u);
+    v286 = a0 + 256u * 1u;
+    v287 = a0 + 280u * 1u;
+    memory_set(v286, 0u, 24u);
+    memory_cpy(v287, v27, 112u);
+    v288 = a0 + 392u * 1u;
+    memory_set(v288, 0u, 32u);
+    goto L12;
+L19:;
+    if (v34) { goto L21; }
+    else { goto L20; }
+L20:;
+    portable_rattle_dealloc(v7);
+    goto L21;
+L21:;
+    store8(a0, 1u);
+    v289 = a0 + 1u * 1u;
+    store8(v289, 3u);
+    v290 = a0 + 2u * 1u;
+    store8(v290, 0u);
+    v291 = a0 + 3u * 1u;
+    store8(v291, 0u);
+    v292 = a0 + 4u * 1u;
+    store8(v292, 0u);
+    v293 = a0 + 8u * 1u;
+    v294 = v25 + 3u * 1u;
+    memory_cpy(v293, v294, 240u);
+    v295 = a0 + 248u * 1u;
+    store8(v295, 0u);
+    v296 = a0 + 249u * 1u;
+    memory_cpy(v296, v26, 7u);
+    v297 = a0 + 256u * 1u;
+    v298 = a0 + 280u * 1u;
+    memory_set(v297, 0u, 24u);
+    memory_cpy(v298, v27, 112u);
+    v299 = a0 + 392u * 1u;
+    memory_set(v299, 0u, 32u);
+    goto L12;
+L22:;
+    v300 = v259 != 1u;
+    v301 = v266 == 0u;
+    v302 = v300 ? 1u : v301;
+    if (v302) { goto L24; }
+    else { goto L23; }
+L23:;
+    portable_rattle_dealloc(v262);
+    goto L24;
+L24:;
+    if (v34) { goto L26; }
+    else { goto L25; }
+L25:;
+    portable_rattle_dealloc(v7);
+    goto L26;
+L26:;
+    store8(a0, 1u);
+    v303 = a0 + 1u * 1u;
+    store8(v303, 1u);
+    v304 = a0 + 2u * 1u;
+    store8(v304, v276);
+    v305 = a0 + 3u * 1u;
+    store8(v305, 0u);
+    v306 = a0 + 4u * 1u;
+    store8(v306, 0u);
+    v307 = a0 + 8u * 1u;
+    v308 = v25 + 3u * 1u;
+    memory_cpy(v307, v308, 240u);
+    v309 = a0 + 248u * 1u;
+    store8(v309, 0u);
+    v310 = a0 + 249u * 1u;
+    memory_cpy(v310, v26, 7u);
+    v311 = a0 + 256u * 1u;
+    v312 = a0 + 280u * 1u;
+    memory_set(v311, 0u, 24u);
+    memory_cpy(v312, v27, 112u);
+    v313 = a0 + 392u * 1u;
+    memory_set(v313, 0u, 32u);
+    goto L12;
+L27:;
+    v314 = load64(v73);
+    v315 = v314 == 0u;
+    if (v315) { goto L28; }
+    else { goto L33; }
+L28:;
+    v316 = v259 != 1u;
+    v317 = v266 == 0u;
+    v318 = v316 ? 1u : v317;
+    if (v318) { goto L30; }
+    else { goto L29; }
+L29:;
+    portable_rattle_dealloc(v262);
+    goto L30;
+L30:;
+    if (v34) { goto L32; }
+    else { goto L31; }
+L31:;
+    portable_rattle_dealloc(v7);
+    goto L32;
+L32:;
+    store8(a0, 1u);
+    v319 = a0 + 1u * 1u;
+    store8(v319, 2u);
+    v320 = a0 + 2u * 1u;
+    store8(v320, 0u);
+    v321 = a0 + 3u * 1u;
+    store8(v321, 0u);
+    v322 = a0 + 4u * 1u;
+    store8(v322, 0u);
+    v323 = a0 + 8u * 1u;
+    v324 = v25 + 3u * 1u;
+    memory_cpy(v323, v324, 240u);
+    v325 = a0 + 248u * 1u;
+    store8(v325, 0u);
+    v326 = a0 + 249u * 1u;
+    memory_cpy(v326, v26, 7u);
+    v327 = a0 + 256u * 1u;
+    v328 = a0 + 280u * 1u;
+    memory_set(v327, 0u, 24u);
+    memory_cpy(v328, v27, 112u);
+    v329 = a0 + 392u * 1u;
+    memory_set(v329, 0u, 32u);
+    goto L12;
+L33:;
+    v330 = (u64)((u64)a3 + (u64)UINT64_C(18446744073709551607));
+    v331 = v330 < UINT64_C(18446744073709551608);
+    v332 = v233 ? v7 : 0u;
+    v333 = v233 ? a3 : 0u;
+    v334 = (u64)v233;
+    if (v331) { v16 = v332; v17 = v333; v18 = v334; goto L35; }
+    else { goto L34; }
+L34:;
+    portable_rattle_dealloc(v7);
+    v16 = 0u; v17 = 0u; v18 = 0u; goto L35;
+L35:;
+    v335 = a0 + 8u * 1u;
+    memory_set(a0, 0u, 5u);
+    memory_cpy(v335, v257, 240u);
+    v336 = a0 + 248u * 1u;
+    store8(v336, v259);
+    v337 = a0 + 249u * 1u;
+    memory_cpy(v337, v29, 7u);
+    v338 = a0 + 256u * 1u;
+    store_address(v338, v262);
+    v339 = a0 + 264u * 1u;
+    store64(v339, v264);
+    v340 = a0 + 272u * 1u;
+    store64(v340, v266);
+    v341 = a0 + 280u * 1u;
+    memory_cpy(v341, v30, 112u);
+    v342 = a0 + 392u * 1u;
+    store64(v342, v18);
+    v343 = a0 + 400u * 1u;
+    store_address(v343, v16);
+    v344 = a0 + 408u * 1u;
+    store64(v344, v17);
+    v345 = a0 + 416u * 1u;
+    store64(v345, v17);
+    goto L12;
+}
+
+static u8 f155(address a0) {
     u8 v1, v5, v10, v14, v15, v21, v26;
     struct pair v2, v19, v23, v24;
     address v3, v6, v16, v28;
@@ -34030,7 +36208,7 @@ L6:;
     v1 = 1u; goto L1;
 }
 
-static u8 f148(address a0) {
+static u8 f156(address a0) {
     u8 v1, v5, v10, v14, v15, v21, v26;
     struct pair v2, v19, v23, v24;
     address v3, v6, v16, v28;
@@ -34083,7 +36261,7 @@ L6:;
     v1 = 1u; goto L1;
 }
 
-static u8 f149(address a0) {
+static u8 f157(address a0) {
     u8 v1, v5, v10, v14, v15, v21, v26;
     struct pair v2, v19, v23, v24;
     address v3, v6, v16, v28;
@@ -34136,7 +36314,7 @@ L6:;
     v1 = 1u; goto L1;
 }
 
-static u8 f150(address a0) {
+static u8 f158(address a0) {
     u64 v1, v3, v7, v10, v13, v16, v18, v20, v22, v24, v27, v29, v31, v33, v35, v37;
     u16 v2, v4, v26;
     u8 v5, v11, v14, v21, v25, v28, v30, v32, v36, v38;
@@ -34206,7 +36384,7 @@ L10:;
     else { v1 = v37; goto L2; }
 }
 
-static u8 f151(address a0) {
+static u8 f159(address a0) {
     u64 v1, v2, v5, v6, v9, v10, v12, v15, v17, v20, v22;
     u8 v3, v7, v11, v13, v18, v23, v24;
     address v4, v8, v14, v16, v19, v21;
@@ -34253,7 +36431,7 @@ L7:;
     return v3;
 }
 
-static u8 f152(address a0) {
+static u8 f160(address a0) {
     u16 v1, v6, v34;
     u64 v2, v5, v12, v14, v22, v23, v27, v29, v30, v32;
     u8 v3, v7, v13, v17, v18, v20, v21, v24, v25, v31, v33, v35;
@@ -34322,7 +36500,7 @@ L10:;
     else { v3 = 1u; goto L9; }
 }
 
-static void f153(address a0) {
+static void f161(address a0) {
     u64 v1, v4, v6, v8, v11, v15, v20;
     address v2, v3, v5, v9, v10, v12, v13, v14, v17, v18;
     u8 v7, v16, v19, v21, v22;
@@ -34374,7 +36552,7 @@ L8:;
     return;
 }
 
-static u32 f154(address a0, address a1) {
+static u32 f162(address a0, address a1) {
     u64 v2, v10, v12, v16, v18, v22, v24, v28, v30, v32, v34, v36, v38, v56, v58, v67;
     u64 v72, v76, v82;
     u32 v3;
@@ -34547,7 +36725,106 @@ L18:;
     return v3;
 }
 
-static void f155(address a0, address a1) {
+static void f163(address a0, address a1, address a2, address a3, u64 a4) {
+    u64 v5, v13, v15, v16, v23, v37, v39, v40, v44, v46;
+    address v6, v7, v8, v9, v10, v14, v19, v20, v21, v22, v24, v25, v30, v35, v41, v42;
+    address v43, v45, v49, v51, v53, v55, v56, v57, v58, v59;
+    u8 v11, v12, v17, v18, v26, v27, v28, v29, v31, v32, v33, v34, v36, v38, v47, v48;
+    u8 v50, v52, v54;
+    u64 block0[10];
+    u64 block1[9];
+    u64 block2[192];
+    u64 block3[14];
+    v6 = ADDRESS(block0);
+    v7 = ADDRESS(block1);
+    v8 = ADDRESS(block2);
+    v9 = ADDRESS(block3);
+    v10 = a1 + 240u * 1u;
+    v11 = load8(v10);
+    v12 = v11 == 0u;
+    v13 = v12 ? 376u : 256u;
+    v14 = a1 + v13 * 1u;
+    v15 = load64(v14);
+    v16 = (u64)((u64)v15 & (u64)65535u);
+    v17 = a4 > v16;
+    if (v17) { goto L3; }
+    else { goto L1; }
+L1:;
+    memory_set(v8, 0u, 1536u);
+    v18 = a4 == 0u;
+    if (v18) { goto L5; }
+    else { v5 = 0u; goto L4; }
+L2:;
+    return;
+L3:;
+    store8(a0, 1u);
+    v19 = a0 + 1u * 1u;
+    store8(v19, 0u);
+    v20 = a0 + 2u * 1u;
+    store8(v20, 0u);
+    v21 = a0 + 3u * 1u;
+    store8(v21, 0u);
+    v22 = a0 + 8u * 1u;
+    memory_set(v22, 0u, 72u);
+    goto L2;
+L4:;
+    v23 = (u64)((u64)v5 << (4u & 63u));
+    v24 = a3 + v23 * 1u;
+    v25 = v24 + 8u * 1u;
+    v26 = load8(v25);
+    v27 = (u8)((u32)v26 + (u32)255u);
+    v28 = v27 < 9u;
+    v29 = v28 ? v27 : 2u;
+    v30 = v24 + 9u * 1u;
+    v31 = load8(v30);
+    v32 = v31 != 0u;
+    v33 = (u8)v32;
+    v34 = v32 ? v29 : 0u;
+    v35 = v24 + 10u * 1u;
+    v36 = load8(v35);
+    v37 = load64(v24);
+    v38 = v36 != 0u;
+    v39 = v38 ? v37 : 0u;
+    v40 = (u64)((u64)v5 * (u64)24u);
+    v41 = v8 + v40 * 1u;
+    store8(v41, v33);
+    v42 = v41 + 1u * 1u;
+    store8(v42, v34);
+    v43 = v41 + 8u * 1u;
+    v44 = (u64)v38;
+    store64(v43, v44);
+    v45 = v41 + 16u * 1u;
+    store64(v45, v39);
+    v46 = (u64)((u64)v5 + (u64)1u);
+    v47 = v46 == a4;
+    if (v47) { goto L5; }
+    else { v5 = v46; goto L4; }
+L5:;
+    f164(v9, a2);
+    memory_set(v6, 0u, 80u);
+    f165(v6, a1, v9, v8, a4);
+    v48 = load8(v6);
+    v49 = v6 + 1u * 1u;
+    v50 = load8(v49);
+    v51 = v6 + 2u * 1u;
+    v52 = load8(v51);
+    v53 = v6 + 3u * 1u;
+    v54 = load8(v53);
+    v55 = v6 + 8u * 1u;
+    memory_cpy(v7, v55, 72u);
+    store8(a0, v48);
+    v56 = a0 + 1u * 1u;
+    store8(v56, v50);
+    v57 = a0 + 2u * 1u;
+    store8(v57, v52);
+    v58 = a0 + 3u * 1u;
+    store8(v58, v54);
+    v59 = a0 + 8u * 1u;
+    memory_cpy(v59, v7, 72u);
+    goto L2;
+}
+
+static void f164(address a0, address a1) {
     u64 v2, v4, v30, v34, v64, v68, v81, v82, v84, v85;
     u16 v3, v8, v23, v27, v42, v56, v66, v73, v74, v87, v88, v90, v91, v98, v99, v103;
     u16 v105, v106;
@@ -34826,7 +37103,7 @@ L3:;
     return;
 }
 
-static void f156(address a0, address a1, address a2, address a3, u64 a4) {
+static void f165(address a0, address a1, address a2, address a3, u64 a4) {
     address v5, v13, v21, v22, v23, v24, v25, v34, v38, v40, v44, v46, v51, v53, v55, v59;
     address v61, v63, v67, v71, v81, v82, v85, v87, v90, v93, v100, v101, v103, v106, v108, v110;
     address v112, v126, v127, v129, v133, v134, v138, v166, v167, v169, v174, v176, v178, v182, v184, v186;
@@ -34971,7 +37248,7 @@ L13:;
     else { goto L14; }
 L14:;
     v100 = a1 + 192u * 1u;
-    f157(v22, a2, a1, v100);
+    f166(v22, a2, a1, v100);
     v101 = v22 + 20u * 1u;
     v102 = load64(v101);
     v103 = v22 + 34u * 1u;
@@ -35048,7 +37325,7 @@ L25:;
     else { v14 = v139; v15 = v140; goto L23; }
 L26:;
     memory_cpy(v23, v21, 72u);
-    f157(v24, a2, a1, v100);
+    f166(v24, a2, a1, v100);
     memory_cpy(v100, v24, 36u);
     v142 = load8(a2);
     v143 = load8(v34);
@@ -35267,7 +37544,7 @@ L37:;
     goto L36;
 }
 
-static void f157(address a0, address a1, address a2, address a3) {
+static void f166(address a0, address a1, address a2, address a3) {
     u64 v4, v6, v7, v8, v18, v20, v24, v26, v28, v30, v49, v50, v51, v52, v53, v54;
     u64 v55, v56, v57, v58, v59, v60, v64, v66, v67, v69, v71, v90, v91, v92, v93, v94;
     u64 v95, v96, v97, v98, v99, v100, v101, v103, v107, v109;
@@ -35435,43 +37712,139 @@ L6:;
     return;
 }
 
-static u64 f158(address a0, u16 a1, u64 a2) {
-    u64 v3, v4, v9, v10, v14, v16, v17, v18, v19;
-    u8 v5, v6, v11, v13;
-    u16 v7, v15;
-    address v8, v12;
-    v5 = a2 == 0u;
-    if (v5) { v3 = 0u; goto L1; }
-    else { goto L2; }
-L1:;
-    return v3;
-L2:;
-    v6 = a1 == 0u;
-    if (v6) { v4 = 0u; goto L5; }
+static void f167(address a0, address a1, address a2, address a3, u64 a4) {
+    u64 v5, v16, v18, v19, v26, v40, v42, v43, v47, v49;
+    u8 v6, v14, v15, v20, v25, v29, v30, v31, v32, v34, v35, v36, v37, v39, v41, v50;
+    u8 v51, v53, v55, v57, v60, v64, v65, v67, v68, v69;
+    address v7, v8, v9, v10, v11, v12, v13, v17, v21, v22, v23, v24, v27, v28, v33, v38;
+    address v44, v45, v46, v48, v52, v54, v56, v58, v59, v61, v62, v63, v66, v70, v71, v72;
+    address v73, v74;
+    u64 block0[10];
+    u64 block1[192];
+    u64 block2[9];
+    u64 block3[14];
+    u64 block4[10];
+    v7 = ADDRESS(block0);
+    v8 = ADDRESS(block1);
+    v9 = ADDRESS(block2);
+    v10 = ADDRESS(block3);
+    v11 = ADDRESS(block4);
+    memory_set(v9, 0u, 72u);
+    v12 = load_address(a1);
+    v13 = v12 + 240u * 1u;
+    v14 = load8(v13);
+    v15 = v14 == 0u;
+    v16 = v15 ? 376u : 256u;
+    v17 = v12 + v16 * 1u;
+    v18 = load64(v17);
+    v19 = (u64)((u64)v18 & (u64)65535u);
+    v20 = a4 > v19;
+    if (v20) { goto L2; }
     else { goto L3; }
+L1:;
+    return;
+L2:;
+    store8(a0, 1u);
+    v21 = a0 + 1u * 1u;
+    store8(v21, 0u);
+    v22 = a0 + 2u * 1u;
+    store8(v22, 0u);
+    v23 = a0 + 3u * 1u;
+    store8(v23, 0u);
+    v24 = a0 + 8u * 1u;
+    memory_set(v24, 0u, 72u);
+    goto L1;
 L3:;
-    v7 = (u16)((u32)a1 + (u32)65535u);
-    v8 = a0 + 64u * 1u;
-    v9 = load64(v8);
-    v10 = (u64)v7;
-    v11 = v9 > v10;
-    if (v11) { goto L4; }
-    else { v4 = 0u; goto L5; }
+    f164(v10, a2);
+    memory_set(v8, 0u, 1536u);
+    v25 = a4 == 0u;
+    if (v25) { goto L5; }
+    else { v5 = 0u; goto L4; }
 L4:;
-    v12 = a0 + v10 * 1u;
-    v13 = load8(v12);
-    v14 = (u64)v13;
-    v4 = v14; goto L5;
+    v26 = (u64)((u64)v5 << (4u & 63u));
+    v27 = a3 + v26 * 1u;
+    v28 = v27 + 8u * 1u;
+    v29 = load8(v28);
+    v30 = (u8)((u32)v29 + (u32)255u);
+    v31 = v30 < 9u;
+    v32 = v31 ? v30 : 2u;
+    v33 = v27 + 9u * 1u;
+    v34 = load8(v33);
+    v35 = v34 != 0u;
+    v36 = (u8)v35;
+    v37 = v35 ? v32 : 0u;
+    v38 = v27 + 10u * 1u;
+    v39 = load8(v38);
+    v40 = load64(v27);
+    v41 = v39 != 0u;
+    v42 = v41 ? v40 : 0u;
+    v43 = (u64)((u64)v5 * (u64)24u);
+    v44 = v8 + v43 * 1u;
+    store8(v44, v36);
+    v45 = v44 + 1u * 1u;
+    store8(v45, v37);
+    v46 = v44 + 8u * 1u;
+    v47 = (u64)v41;
+    store64(v46, v47);
+    v48 = v44 + 16u * 1u;
+    store64(v48, v42);
+    v49 = (u64)((u64)v5 + (u64)1u);
+    v50 = v49 == a4;
+    if (v50) { goto L5; }
+    else { v5 = v49; goto L4; }
 L5:;
-    v15 = (u16)((u32)a1 + (u32)1u);
-    v16 = (u64)((u64)a2 + (u64)UINT64_C(18446744073709551615));
-    v17 = f158(a0, v15, v16);
-    v18 = (u64)((u64)v17 << (1u & 63u));
-    v19 = (u64)((u64)v18 + (u64)v4);
-    v3 = v19; goto L1;
+    memory_set(v7, 0u, 80u);
+    f165(v7, v12, v10, v8, a4);
+    v51 = load8(v7);
+    v52 = v7 + 1u * 1u;
+    v53 = load8(v52);
+    v54 = v7 + 2u * 1u;
+    v55 = load8(v54);
+    v56 = v7 + 3u * 1u;
+    v57 = load8(v56);
+    v58 = v11 + 8u * 1u;
+    v59 = v7 + 8u * 1u;
+    memory_cpy(v58, v59, 72u);
+    v60 = v51 == 0u;
+    if (v60) { goto L6; }
+    else { goto L9; }
+L6:;
+    memory_cpy(v9, v58, 72u);
+    v61 = a1 + 8u * 1u;
+    f165(v11, v61, v10, v8, a4);
+    v62 = a1 + 392u * 1u;
+    f165(v11, v62, v10, v8, a4);
+    v63 = a1 + 840u * 1u;
+    v64 = load8(v63);
+    v65 = (u8)((v64) & UINT64_C(1));
+    if (v65) { goto L7; }
+    else { v6 = 0u; goto L8; }
+L7:;
+    v66 = a1 + 841u * 1u;
+    v67 = load8(v66);
+    v68 = (u8)((v67) & UINT64_C(1));
+    v6 = v68; goto L8;
+L8:;
+    v69 = (u8)v6;
+    store8(v63, v69);
+    v70 = a0 + 8u * 1u;
+    store32(a0, 0u);
+    memory_cpy(v70, v9, 72u);
+    goto L1;
+L9:;
+    store8(a0, 1u);
+    v71 = a0 + 1u * 1u;
+    store8(v71, v53);
+    v72 = a0 + 2u * 1u;
+    store8(v72, v55);
+    v73 = a0 + 3u * 1u;
+    store8(v73, v57);
+    v74 = a0 + 8u * 1u;
+    memory_set(v74, 0u, 72u);
+    goto L1;
 }
 
-static void f159(address a0, address a1, u8 a2, u16 a3, u16 a4, address a5, u64 a6) {
+static void f168(address a0, address a1, u8 a2, u16 a3, u16 a4, address a5, u64 a6) {
     u8 v7, v8, v9, v10, v11, v12, v13, v14, v15, v16, v17, v24, v25, v27, v28, v33;
     u8 v37, v38, v43, v44, v45, v54, v55, v56, v57, v58, v59, v63, v64, v65, v66, v71;
     u8 v72, v73, v74, v75, v78, v79, v82, v83, v86, v90;
@@ -35584,7 +37957,7 @@ L9:;
     memory_set(v62, 0u, 68u);
     goto L2;
 L10:;
-    f31(v21, a1);
+    f32(v21, a1);
     memory_cpy(v20, v21, 1272u);
     switch (a3) {
     case 0u: v7 = 0u; v8 = 0u; v9 = 0u; v10 = 0u; goto L31;
@@ -35767,12 +38140,12 @@ L52:;
     store8(v88, v13);
     v89 = v18 + 3u * 1u;
     store8(v89, v14);
-    v90 = f34(v18, a5, a6);
+    v90 = f35(v18, a5, a6);
     if (v90) { goto L53; }
     else { v15 = 1u; v16 = 4u; v17 = 3u; goto L54; }
 L53:;
-    f35(a1, v9, v10, v19);
-    f40(v23, a1, v20);
+    f36(a1, v9, v10, v19);
+    f41(v23, a1, v20);
     v91 = v22 + 1u * 1u;
     memory_cpy(v91, v23, 68u);
     v15 = 0u; v16 = 0u; v17 = 0u; goto L54;
@@ -35788,7 +38161,7 @@ L54:;
     goto L2;
 }
 
-static void f160(address a0, address a1, u16 a2, address a3, u64 a4) {
+static void f169(address a0, address a1, u16 a2, address a3, u64 a4) {
     u16 v5, v7, v8, v9, v10, v27, v35, v37, v41, v43, v49, v86, v87, v88, v89, v90;
     u16 v91, v92, v93, v127, v139, v140, v141, v142, v143, v144, v145, v146, v147;
     u64 v6, v24, v26, v33, v47, v70, v71, v81, v83, v85, v102, v104, v117, v124, v126;
@@ -35836,7 +38209,7 @@ L3:;
     memory_set(v29, 0u, 153u);
     goto L2;
 L4:;
-    f82(v17, a1, a3, a4);
+    f90(v17, a1, a3, a4);
     v30 = load8(v17);
     v31 = v30 == 1u;
     if (v31) { goto L5; }
@@ -35945,7 +38318,7 @@ L9:;
     store_address(v98, v84);
     v99 = v13 + 16u * 1u;
     store64(v99, v85);
-    v100 = f64(v13);
+    v100 = f66(v13);
     if (v100) { goto L10; }
     else { goto L16; }
 L10:;
@@ -36000,7 +38373,7 @@ L15:;
 L16:;
     v6 = 0u; v7 = 0u; v8 = 0u; v9 = 0u; v10 = 0u; v11 = 0u; v12 = 0u; goto L19;
 L17:;
-    v129 = f65(a1, v14);
+    v129 = f67(a1, v14);
     v130 = v129 < 2u;
     if (v130) { goto L18; }
     else { v6 = 0u; v7 = 0u; v8 = 0u; v9 = 0u; v10 = 0u; v11 = 0u; v12 = 0u; goto L19; }
@@ -36051,7 +38424,7 @@ L19:;
     goto L2;
 }
 
-static void f161(address a0, address a1, u16 a2, address a3, u64 a4) {
+static void f170(address a0, address a1, u16 a2, address a3, u64 a4) {
     address v5, v7, v8, v9, v10, v11, v12, v13, v16, v19, v20, v21, v22, v23, v27, v29;
     address v31, v37, v40, v41, v42, v44, v47, v52, v53, v55, v56, v59, v60, v61, v62, v63;
     address v65, v67, v70, v71, v72, v73;
@@ -36138,7 +38511,7 @@ L9:;
 L10:;
     return;
 L11:;
-    f160(v11, v7, a2, a3, a4);
+    f169(v11, v7, a2, a3, a4);
     v51 = load8(v11);
     store8(a0, v51);
     v52 = a0 + 1u * 1u;
@@ -36160,7 +38533,7 @@ L12:;
     memory_move(v19, v61, 384u);
     memory_cpy(v61, v9, 384u);
     v62 = load_address(a1);
-    f160(v12, v62, a2, a3, a4);
+    f169(v12, v62, a2, a3, a4);
     v63 = load_address(a1);
     memory_cpy(v8, v63, 384u);
     memory_move(v63, v61, 384u);
@@ -37207,7 +39580,7 @@ L75:;
 L76:;
     v342 = v12.m1;
     v343 = (u64)v342;
-    v344 = ADDRESS(c368) + v343 * 4u;
+    v344 = ADDRESS(c369) + v343 * 4u;
     v345 = load32(v344);
     v47 = v345; goto L77;
 L77:;
@@ -37825,7 +40198,7 @@ L19:;
 L20:;
     v74 = v4.m1;
     v75 = (u64)v74;
-    v76 = ADDRESS(c368) + v75 * 4u;
+    v76 = ADDRESS(c369) + v75 * 4u;
     v77 = load32(v76);
     v8 = v77; goto L21;
 L21:;
@@ -39088,15 +41461,15 @@ L59:;
 
 u32 portable_ptpm_clock_decide(address a0, address a1, address a2, u64 a3, address a4) {
     u64 v5, v6, v7, v17, v42, v47, v51, v53, v55, v56, v57, v61, v63, v64, v65, v66;
-    u64 v69, v70, v74, v80, v81, v84, v85, v86, v91, v97;
-    u32 v8, v9, v109, v110, v117, v118;
+    u64 v69, v70, v74, v80, v81, v84, v85, v86, v88, v92, v98;
+    u32 v8, v9, v110, v111, v118, v119;
     address v10, v11, v12, v13, v14, v15, v18, v19, v22, v25, v26, v27, v28, v31, v35, v37;
     address v39, v40, v41, v43, v46, v49, v50, v52, v54, v58, v62, v67, v72, v73, v76, v77;
-    address v78, v82, v83, v89, v92, v94, v96, v98, v99, v100, v101, v102, v103, v104, v105, v106;
-    address v107, v108, v111, v113;
+    address v78, v82, v83, v90, v93, v95, v97, v99, v100, v101, v102, v103, v104, v105, v106, v107;
+    address v108, v109, v112, v114;
     u8 v16, v20, v21, v23, v24, v29, v30, v33, v34, v36, v38, v44, v45, v48, v59, v60;
-    u8 v71, v75, v79, v87, v88, v93, v95, v112, v114, v115, v116;
-    u16 v32, v68, v90;
+    u8 v71, v75, v79, v87, v89, v94, v96, v113, v115, v116, v117;
+    u16 v32, v68, v91;
     u64 block0[12];
     u64 block1[10];
     u64 block2[11];
@@ -39117,13 +41490,13 @@ u32 portable_ptpm_clock_decide(address a0, address a1, address a2, u64 a3, addre
     v20 = load8(v19);
     v21 = (u8)((v20) & UINT64_C(1));
     if (v21) { goto L1; }
-    else { v9 = 32u; goto L31; }
+    else { v9 = 32u; goto L32; }
 L1:;
     v22 = load_address(a0);
     v23 = load8(v22);
     v24 = v23 == 4u;
     if (v24) { goto L2; }
-    else { v9 = 32u; goto L31; }
+    else { v9 = 32u; goto L32; }
 L2:;
     v25 = v22 + 8u * 1u;
     v26 = load_address(v25);
@@ -39143,9 +41516,9 @@ L3:;
     v33 = load8(v14);
     v34 = v33 == 0u;
     if (v34) { goto L5; }
-    else { goto L28; }
+    else { goto L29; }
 L4:;
-    v8 = 124u; goto L30;
+    v8 = 124u; goto L31;
 L5:;
     v35 = v14 + 8u * 1u;
     v36 = load8(v35);
@@ -39159,13 +41532,13 @@ L5:;
     v44 = load8(v43);
     v45 = (u8)((v44) & UINT64_C(1));
     if (v45) { goto L6; }
-    else { goto L29; }
+    else { goto L30; }
 L6:;
     v46 = v26 + 816u * 1u;
     v47 = load64(v46);
     v48 = v47 == 0u;
     if (v48) { goto L7; }
-    else { goto L29; }
+    else { goto L30; }
 L7:;
     v49 = load_address(v26);
     v50 = v26 + 784u * 1u;
@@ -39191,7 +41564,7 @@ L7:;
     v70 = v69 > v66 ? v69 : v66;
     v71 = v70 > v57;
     if (v71) { goto L8; }
-    else { goto L12; }
+    else { goto L13; }
 L8:;
     v72 = v49 + 384u * 1u;
     memory_set(v12, 0u, 88u);
@@ -39199,12 +41572,12 @@ L8:;
     v73 = v12 + 80u * 1u;
     v74 = load64(v73);
     v75 = v74 == 0u;
-    if (v75) { v7 = v66; goto L11; }
+    if (v75) { v7 = v66; goto L12; }
     else { goto L9; }
 L9:;
     v76 = v12 + 16u * 1u;
     v77 = load_address(v12);
-    v5 = v66; v6 = 0u; goto L10;
+    v5 = 0u; v6 = 0u; goto L10;
 L10:;
     v78 = v76 + v6 * 1u;
     v79 = load8(v78);
@@ -39216,113 +41589,116 @@ L10:;
     v85 = v5 > v84 ? v5 : v84;
     v86 = (u64)((u64)v6 + (u64)1u);
     v87 = v86 == v74;
-    if (v87) { v7 = v85; goto L11; }
+    if (v87) { goto L11; }
     else { v5 = v85; v6 = v86; goto L10; }
 L11:;
-    v88 = v7 > v57;
-    if (v88) { goto L29; }
-    else { goto L12; }
+    v88 = v85 > v66 ? v85 : v66;
+    v7 = v88; goto L12;
 L12:;
-    v89 = v13 + 2u * 1u;
-    v90 = load16(v89);
-    v91 = (u64)v90;
-    v92 = v13 + 4u * 1u;
+    v89 = v7 > v57;
+    if (v89) { goto L30; }
+    else { goto L13; }
+L13:;
+    v90 = v13 + 2u * 1u;
+    v91 = load16(v90);
+    v92 = (u64)v91;
+    v93 = v13 + 4u * 1u;
     memory_set(v10, 0u, 96u);
     switch (v36) {
-    case 0u: goto L13;
-    case 1u: goto L14;
-    case 2u: goto L15;
-    default: goto L16;
+    case 0u: goto L14;
+    case 1u: goto L15;
+    case 2u: goto L16;
+    default: goto L17;
     }
-L13:;
-    f43(v10, v49, v32, v92, v91, v18, a3);
-    goto L17;
 L14:;
-    f58(v10, v49, v32, v92, v91, v38, v18, a3);
-    goto L17;
+    f44(v10, v49, v32, v93, v92, v18, a3);
+    goto L18;
 L15:;
-    f63(v10, v49, v32, v92, v91, v40, v42, v18, a3);
-    goto L17;
+    f60(v10, v49, v32, v93, v92, v38, v18, a3);
+    goto L18;
 L16:;
-    UNREACHABLE;
+    f65(v10, v49, v32, v93, v92, v40, v42, v18, a3);
+    goto L18;
 L17:;
-    v93 = load8(v10);
-    v94 = v10 + 1u * 1u;
-    v95 = load8(v94);
-    v96 = v10 + 8u * 1u;
-    v97 = load64(v96);
-    v98 = v10 + 16u * 1u;
-    memory_cpy(v11, v98, 76u);
-    v99 = v26 + 776u * 1u;
-    f69(v99, v18, v97);
-    v100 = load_address(v26);
-    v101 = v100 + 424u * 1u;
-    v102 = v26 + 841u * 1u;
-    memory_set(v101, 0u, 190u);
-    store8(v102, 1u);
-    v103 = v26 + 842u * 1u;
-    store8(v103, 1u);
-    v104 = v26 + 844u * 1u;
-    store8(v104, 0u);
-    v105 = v11 + 8u * 1u;
-    memory_cpy(v15, v105, 68u);
-    store64(a4, 0u);
-    v106 = a4 + 8u * 1u;
-    store64(v106, v97);
-    v107 = a4 + 16u * 1u;
-    memory_cpy(v107, v15, 68u);
-    v108 = a4 + 84u * 1u;
-    store32(v108, 0u);
-    switch (v93) {
-    case 0u: goto L18;
-    case 9u: goto L26;
-    case 1u: v8 = 1u; goto L30;
-    case 2u: goto L19;
-    case 3u: goto L20;
-    case 4u: goto L21;
-    case 5u: goto L22;
-    case 6u: goto L23;
-    case 7u: goto L24;
-    case 8u: goto L25;
-    default: goto L27;
-    }
-L18:;
-    v109 = (u32)v95;
-    v110 = (u32)((u32)v109 + (u32)16u);
-    v8 = v110; goto L30;
-L19:;
-    v8 = 2u; goto L30;
-L20:;
-    v8 = 3u; goto L30;
-L21:;
-    v8 = 4u; goto L30;
-L22:;
-    v8 = 5u; goto L30;
-L23:;
-    v8 = 6u; goto L30;
-L24:;
-    v8 = 7u; goto L30;
-L25:;
-    v8 = 8u; goto L30;
-L26:;
-    v8 = 9u; goto L30;
-L27:;
     UNREACHABLE;
+L18:;
+    v94 = load8(v10);
+    v95 = v10 + 1u * 1u;
+    v96 = load8(v95);
+    v97 = v10 + 8u * 1u;
+    v98 = load64(v97);
+    v99 = v10 + 16u * 1u;
+    memory_cpy(v11, v99, 76u);
+    v100 = v26 + 776u * 1u;
+    f71(v100, v18, v98);
+    v101 = load_address(v26);
+    v102 = v101 + 424u * 1u;
+    v103 = v26 + 841u * 1u;
+    memory_set(v102, 0u, 190u);
+    store8(v103, 1u);
+    v104 = v26 + 842u * 1u;
+    store8(v104, 1u);
+    v105 = v26 + 844u * 1u;
+    store8(v105, 0u);
+    v106 = v11 + 8u * 1u;
+    memory_cpy(v15, v106, 68u);
+    store64(a4, 0u);
+    v107 = a4 + 8u * 1u;
+    store64(v107, v98);
+    v108 = a4 + 16u * 1u;
+    memory_cpy(v108, v15, 68u);
+    v109 = a4 + 84u * 1u;
+    store32(v109, 0u);
+    switch (v94) {
+    case 0u: goto L19;
+    case 9u: goto L27;
+    case 1u: v8 = 1u; goto L31;
+    case 2u: goto L20;
+    case 3u: goto L21;
+    case 4u: goto L22;
+    case 5u: goto L23;
+    case 6u: goto L24;
+    case 7u: goto L25;
+    case 8u: goto L26;
+    default: goto L28;
+    }
+L19:;
+    v110 = (u32)v96;
+    v111 = (u32)((u32)v110 + (u32)16u);
+    v8 = v111; goto L31;
+L20:;
+    v8 = 2u; goto L31;
+L21:;
+    v8 = 3u; goto L31;
+L22:;
+    v8 = 4u; goto L31;
+L23:;
+    v8 = 5u; goto L31;
+L24:;
+    v8 = 6u; goto L31;
+L25:;
+    v8 = 7u; goto L31;
+L26:;
+    v8 = 8u; goto L31;
+L27:;
+    v8 = 9u; goto L31;
 L28:;
-    v111 = v14 + 1u * 1u;
-    v112 = load8(v111);
-    v113 = v14 + 2u * 1u;
-    v114 = load8(v113);
-    v115 = v112 == 0u;
-    v116 = v114 == 0u;
-    v117 = v116 ? 33u : 34u;
-    v118 = v115 ? v117 : 121u;
-    v8 = v118; goto L30;
+    UNREACHABLE;
 L29:;
-    v8 = 118u; goto L30;
+    v112 = v14 + 1u * 1u;
+    v113 = load8(v112);
+    v114 = v14 + 2u * 1u;
+    v115 = load8(v114);
+    v116 = v113 == 0u;
+    v117 = v115 == 0u;
+    v118 = v117 ? 33u : 34u;
+    v119 = v116 ? v118 : 121u;
+    v8 = v119; goto L31;
 L30:;
-    v9 = v8; goto L31;
+    v8 = 118u; goto L31;
 L31:;
+    v9 = v8; goto L32;
+L32:;
     return v9;
 }
 
@@ -39409,21 +41785,21 @@ L5:;
 
 u32 portable_ptpm_clock_handle(address a0, u16 a1, address a2, u64 a3, address a4, u64 a5, address a6) {
     u64 v7, v8, v9, v11, v13, v25, v28, v43, v45, v48, v49, v50, v54, v55, v58, v64;
-    u64 v65, v68, v69, v70, v92, v102, v110, v116, v138, v139, v145, v147, v149, v172, v177, v182;
-    u64 v203, v204, v205, v206, v208, v210, v211, v212, v213, v214;
-    u16 v10, v46, v53, v97, v98, v99, v100, v107, v108, v109, v120, v123, v124, v125, v131, v132;
-    u16 v133, v134, v150, v151, v152, v153, v154, v179, v189, v190;
+    u64 v65, v68, v69, v70, v72, v93, v103, v111, v117, v139, v140, v146, v148, v150, v173, v178;
+    u64 v183, v204, v205, v206, v207, v209, v211, v212, v213, v214, v215;
+    u16 v10, v46, v53, v98, v99, v100, v101, v108, v109, v110, v121, v124, v125, v126, v132, v133;
+    u16 v134, v135, v151, v152, v153, v154, v155, v180, v190, v191;
     address v12, v14, v15, v17, v18, v19, v20, v21, v22, v23, v26, v29, v30, v31, v34, v37;
-    address v38, v40, v44, v51, v52, v57, v60, v61, v62, v66, v67, v73, v74, v77, v78, v81;
-    address v85, v87, v91, v93, v95, v101, v103, v105, v113, v115, v118, v121, v126, v127, v129, v135;
-    address v140, v142, v144, v146, v148, v155, v156, v157, v158, v159, v160, v163, v167, v169, v171, v174;
-    address v175, v176, v178, v181, v185, v192, v193, v194, v195, v198, v199, v200, v201, v202, v209;
-    u32 v16, v165, v166;
-    u8 v24, v27, v32, v33, v35, v36, v39, v41, v42, v47, v56, v59, v63, v71, v72, v75;
-    u8 v76, v79, v80, v82, v83, v84, v86, v88, v89, v90, v94, v96, v104, v106, v111, v112;
-    u8 v114, v117, v119, v122, v128, v130, v136, v137, v141, v143, v162, v164, v168, v170, v173, v180;
-    u8 v183, v184, v186, v187, v188, v191, v196, v197, v207;
-    struct s1 v161;
+    address v38, v40, v44, v51, v52, v57, v60, v61, v62, v66, v67, v74, v75, v78, v79, v82;
+    address v86, v88, v92, v94, v96, v102, v104, v106, v114, v116, v119, v122, v127, v128, v130, v136;
+    address v141, v143, v145, v147, v149, v156, v157, v158, v159, v160, v161, v164, v168, v170, v172, v175;
+    address v176, v177, v179, v182, v186, v193, v194, v195, v196, v199, v200, v201, v202, v203, v210;
+    u32 v16, v166, v167;
+    u8 v24, v27, v32, v33, v35, v36, v39, v41, v42, v47, v56, v59, v63, v71, v73, v76;
+    u8 v77, v80, v81, v83, v84, v85, v87, v89, v90, v91, v95, v97, v105, v107, v112, v113;
+    u8 v115, v118, v120, v123, v129, v131, v137, v138, v142, v144, v163, v165, v169, v171, v174, v181;
+    u8 v184, v185, v187, v188, v189, v192, v197, v198, v208;
+    struct s1 v162;
     u64 block0[11];
     u64 block1[1];
     u64 block2[2];
@@ -39451,19 +41827,19 @@ u32 portable_ptpm_clock_handle(address a0, u16 a1, address a2, u64 a3, address a
     v32 = load8(v31);
     v33 = (u8)((v32) & UINT64_C(1));
     if (v33) { goto L1; }
-    else { v16 = 32u; goto L43; }
+    else { v16 = 32u; goto L44; }
 L1:;
     v34 = load_address(a0);
     v35 = load8(v34);
     v36 = v35 == 1u;
     if (v36) { goto L2; }
-    else { v16 = 32u; goto L43; }
+    else { v16 = 32u; goto L44; }
 L2:;
     v37 = v34 + 8u * 1u;
     v38 = load_address(v37);
     store64(a6, 0u);
     v39 = a1 == 0u;
-    if (v39) { goto L42; }
+    if (v39) { goto L43; }
     else { goto L3; }
 L3:;
     v40 = v38 + 240u * 1u;
@@ -39474,7 +41850,7 @@ L3:;
     v45 = load64(v44);
     v46 = (u16)(v45);
     v47 = a1 > v46;
-    if (v47) { goto L42; }
+    if (v47) { goto L43; }
     else { goto L4; }
 L4:;
     v48 = (u64)((u64)v45 << (1u & 63u));
@@ -39487,19 +41863,19 @@ L4:;
     v55 = v54 > v50 ? v54 : v50;
     v56 = v55 > a5;
     if (v56) { goto L5; }
-    else { goto L9; }
+    else { goto L10; }
 L5:;
     memory_set(v17, 0u, 88u);
     f22(v17, v51);
     v57 = v17 + 80u * 1u;
     v58 = load64(v57);
     v59 = v58 == 0u;
-    if (v59) { v9 = v50; goto L8; }
+    if (v59) { v9 = v50; goto L9; }
     else { goto L6; }
 L6:;
     v60 = v17 + 16u * 1u;
     v61 = load_address(v17);
-    v7 = v50; v8 = 0u; goto L7;
+    v7 = 0u; v8 = 0u; goto L7;
 L7:;
     v62 = v60 + v8 * 1u;
     v63 = load8(v62);
@@ -39511,290 +41887,1270 @@ L7:;
     v69 = v7 > v68 ? v7 : v68;
     v70 = (u64)((u64)v8 + (u64)1u);
     v71 = v70 == v58;
-    if (v71) { v9 = v69; goto L8; }
+    if (v71) { goto L8; }
     else { v7 = v69; v8 = v70; goto L7; }
 L8:;
-    v72 = v9 > a5;
-    if (v72) { goto L41; }
-    else { goto L9; }
+    v72 = v69 > v50 ? v69 : v50;
+    v9 = v72; goto L9;
 L9:;
+    v73 = v9 > a5;
+    if (v73) { goto L42; }
+    else { goto L10; }
+L10:;
     store_address(v23, v29);
-    v73 = v23 + 8u * 1u;
-    store64(v73, a5);
-    v74 = v23 + 16u * 1u;
-    store64(v74, 0u);
+    v74 = v23 + 8u * 1u;
+    store64(v74, a5);
+    v75 = v23 + 16u * 1u;
+    store64(v75, 0u);
     memory_set(v22, 0u, 32u);
     f8(v22, v26, a3);
-    v75 = load8(v22);
-    v76 = v75 == 0u;
-    if (v76) { goto L10; }
-    else { goto L22; }
-L10:;
-    v77 = v22 + 8u * 1u;
-    memory_cpy(v21, v77, 24u);
-    v78 = load_address(v21);
-    v79 = load8(v78);
-    v80 = (u8)((u32)v79 >> (4u & 7u));
-    v81 = v78 + 5u * 1u;
-    v82 = load8(v81);
-    v83 = (u8)((u32)v80 | (u32)v82);
-    v84 = v83 == 0u;
-    if (v84) { goto L11; }
-    else { goto L32; }
+    v76 = load8(v22);
+    v77 = v76 == 0u;
+    if (v77) { goto L11; }
+    else { goto L23; }
 L11:;
-    v85 = v78 + 4u * 1u;
-    v86 = load8(v85);
-    v87 = v38 + 8u * 1u;
-    v88 = load8(v87);
-    v89 = v86 == v88;
-    if (v89) { goto L14; }
-    else { goto L12; }
+    v78 = v22 + 8u * 1u;
+    memory_cpy(v21, v78, 24u);
+    v79 = load_address(v21);
+    v80 = load8(v79);
+    v81 = (u8)((u32)v80 >> (4u & 7u));
+    v82 = v79 + 5u * 1u;
+    v83 = load8(v82);
+    v84 = (u8)((u32)v81 | (u32)v83);
+    v85 = v84 == 0u;
+    if (v85) { goto L12; }
+    else { goto L33; }
 L12:;
-    v90 = f44(v38, v21);
-    if (v90) { goto L13; }
-    else { goto L32; }
+    v86 = v79 + 4u * 1u;
+    v87 = load8(v86);
+    v88 = v38 + 8u * 1u;
+    v89 = load8(v88);
+    v90 = v87 == v89;
+    if (v90) { goto L15; }
+    else { goto L13; }
 L13:;
-    v91 = v78 + 20u * 1u;
-    v92 = load64(v91);
-    v93 = v78 + 28u * 1u;
-    v94 = load8(v93);
-    v95 = v78 + 29u * 1u;
-    v96 = load8(v95);
-    v97 = (u16)v94;
-    v98 = (u16)((u32)v97 << (8u & 15u));
-    v99 = (u16)v96;
-    v100 = (u16)((u32)v98 | (u32)v99);
-    v10 = v100; v11 = v92; goto L23;
+    v91 = f45(v38, v21);
+    if (v91) { goto L14; }
+    else { goto L33; }
 L14:;
-    v101 = v78 + 20u * 1u;
-    v102 = load64(v101);
-    v103 = v78 + 28u * 1u;
-    v104 = load8(v103);
-    v105 = v78 + 29u * 1u;
-    v106 = load8(v105);
-    v107 = (u16)v104;
-    v108 = (u16)((u32)v107 << (8u & 15u));
-    v109 = (u16)v106;
-    v110 = load64(v51);
-    v111 = v102 == v110;
-    if (v111) { goto L33; }
-    else { goto L15; }
+    v92 = v79 + 20u * 1u;
+    v93 = load64(v92);
+    v94 = v79 + 28u * 1u;
+    v95 = load8(v94);
+    v96 = v79 + 29u * 1u;
+    v97 = load8(v96);
+    v98 = (u16)v95;
+    v99 = (u16)((u32)v98 << (8u & 15u));
+    v100 = (u16)v97;
+    v101 = (u16)((u32)v99 | (u32)v100);
+    v10 = v101; v11 = v93; goto L24;
 L15:;
-    v112 = f45(v38, v21);
-    if (v112) { goto L16; }
-    else { goto L34; }
+    v102 = v79 + 20u * 1u;
+    v103 = load64(v102);
+    v104 = v79 + 28u * 1u;
+    v105 = load8(v104);
+    v106 = v79 + 29u * 1u;
+    v107 = load8(v106);
+    v108 = (u16)v105;
+    v109 = (u16)((u32)v108 << (8u & 15u));
+    v110 = (u16)v107;
+    v111 = load64(v51);
+    v112 = v103 == v111;
+    if (v112) { goto L34; }
+    else { goto L16; }
 L16:;
-    v113 = v21 + 16u * 1u;
-    v114 = load8(v113);
-    switch (v114) {
-    case 2u: goto L35;
-    case 4u: goto L35;
-    case 0u: goto L18;
-    case 1u: goto L18;
-    case 3u: goto L18;
-    default: goto L17;
-    }
+    v113 = f46(v38, v21);
+    if (v113) { goto L17; }
+    else { goto L35; }
 L17:;
-    UNREACHABLE;
-L18:;
-    v115 = v78 + 34u * 1u;
-    v116 = load64(v115);
-    v117 = v116 == v110;
-    if (v117) { goto L20; }
-    else { goto L19; }
-L19:;
-    goto L40;
-L20:;
-    v118 = v78 + 43u * 1u;
-    v119 = load8(v118);
-    v120 = (u16)v119;
-    v121 = v78 + 42u * 1u;
-    v122 = load8(v121);
-    v123 = (u16)v122;
-    v124 = (u16)((u32)v123 << (8u & 15u));
-    v125 = (u16)((u32)v108 | (u32)v109);
-    store64(v19, v102);
-    v126 = v19 + 8u * 1u;
-    store16(v126, v125);
-    v127 = v78 + 30u * 1u;
-    v128 = load8(v127);
-    v129 = v78 + 31u * 1u;
-    v130 = load8(v129);
-    v131 = (u16)v128;
-    v132 = (u16)((u32)v131 << (8u & 15u));
-    v133 = (u16)v130;
-    v134 = (u16)((u32)v132 | (u32)v133);
-    v135 = v21 + 17u * 1u;
-    v136 = load8(v135);
-    v137 = v136 == 0u;
-    v138 = v137 ? 52u : 54u;
-    v139 = v137 ? 53u : 55u;
-    v140 = v78 + v138 * 1u;
-    v141 = load8(v140);
-    v142 = v78 + v139 * 1u;
-    v143 = load8(v142);
-    v144 = v21 + 8u * 1u;
-    v145 = load64(v144);
-    v146 = v78 + 54u * 1u;
-    v147 = (u64)((u64)v145 + (u64)UINT64_C(18446744073709551562));
-    v148 = v137 ? v146 : ADDRESS(c148);
-    v149 = v137 ? v147 : 0u;
-    v150 = (u16)((u32)v124 | (u32)v120);
-    v151 = (u16)v141;
-    v152 = (u16)((u32)v151 << (8u & 15u));
-    v153 = (u16)v143;
-    v154 = (u16)((u32)v152 | (u32)v153);
-    store8(v20, v114);
-    v155 = v20 + 1u * 1u;
-    store8(v155, 0u);
-    v156 = v20 + 2u * 1u;
-    store16(v156, v154);
-    v157 = v20 + 4u * 1u;
-    store16(v157, v150);
-    v158 = v20 + 6u * 1u;
-    store16(v158, 0u);
-    v159 = v20 + 8u * 1u;
-    store_address(v159, v148);
-    v160 = v20 + 16u * 1u;
-    store64(v160, v149);
-    v161 = f46(v51, v19, v134, v20);
-    v162 = v161.m0;
-    switch (v162) {
-    case 0u: goto L40;
-    case 1u: goto L36;
-    case 2u: v10 = v125; v11 = v102; goto L23;
-    case 3u: goto L39;
-    case 4u: goto L38;
-    default: goto L21;
+    v114 = v21 + 16u * 1u;
+    v115 = load8(v114);
+    switch (v115) {
+    case 2u: goto L36;
+    case 4u: goto L36;
+    case 0u: goto L19;
+    case 1u: goto L19;
+    case 3u: goto L19;
+    default: goto L18;
     }
-L21:;
+L18:;
     UNREACHABLE;
+L19:;
+    v116 = v79 + 34u * 1u;
+    v117 = load64(v116);
+    v118 = v117 == v111;
+    if (v118) { goto L21; }
+    else { goto L20; }
+L20:;
+    goto L41;
+L21:;
+    v119 = v79 + 43u * 1u;
+    v120 = load8(v119);
+    v121 = (u16)v120;
+    v122 = v79 + 42u * 1u;
+    v123 = load8(v122);
+    v124 = (u16)v123;
+    v125 = (u16)((u32)v124 << (8u & 15u));
+    v126 = (u16)((u32)v109 | (u32)v110);
+    store64(v19, v103);
+    v127 = v19 + 8u * 1u;
+    store16(v127, v126);
+    v128 = v79 + 30u * 1u;
+    v129 = load8(v128);
+    v130 = v79 + 31u * 1u;
+    v131 = load8(v130);
+    v132 = (u16)v129;
+    v133 = (u16)((u32)v132 << (8u & 15u));
+    v134 = (u16)v131;
+    v135 = (u16)((u32)v133 | (u32)v134);
+    v136 = v21 + 17u * 1u;
+    v137 = load8(v136);
+    v138 = v137 == 0u;
+    v139 = v138 ? 52u : 54u;
+    v140 = v138 ? 53u : 55u;
+    v141 = v79 + v139 * 1u;
+    v142 = load8(v141);
+    v143 = v79 + v140 * 1u;
+    v144 = load8(v143);
+    v145 = v21 + 8u * 1u;
+    v146 = load64(v145);
+    v147 = v79 + 54u * 1u;
+    v148 = (u64)((u64)v146 + (u64)UINT64_C(18446744073709551562));
+    v149 = v138 ? v147 : ADDRESS(c148);
+    v150 = v138 ? v148 : 0u;
+    v151 = (u16)((u32)v125 | (u32)v121);
+    v152 = (u16)v142;
+    v153 = (u16)((u32)v152 << (8u & 15u));
+    v154 = (u16)v144;
+    v155 = (u16)((u32)v153 | (u32)v154);
+    store8(v20, v115);
+    v156 = v20 + 1u * 1u;
+    store8(v156, 0u);
+    v157 = v20 + 2u * 1u;
+    store16(v157, v155);
+    v158 = v20 + 4u * 1u;
+    store16(v158, v151);
+    v159 = v20 + 6u * 1u;
+    store16(v159, 0u);
+    v160 = v20 + 8u * 1u;
+    store_address(v160, v149);
+    v161 = v20 + 16u * 1u;
+    store64(v161, v150);
+    v162 = f47(v51, v19, v135, v20);
+    v163 = v162.m0;
+    switch (v163) {
+    case 0u: goto L41;
+    case 1u: goto L37;
+    case 2u: v10 = v126; v11 = v103; goto L24;
+    case 3u: goto L40;
+    case 4u: goto L39;
+    default: goto L22;
+    }
 L22:;
-    v163 = v22 + 1u * 1u;
-    v164 = load8(v163);
-    store64(a6, 0u);
-    v165 = (u32)v164;
-    v166 = (u32)((u32)v165 + (u32)16u);
-    v16 = v166; goto L43;
+    UNREACHABLE;
 L23:;
-    v167 = v78 + 44u * 1u;
-    v168 = load8(v167);
-    v169 = v78 + 45u * 1u;
-    v170 = load8(v169);
-    v171 = v38 + 400u * 1u;
-    v172 = load64(v171);
-    v173 = v172 == 0u;
-    if (v173) { goto L28; }
-    else { goto L24; }
+    v164 = v22 + 1u * 1u;
+    v165 = load8(v164);
+    store64(a6, 0u);
+    v166 = (u32)v165;
+    v167 = (u32)((u32)v166 + (u32)16u);
+    v16 = v167; goto L44;
 L24:;
-    v174 = v38 + 392u * 1u;
-    v175 = load_address(v174);
-    v12 = v175; v13 = v172; goto L25;
+    v168 = v79 + 44u * 1u;
+    v169 = load8(v168);
+    v170 = v79 + 45u * 1u;
+    v171 = load8(v170);
+    v172 = v38 + 400u * 1u;
+    v173 = load64(v172);
+    v174 = v173 == 0u;
+    if (v174) { goto L29; }
+    else { goto L25; }
 L25:;
-    v176 = v12 + 2144u * 1u;
-    v177 = (u64)((u64)v13 + (u64)UINT64_C(18446744073709551615));
-    v178 = v12 + 2120u * 1u;
-    v179 = load16(v178);
-    v180 = v10 == v179;
-    if (v180) { goto L26; }
-    else { goto L27; }
+    v175 = v38 + 392u * 1u;
+    v176 = load_address(v175);
+    v12 = v176; v13 = v173; goto L26;
 L26:;
-    v181 = v12 + 2112u * 1u;
-    v182 = load64(v181);
-    v183 = v11 == v182;
-    if (v183) { goto L29; }
-    else { goto L27; }
+    v177 = v12 + 2144u * 1u;
+    v178 = (u64)((u64)v13 + (u64)UINT64_C(18446744073709551615));
+    v179 = v12 + 2120u * 1u;
+    v180 = load16(v179);
+    v181 = v10 == v180;
+    if (v181) { goto L27; }
+    else { goto L28; }
 L27:;
-    v184 = v177 == 0u;
-    if (v184) { goto L28; }
-    else { v12 = v176; v13 = v177; goto L25; }
+    v182 = v12 + 2112u * 1u;
+    v183 = load64(v182);
+    v184 = v11 == v183;
+    if (v184) { goto L30; }
+    else { goto L28; }
 L28:;
+    v185 = v178 == 0u;
+    if (v185) { goto L29; }
+    else { v12 = v177; v13 = v178; goto L26; }
+L29:;
     TRAP;
     UNREACHABLE;
-L29:;
-    store64(v18, 0u);
-    v185 = v12 + 2129u * 1u;
-    v186 = load8(v185);
-    v187 = (u8)((v186) & UINT64_C(1));
-    v188 = (u8)(((u32)v187 ^ (u32)1u) & UINT64_C(1));
-    v189 = v187 ? 0u : a1;
-    v190 = (u16)v188;
-    v191 = v168 > v170 ? (u8)((u32)v168 - (u32)v170) : 0u;
-    store8(v18, v86);
-    v192 = v18 + 2u * 1u;
-    store16(v192, v190);
-    v193 = v18 + 4u * 1u;
-    store16(v193, v189);
-    v194 = v18 + 6u * 1u;
-    store8(v194, v191);
-    v195 = v12 + 1432u * 1u;
-    v196 = load8(v195);
-    v197 = v196 == 0u;
-    v198 = v12 + 1440u * 1u;
-    if (v197) { goto L30; }
-    else { goto L31; }
 L30:;
-    v199 = v12 + 1456u * 1u;
-    v14 = v198; v15 = v199; goto L37;
+    store64(v18, 0u);
+    v186 = v12 + 2129u * 1u;
+    v187 = load8(v186);
+    v188 = (u8)((v187) & UINT64_C(1));
+    v189 = (u8)(((u32)v188 ^ (u32)1u) & UINT64_C(1));
+    v190 = v188 ? 0u : a1;
+    v191 = (u16)v189;
+    v192 = v169 > v171 ? (u8)((u32)v169 - (u32)v171) : 0u;
+    store8(v18, v87);
+    v193 = v18 + 2u * 1u;
+    store16(v193, v191);
+    v194 = v18 + 4u * 1u;
+    store16(v194, v190);
+    v195 = v18 + 6u * 1u;
+    store8(v195, v192);
+    v196 = v12 + 1432u * 1u;
+    v197 = load8(v196);
+    v198 = v197 == 0u;
+    v199 = v12 + 1440u * 1u;
+    if (v198) { goto L31; }
+    else { goto L32; }
 L31:;
-    v200 = load_address(v198);
-    v201 = v12 + 1464u * 1u;
-    v202 = load_address(v201);
-    v14 = v200; v15 = v202; goto L37;
+    v200 = v12 + 1456u * 1u;
+    v14 = v199; v15 = v200; goto L38;
 L32:;
-    f55(v38, 1u, a1, v26, v77, v23);
-    v203 = load64(v74);
-    store64(a6, v203);
-    v16 = 1u; goto L43;
+    v201 = load_address(v199);
+    v202 = v12 + 1464u * 1u;
+    v203 = load_address(v202);
+    v14 = v201; v15 = v203; goto L38;
 L33:;
-    f55(v38, 2u, a1, v26, v77, v23);
-    v204 = load64(v74);
+    f57(v38, 1u, a1, v26, v78, v23);
+    v204 = load64(v75);
     store64(a6, v204);
-    v16 = 2u; goto L43;
+    v16 = 1u; goto L44;
 L34:;
-    f55(v38, 3u, a1, v26, v77, v23);
-    v205 = load64(v74);
+    f57(v38, 2u, a1, v26, v78, v23);
+    v205 = load64(v75);
     store64(a6, v205);
-    v16 = 3u; goto L43;
+    v16 = 2u; goto L44;
 L35:;
-    f55(v38, 4u, a1, v26, v77, v23);
-    v206 = load64(v74);
+    f57(v38, 3u, a1, v26, v78, v23);
+    v206 = load64(v75);
     store64(a6, v206);
-    v16 = 4u; goto L43;
+    v16 = 3u; goto L44;
 L36:;
-    v207 = v161.m1;
-    f48(v38, a1, v77, v207, v23);
-    v208 = load64(v74);
-    store64(a6, v208);
-    v16 = 5u; goto L43;
+    f57(v38, 4u, a1, v26, v78, v23);
+    v207 = load64(v75);
+    store64(a6, v207);
+    v16 = 4u; goto L44;
 L37:;
-    v209 = v12 + 1448u * 1u;
-    v210 = load64(v209);
-    f54(v14, v210, v15, v18, a1, v23);
-    v211 = load64(v74);
-    store64(a6, v211);
-    v16 = 6u; goto L43;
+    v208 = v162.m1;
+    f49(v38, a1, v78, v208, v23);
+    v209 = load64(v75);
+    store64(a6, v209);
+    v16 = 5u; goto L44;
 L38:;
-    f55(v38, 7u, a1, v26, v77, v23);
-    v212 = load64(v74);
+    v210 = v12 + 1448u * 1u;
+    v211 = load64(v210);
+    f56(v14, v211, v15, v18, a1, v23);
+    v212 = load64(v75);
     store64(a6, v212);
-    v16 = 7u; goto L43;
+    v16 = 6u; goto L44;
 L39:;
-    f55(v38, 8u, a1, v26, v77, v23);
-    v213 = load64(v74);
+    f57(v38, 7u, a1, v26, v78, v23);
+    v213 = load64(v75);
     store64(a6, v213);
-    v16 = 8u; goto L43;
+    v16 = 7u; goto L44;
 L40:;
-    f55(v38, 9u, a1, v26, v77, v23);
-    v214 = load64(v74);
+    f57(v38, 8u, a1, v26, v78, v23);
+    v214 = load64(v75);
     store64(a6, v214);
-    v16 = 9u; goto L43;
+    v16 = 8u; goto L44;
 L41:;
-    v16 = 34u; goto L43;
+    f57(v38, 9u, a1, v26, v78, v23);
+    v215 = load64(v75);
+    store64(a6, v215);
+    v16 = 9u; goto L44;
 L42:;
-    v16 = 33u; goto L43;
+    v16 = 34u; goto L44;
 L43:;
+    v16 = 33u; goto L44;
+L44:;
     return v16;
+}
+
+u32 portable_ptpm_clock_handle_shared(address a0, u16 a1, address a2, u64 a3, address a4, u64 a5, address a6) {
+    u64 v7, v8, v9, v11, v12, v13, v15, v17, v20, v22, v27, v30, v32, v34, v35, v37;
+    u64 v39, v40, v41, v42, v44, v45, v58, v61, v76, v78, v81, v84, v85, v89, v95, v96;
+    u64 v99, v100, v101, v103, v124, v134, v143, v146, v160, v162, v170, v175, v194, v195, v201, v203;
+    u64 v205, v220, v221, v265, v268, v273, v275, v277, v286, v290, v291, v292, v297, v301, v306, v316;
+    u64 v323, v329, v333, v336, v339, v341, v347, v352, v357, v373, v379, v381, v384, v394, v395, v398;
+    u64 v399, v406, v449, v451, v464, v475, v476, v478, v482, v483, v484, v486, v494, v495, v497, v501;
+    u64 v503, v504, v505, v512, v513, v514, v515;
+    address v10, v16, v18, v19, v21, v23, v31, v38, v47, v48, v49, v50, v51, v52, v53, v54;
+    address v55, v56, v59, v62, v63, v64, v67, v70, v71, v73, v77, v82, v87, v88, v91, v92;
+    address v93, v97, v98, v105, v106, v109, v110, v113, v117, v119, v123, v125, v127, v133, v135, v137;
+    address v142, v145, v147, v149, v161, v165, v167, v169, v171, v173, v182, v183, v185, v191, v196, v198;
+    address v200, v202, v204, v210, v211, v212, v213, v214, v215, v218, v223, v225, v227, v228, v229, v230;
+    address v231, v232, v233, v234, v235, v236, v240, v241, v242, v244, v246, v248, v249, v250, v252, v253;
+    address v258, v260, v262, v263, v264, v267, v269, v272, v278, v279, v280, v281, v282, v283, v285, v294;
+    address v295, v299, v300, v303, v304, v307, v310, v311, v312, v314, v315, v318, v319, v321, v322, v327;
+    address v328, v331, v332, v335, v338, v342, v344, v346, v349, v350, v351, v353, v356, v360, v364, v367;
+    address v368, v369, v370, v371, v372, v378, v382, v383, v385, v387, v388, v389, v390, v391, v392, v393;
+    address v400, v402, v404, v405, v411, v412, v413, v414, v415, v416, v417, v419, v421, v422, v423, v427;
+    address v428, v429, v431, v433, v435, v436, v437, v439, v440, v445, v447, v448, v450, v458, v460, v463;
+    address v466, v472, v473, v474, v479, v480, v485, v492, v493, v498, v499, v502, v508, v510, v516, v521;
+    address v522;
+    u16 v14, v25, v26, v36, v79, v83, v129, v130, v131, v132, v139, v140, v141, v151, v152, v153;
+    u16 v154, v163, v176, v177, v178, v179, v180, v181, v187, v188, v189, v190, v206, v207, v208, v209;
+    u16 v243, v245, v247, v251, v259, v270, v305, v354, v375, v386, v407, v408, v409, v410, v430, v432;
+    u16 v434, v438, v446, v469, v487, v489, v491, v506;
+    u8 v24, v28, v29, v33, v43, v57, v60, v65, v66, v68, v69, v72, v74, v75, v80, v86;
+    u8 v90, v94, v102, v104, v107, v108, v111, v112, v114, v115, v116, v118, v120, v121, v122, v126;
+    u8 v128, v136, v138, v144, v148, v150, v155, v156, v157, v158, v159, v164, v166, v168, v172, v174;
+    u8 v184, v186, v192, v193, v197, v199, v217, v219, v222, v224, v226, v237, v239, v261, v266, v271;
+    u8 v274, v276, v284, v287, v288, v289, v293, v296, v298, v302, v308, v309, v313, v317, v320, v324;
+    u8 v325, v326, v330, v334, v337, v340, v343, v345, v348, v355, v358, v359, v361, v362, v363, v365;
+    u8 v366, v374, v376, v377, v380, v396, v397, v401, v403, v418, v420, v424, v426, v452, v453, v454;
+    u8 v455, v456, v457, v459, v461, v462, v465, v467, v468, v470, v471, v477, v481, v488, v490, v496;
+    u8 v500, v507, v509, v511, v517, v518, v519, v520;
+    u32 v46, v238, v254, v255, v256, v257, v425, v441, v442, v443, v444, v523, v524, v525;
+    struct s1 v216;
+    u64 block0[3];
+    u64 block1[9];
+    u64 block2[3];
+    u64 block3[9];
+    u64 block4[2];
+    u64 block5[3];
+    u64 block6[3];
+    u64 block7[4];
+    u64 block8[11];
+    u64 block9[3];
+    v47 = ADDRESS(block0);
+    v48 = ADDRESS(block1);
+    v49 = ADDRESS(block2);
+    v50 = ADDRESS(block3);
+    v51 = ADDRESS(block4);
+    v52 = ADDRESS(block5);
+    v53 = ADDRESS(block6);
+    v54 = ADDRESS(block7);
+    v55 = ADDRESS(block8);
+    v56 = ADDRESS(block9);
+    v57 = a2 == 0u;
+    v58 = v57 ? 4096u : 0u;
+    v59 = a2 + v58 * 1u;
+    v60 = a4 == 0u;
+    v61 = v60 ? 4096u : 0u;
+    v62 = a4 + v61 * 1u;
+    memory_set(a6, 0u, 24u);
+    v63 = a0 + 9u * 1u;
+    store8(v63, 0u);
+    v64 = a0 + 8u * 1u;
+    v65 = load8(v64);
+    v66 = (u8)((v65) & UINT64_C(1));
+    if (v66) { goto L1; }
+    else { v46 = 32u; goto L114; }
+L1:;
+    v67 = load_address(a0);
+    v68 = load8(v67);
+    v69 = v68 == 1u;
+    if (v69) { goto L2; }
+    else { v46 = 32u; goto L114; }
+L2:;
+    v70 = v67 + 8u * 1u;
+    v71 = load_address(v70);
+    memory_set(a6, 0u, 24u);
+    memory_set(v56, 0u, 24u);
+    v72 = a1 == 0u;
+    if (v72) { goto L113; }
+    else { goto L3; }
+L3:;
+    v73 = v71 + 240u * 1u;
+    v74 = load8(v73);
+    v75 = v74 == 0u;
+    v76 = v75 ? 376u : 256u;
+    v77 = v71 + v76 * 1u;
+    v78 = load64(v77);
+    v79 = (u16)(v78);
+    v80 = a1 > v79;
+    if (v80) { goto L113; }
+    else { goto L4; }
+L4:;
+    v81 = (u64)((u64)v78 & (u64)65535u);
+    v82 = v71 + 416u * 1u;
+    v83 = load16(v82);
+    v84 = (u64)v83;
+    v85 = v84 > v81 ? v84 : v81;
+    v86 = v85 > a5;
+    if (v86) { goto L5; }
+    else { goto L10; }
+L5:;
+    memory_set(v55, 0u, 88u);
+    v87 = v71 + 384u * 1u;
+    f22(v55, v87);
+    v88 = v55 + 80u * 1u;
+    v89 = load64(v88);
+    v90 = v89 == 0u;
+    if (v90) { v9 = v81; goto L9; }
+    else { goto L6; }
+L6:;
+    v91 = v55 + 16u * 1u;
+    v92 = load_address(v55);
+    v7 = 0u; v8 = 0u; goto L7;
+L7:;
+    v93 = v91 + v8 * 1u;
+    v94 = load8(v93);
+    v95 = (u64)v94;
+    v96 = (u64)((u64)v95 * (u64)2144u);
+    v97 = v92 + v96 * 1u;
+    v98 = v97 + 1448u * 1u;
+    v99 = load64(v98);
+    v100 = v7 > v99 ? v7 : v99;
+    v101 = (u64)((u64)v8 + (u64)1u);
+    v102 = v101 == v89;
+    if (v102) { goto L8; }
+    else { v7 = v100; v8 = v101; goto L7; }
+L8:;
+    v103 = v100 > v81 ? v100 : v81;
+    v9 = v103; goto L9;
+L9:;
+    v104 = v9 > a5;
+    if (v104) { goto L112; }
+    else { goto L10; }
+L10:;
+    store_address(v56, v62);
+    v105 = v56 + 8u * 1u;
+    store64(v105, a5);
+    v106 = v56 + 16u * 1u;
+    store64(v106, 0u);
+    memory_set(v54, 0u, 32u);
+    f8(v54, v59, a3);
+    v107 = load8(v54);
+    v108 = v107 == 0u;
+    if (v108) { goto L11; }
+    else { goto L26; }
+L11:;
+    v109 = v54 + 8u * 1u;
+    memory_cpy(v53, v109, 24u);
+    v110 = load_address(v53);
+    v111 = load8(v110);
+    v112 = (u8)((u32)v111 >> (4u & 7u));
+    v113 = v110 + 5u * 1u;
+    v114 = load8(v113);
+    v115 = (u8)((u32)v112 | (u32)v114);
+    v116 = v115 == 0u;
+    if (v116) { goto L12; }
+    else { v24 = 1u; goto L79; }
+L12:;
+    v117 = v110 + 4u * 1u;
+    v118 = load8(v117);
+    v119 = v71 + 8u * 1u;
+    v120 = load8(v119);
+    v121 = v118 == v120;
+    if (v121) { goto L15; }
+    else { goto L13; }
+L13:;
+    v122 = f45(v71, v53);
+    if (v122) { goto L14; }
+    else { v24 = 1u; goto L79; }
+L14:;
+    v123 = v110 + 20u * 1u;
+    v124 = load64(v123);
+    v125 = v110 + 28u * 1u;
+    v126 = load8(v125);
+    v127 = v110 + 29u * 1u;
+    v128 = load8(v127);
+    v129 = (u16)v126;
+    v130 = (u16)((u32)v129 << (8u & 15u));
+    v131 = (u16)v128;
+    v132 = (u16)((u32)v130 | (u32)v131);
+    v14 = v132; v15 = v124; goto L60;
+L15:;
+    v133 = v110 + 20u * 1u;
+    v134 = load64(v133);
+    v135 = v110 + 28u * 1u;
+    v136 = load8(v135);
+    v137 = v110 + 29u * 1u;
+    v138 = load8(v137);
+    v139 = (u16)v136;
+    v140 = (u16)((u32)v139 << (8u & 15u));
+    v141 = (u16)v138;
+    v142 = v71 + 384u * 1u;
+    v143 = load64(v142);
+    v144 = v134 == v143;
+    if (v144) { v24 = 2u; goto L79; }
+    else { goto L16; }
+L16:;
+    v145 = v110 + 34u * 1u;
+    v146 = load64(v145);
+    v147 = v110 + 42u * 1u;
+    v148 = load8(v147);
+    v149 = v110 + 43u * 1u;
+    v150 = load8(v149);
+    v151 = (u16)v148;
+    v152 = (u16)((u32)v151 << (8u & 15u));
+    v153 = (u16)v150;
+    v154 = (u16)((u32)v152 | (u32)v153);
+    v155 = v146 == v143;
+    v156 = v146 == UINT64_C(18446744073709551615);
+    v157 = (u8)(((u32)v156 | (u32)v155) & UINT64_C(1));
+    if (v157) { goto L17; }
+    else { v24 = 3u; goto L79; }
+L17:;
+    switch (v154) {
+    case 65535u: goto L19;
+    case 0u: v24 = 3u; goto L79;
+    default: goto L18;
+    }
+L18:;
+    v158 = load8(v73);
+    v159 = v158 == 0u;
+    v160 = v159 ? 376u : 256u;
+    v161 = v71 + v160 * 1u;
+    v162 = load64(v161);
+    v163 = (u16)(v162);
+    v164 = v154 > v163;
+    if (v164) { v24 = 3u; goto L79; }
+    else { goto L19; }
+L19:;
+    v165 = v53 + 16u * 1u;
+    v166 = load8(v165);
+    switch (v166) {
+    case 2u: v24 = 4u; goto L79;
+    case 4u: v24 = 4u; goto L79;
+    case 0u: goto L21;
+    case 1u: goto L21;
+    case 3u: goto L21;
+    default: goto L20;
+    }
+L20:;
+    UNREACHABLE;
+L21:;
+    if (v155) { goto L23; }
+    else { goto L22; }
+L22:;
+    v167 = v53 + 17u * 1u;
+    v168 = load8(v167);
+    v169 = v53 + 8u * 1u;
+    v170 = load64(v169);
+    v171 = v110 + 30u * 1u;
+    v172 = load8(v171);
+    v173 = v110 + 31u * 1u;
+    v174 = load8(v173);
+    v175 = (u64)((u64)v170 + (u64)UINT64_C(18446744073709551562));
+    v176 = (u16)((u32)v140 | (u32)v141);
+    v177 = (u16)v172;
+    v178 = (u16)((u32)v177 << (8u & 15u));
+    v179 = (u16)v174;
+    v180 = (u16)((u32)v178 | (u32)v179);
+    v25 = v180; v26 = v176; v27 = v175; v28 = v168; goto L80;
+L23:;
+    v181 = (u16)((u32)v140 | (u32)v141);
+    store64(v51, v134);
+    v182 = v51 + 8u * 1u;
+    store16(v182, v181);
+    v183 = v110 + 30u * 1u;
+    v184 = load8(v183);
+    v185 = v110 + 31u * 1u;
+    v186 = load8(v185);
+    v187 = (u16)v184;
+    v188 = (u16)((u32)v187 << (8u & 15u));
+    v189 = (u16)v186;
+    v190 = (u16)((u32)v188 | (u32)v189);
+    v191 = v53 + 17u * 1u;
+    v192 = load8(v191);
+    v193 = v192 == 0u;
+    v194 = v193 ? 52u : 54u;
+    v195 = v193 ? 53u : 55u;
+    v196 = v110 + v194 * 1u;
+    v197 = load8(v196);
+    v198 = v110 + v195 * 1u;
+    v199 = load8(v198);
+    v200 = v53 + 8u * 1u;
+    v201 = load64(v200);
+    v202 = v110 + 54u * 1u;
+    v203 = (u64)((u64)v201 + (u64)UINT64_C(18446744073709551562));
+    v204 = v193 ? v202 : ADDRESS(c148);
+    v205 = v193 ? v203 : 0u;
+    v206 = (u16)v197;
+    v207 = (u16)((u32)v206 << (8u & 15u));
+    v208 = (u16)v199;
+    v209 = (u16)((u32)v207 | (u32)v208);
+    store8(v52, v166);
+    v210 = v52 + 1u * 1u;
+    store8(v210, 0u);
+    v211 = v52 + 2u * 1u;
+    store16(v211, v209);
+    v212 = v52 + 4u * 1u;
+    store16(v212, v154);
+    v213 = v52 + 6u * 1u;
+    store16(v213, 0u);
+    v214 = v52 + 8u * 1u;
+    store_address(v214, v204);
+    v215 = v52 + 16u * 1u;
+    store64(v215, v205);
+    v216 = f47(v142, v51, v190, v52);
+    v217 = v216.m0;
+    switch (v217) {
+    case 0u: v25 = v190; v26 = v181; v27 = v203; v28 = v192; goto L80;
+    case 1u: goto L27;
+    case 2u: v14 = v181; v15 = v134; goto L60;
+    case 3u: v24 = 8u; goto L79;
+    case 4u: goto L24;
+    default: goto L25;
+    }
+L24:;
+    v24 = 7u; goto L79;
+L25:;
+    UNREACHABLE;
+L26:;
+    v218 = v54 + 1u * 1u;
+    v219 = load8(v218);
+    v220 = (u64)v219;
+    v221 = (u64)((u64)v220 << (8u & 63u));
+    v32 = 0u; v33 = 0u; v34 = v221; goto L91;
+L27:;
+    v222 = v216.m1;
+    v223 = v110 + 44u * 1u;
+    v224 = load8(v223);
+    v225 = v110 + 45u * 1u;
+    v226 = load8(v225);
+    store8(v49, v166);
+    v227 = v49 + 1u * 1u;
+    store8(v227, 0u);
+    v228 = v49 + 2u * 1u;
+    store16(v228, v209);
+    v229 = v49 + 4u * 1u;
+    store16(v229, v154);
+    v230 = v49 + 6u * 1u;
+    store16(v230, 0u);
+    v231 = v49 + 8u * 1u;
+    store_address(v231, v204);
+    v232 = v49 + 16u * 1u;
+    store64(v232, v205);
+    v233 = v50 + 54u * 1u;
+    v234 = v50 + 56u * 1u;
+    v235 = v50 + 58u * 1u;
+    v236 = v50 + 64u * 1u;
+    memory_set(v50, 0u, 64u);
+    store_address(v236, v56);
+    v237 = v166 > 2u;
+    v238 = v237 ? UINT32_C(262144) : UINT32_C(131072);
+    v239 = v224 > v226 ? (u8)((u32)v224 - (u32)v226) : 0u;
+    store16(v233, v209);
+    store16(v234, a1);
+    v240 = v50 + 48u * 1u;
+    store16(v50, 4621u);
+    v241 = v50 + 2u * 1u;
+    store16(v241, 13824u);
+    v242 = v50 + 4u * 1u;
+    v243 = (u16)v118;
+    store16(v242, v243);
+    v244 = v50 + 20u * 1u;
+    store64(v244, v143);
+    v245 = swap16(a1);
+    v246 = v50 + 28u * 1u;
+    store16(v246, v245);
+    v247 = swap16(v190);
+    v248 = v50 + 30u * 1u;
+    store16(v248, v247);
+    v249 = v50 + 32u * 1u;
+    store16(v249, 32516u);
+    v250 = v50 + 34u * 1u;
+    store64(v250, v134);
+    v251 = swap16(v181);
+    v252 = v50 + 42u * 1u;
+    store16(v252, v251);
+    v253 = v50 + 44u * 1u;
+    v254 = (u32)v239;
+    v255 = (u32)((u32)v254 << (8u & 31u));
+    v256 = (u32)((u32)v255 | (u32)v238);
+    v257 = (u32)((u32)v256 | (u32)v254);
+    store32(v253, v257);
+    store16(v240, 256u);
+    v258 = v50 + 50u * 1u;
+    store16(v258, 512u);
+    v259 = swap16(v209);
+    v260 = v50 + 52u * 1u;
+    store16(v260, v259);
+    f72(v71, v49, v222, v50);
+    v261 = load8(v235);
+    v262 = v71 + 392u * 1u;
+    v263 = load_address(v262);
+    v264 = v71 + 400u * 1u;
+    v265 = load64(v264);
+    v266 = v265 == 0u;
+    if (v266) { goto L59; }
+    else { v10 = v263; v11 = v265; v12 = 0u; goto L28; }
+L28:;
+    v267 = v10 + 2144u * 1u;
+    v268 = (u64)((u64)v11 + (u64)UINT64_C(18446744073709551615));
+    v269 = v10 + 2120u * 1u;
+    v270 = load16(v269);
+    v271 = v181 == v270;
+    if (v271) { goto L29; }
+    else { goto L30; }
+L29:;
+    v272 = v10 + 2112u * 1u;
+    v273 = load64(v272);
+    v274 = v134 == v273;
+    if (v274) { goto L31; }
+    else { goto L30; }
+L30:;
+    v275 = (u64)((u64)v12 + (u64)1u);
+    v276 = v268 == 0u;
+    if (v276) { goto L59; }
+    else { v10 = v267; v11 = v268; v12 = v275; goto L28; }
+L31:;
+    v277 = (u64)((u64)v12 * (u64)2144u);
+    v278 = v263 + v277 * 1u;
+    v279 = v278 + 2137u * 1u;
+    store8(v279, 1u);
+    v280 = v278 + 2122u * 1u;
+    store16(v280, v190);
+    v281 = v278 + 2128u * 1u;
+    store8(v281, v166);
+    v282 = v278 + 2124u * 1u;
+    store16(v282, v209);
+    v283 = v278 + 2126u * 1u;
+    store16(v283, v154);
+    v284 = v205 == 0u;
+    v285 = v278 + 1424u * 1u;
+    v286 = load64(v285);
+    v287 = v286 == 0u;
+    v288 = v284 ? v287 : 0u;
+    if (v288) { goto L37; }
+    else { goto L32; }
+L32:;
+    v289 = v286 == v205;
+    if (v289) { goto L33; }
+    else { goto L36; }
+L33:;
+    v290 = (u64)v278;
+    v291 = (u64)v204;
+    v292 = (u64)((u64)v290 - (u64)v291);
+    v293 = v292 < v205;
+    if (v293) { v13 = 0u; goto L35; }
+    else { goto L34; }
+L34:;
+    memory_move(v278, v204, v205);
+    goto L37;
+L35:;
+    v294 = v278 + v13 * 1u;
+    v295 = v204 + v13 * 1u;
+    v296 = load8(v295);
+    store8(v294, v296);
+    v297 = (u64)((u64)v13 + (u64)1u);
+    v298 = v297 == v205;
+    if (v298) { goto L37; }
+    else { v13 = v297; goto L35; }
+L36:;
+    f50(v278, v204, v205);
+    goto L37;
+L37:;
+    v299 = v278 + 2129u * 1u;
+    store8(v299, v261);
+    v300 = v278 + 1432u * 1u;
+    v301 = load64(v106);
+    v302 = v301 == 1u;
+    if (v302) { goto L38; }
+    else { goto L49; }
+L38:;
+    v303 = load_address(v56);
+    v304 = v303 + 2u * 1u;
+    v305 = load16(v304);
+    v306 = (u64)v305;
+    v307 = v303 + 4u * 1u;
+    v308 = load8(v300);
+    v309 = v308 == 0u;
+    v310 = v278 + 1440u * 1u;
+    if (v309) { goto L39; }
+    else { goto L46; }
+L39:;
+    v311 = v278 + 1456u * 1u;
+    v312 = v278 + 1441u * 1u;
+    memory_set(v312, 0u, 7u);
+    v313 = (u8)(v305);
+    v314 = v278 + 1448u * 1u;
+    store8(v310, v313);
+    store64(v314, 1u);
+    v315 = v278 + 2096u * 1u;
+    v316 = load64(v315);
+    v317 = v316 == v306;
+    if (v317) { goto L40; }
+    else { goto L45; }
+L40:;
+    switch (v305) {
+    case 54u: goto L41;
+    case 56u: goto L42;
+    case 80u: goto L43;
+    default: goto L44;
+    }
+L41:;
+    memory_move(v311, v307, 54u);
+    goto L59;
+L42:;
+    memory_move(v311, v307, 56u);
+    goto L59;
+L43:;
+    memory_move(v311, v307, 80u);
+    goto L59;
+L44:;
+    f51(v311, v307, v306);
+    goto L59;
+L45:;
+    f52(v311, v307, v306);
+    goto L59;
+L46:;
+    v318 = v278 + 1464u * 1u;
+    v319 = v278 + 1448u * 1u;
+    v320 = (u8)(v305);
+    v321 = load_address(v310);
+    store8(v321, v320);
+    store64(v319, 1u);
+    v322 = v278 + 1472u * 1u;
+    v323 = load64(v322);
+    v324 = v323 == 0u;
+    if (v324) { goto L48; }
+    else { goto L47; }
+L47:;
+    store64(v322, 0u);
+    goto L48;
+L48:;
+    f53(v318, v307, v306);
+    goto L59;
+L49:;
+    v325 = load8(v300);
+    v326 = v325 == 0u;
+    if (v326) { goto L50; }
+    else { goto L54; }
+L50:;
+    v327 = v278 + 1456u * 1u;
+    v328 = v278 + 1448u * 1u;
+    v329 = load64(v328);
+    v330 = v329 == 0u;
+    if (v330) { goto L52; }
+    else { goto L51; }
+L51:;
+    v331 = v278 + 1440u * 1u;
+    memory_set(v331, 0u, v329);
+    store64(v328, 0u);
+    goto L52;
+L52:;
+    v332 = v278 + 2096u * 1u;
+    v333 = load64(v332);
+    v334 = v333 == 0u;
+    if (v334) { goto L58; }
+    else { goto L53; }
+L53:;
+    memory_set(v327, 0u, v333);
+    store64(v332, 0u);
+    goto L58;
+L54:;
+    v335 = v278 + 1448u * 1u;
+    v336 = load64(v335);
+    v337 = v336 == 0u;
+    if (v337) { goto L56; }
+    else { goto L55; }
+L55:;
+    store64(v335, 0u);
+    goto L56;
+L56:;
+    v338 = v278 + 1472u * 1u;
+    v339 = load64(v338);
+    v340 = v339 == 0u;
+    if (v340) { goto L58; }
+    else { goto L57; }
+L57:;
+    store64(v338, 0u);
+    goto L58;
+L58:;
+    f75(v56, v300);
+    goto L59;
+L59:;
+    v341 = load64(v106);
+    v32 = v341; v33 = 5u; v34 = 0u; goto L91;
+L60:;
+    v342 = v110 + 44u * 1u;
+    v343 = load8(v342);
+    v344 = v110 + 45u * 1u;
+    v345 = load8(v344);
+    v346 = v71 + 400u * 1u;
+    v347 = load64(v346);
+    v348 = v347 == 0u;
+    if (v348) { goto L65; }
+    else { goto L61; }
+L61:;
+    v349 = v71 + 392u * 1u;
+    v350 = load_address(v349);
+    v16 = v350; v17 = v347; goto L62;
+L62:;
+    v351 = v16 + 2144u * 1u;
+    v352 = (u64)((u64)v17 + (u64)UINT64_C(18446744073709551615));
+    v353 = v16 + 2120u * 1u;
+    v354 = load16(v353);
+    v355 = v14 == v354;
+    if (v355) { goto L63; }
+    else { goto L64; }
+L63:;
+    v356 = v16 + 2112u * 1u;
+    v357 = load64(v356);
+    v358 = v15 == v357;
+    if (v358) { goto L66; }
+    else { goto L64; }
+L64:;
+    v359 = v352 == 0u;
+    if (v359) { goto L65; }
+    else { v16 = v351; v17 = v352; goto L62; }
+L65:;
+    TRAP;
+    UNREACHABLE;
+L66:;
+    v360 = v16 + 2129u * 1u;
+    v361 = load8(v360);
+    v362 = (u8)((v361) & UINT64_C(1));
+    v363 = v343 > v345 ? (u8)((u32)v343 - (u32)v345) : 0u;
+    v364 = v16 + 1432u * 1u;
+    v365 = load8(v364);
+    v366 = v365 == 0u;
+    v367 = v16 + 1440u * 1u;
+    if (v366) { goto L67; }
+    else { goto L68; }
+L67:;
+    v368 = v16 + 1456u * 1u;
+    v18 = v367; v19 = v368; goto L69;
+L68:;
+    v369 = load_address(v367);
+    v370 = v16 + 1464u * 1u;
+    v371 = load_address(v370);
+    v18 = v369; v19 = v371; goto L69;
+L69:;
+    v372 = v16 + 1448u * 1u;
+    v373 = load64(v372);
+    v374 = v373 == 0u;
+    if (v374) { v32 = 0u; v33 = 6u; v34 = 0u; goto L91; }
+    else { goto L70; }
+L70:;
+    v375 = (u16)((u32)a1 >> (8u & 15u));
+    v376 = (u8)(v375);
+    v377 = (u8)(a1);
+    v20 = 0u; v21 = v19; v22 = v373; v23 = v18; goto L71;
+L71:;
+    v378 = v23 + 1u * 1u;
+    v379 = (u64)((u64)v22 + (u64)UINT64_C(18446744073709551615));
+    v380 = load8(v23);
+    v381 = (u64)v380;
+    v382 = v21 + v381 * 1u;
+    v383 = load_address(v56);
+    v384 = (u64)((u64)v20 * (u64)188u);
+    v385 = v383 + v384 * 1u;
+    store16(v385, a1);
+    v386 = (u16)v380;
+    v387 = v385 + 2u * 1u;
+    store16(v387, v386);
+    v388 = v385 + 4u * 1u;
+    switch (v380) {
+    case 54u: goto L72;
+    case 56u: goto L73;
+    case 80u: goto L74;
+    default: goto L75;
+    }
+L72:;
+    memory_move(v388, v21, 54u);
+    goto L76;
+L73:;
+    memory_move(v388, v21, 56u);
+    goto L76;
+L74:;
+    memory_move(v388, v21, 80u);
+    goto L76;
+L75:;
+    f51(v388, v21, v381);
+    goto L76;
+L76:;
+    v389 = v385 + 8u * 1u;
+    store8(v389, v118);
+    if (v362) { goto L78; }
+    else { goto L77; }
+L77:;
+    v390 = v385 + 32u * 1u;
+    store8(v390, v376);
+    v391 = v385 + 33u * 1u;
+    store8(v391, v377);
+    goto L78;
+L78:;
+    v392 = v385 + 48u * 1u;
+    store8(v392, v363);
+    v393 = v385 + 49u * 1u;
+    store8(v393, v363);
+    v394 = load64(v106);
+    v395 = (u64)((u64)v394 + (u64)1u);
+    store64(v106, v395);
+    v396 = v379 == 0u;
+    if (v396) { v32 = v395; v33 = 6u; v34 = 0u; goto L91; }
+    else { v20 = v395; v21 = v382; v22 = v379; v23 = v378; goto L71; }
+L79:;
+    v29 = v24; goto L81;
+L80:;
+    v397 = v28 == 0u;
+    v398 = v397 ? 52u : 54u;
+    v399 = v397 ? 53u : 55u;
+    v400 = v110 + v398 * 1u;
+    v401 = load8(v400);
+    v402 = v110 + v399 * 1u;
+    v403 = load8(v402);
+    v404 = v110 + 54u * 1u;
+    v405 = v397 ? v404 : ADDRESS(c148);
+    v406 = v397 ? v27 : 0u;
+    v407 = (u16)v401;
+    v408 = (u16)((u32)v407 << (8u & 15u));
+    v409 = (u16)v403;
+    v410 = (u16)((u32)v408 | (u32)v409);
+    store8(v47, v166);
+    v411 = v47 + 1u * 1u;
+    store8(v411, 0u);
+    v412 = v47 + 2u * 1u;
+    store16(v412, v410);
+    v413 = v47 + 4u * 1u;
+    store16(v413, v154);
+    v414 = v47 + 6u * 1u;
+    store16(v414, 0u);
+    v415 = v47 + 8u * 1u;
+    store_address(v415, v405);
+    v416 = v47 + 16u * 1u;
+    store64(v416, v406);
+    v417 = v110 + 44u * 1u;
+    v418 = load8(v417);
+    v419 = v110 + 45u * 1u;
+    v420 = load8(v419);
+    v421 = v48 + 54u * 1u;
+    v422 = v48 + 56u * 1u;
+    v423 = v48 + 64u * 1u;
+    memory_set(v48, 0u, 64u);
+    store_address(v423, v56);
+    v424 = v166 > 2u;
+    v425 = v424 ? UINT32_C(262144) : UINT32_C(131072);
+    v426 = v418 > v420 ? (u8)((u32)v418 - (u32)v420) : 0u;
+    store16(v421, v410);
+    store16(v422, a1);
+    v427 = v48 + 48u * 1u;
+    store16(v48, 4621u);
+    v428 = v48 + 2u * 1u;
+    store16(v428, 13824u);
+    v429 = v48 + 4u * 1u;
+    v430 = (u16)v118;
+    store16(v429, v430);
+    v431 = v48 + 20u * 1u;
+    store64(v431, v143);
+    v432 = swap16(a1);
+    v433 = v48 + 28u * 1u;
+    store16(v433, v432);
+    v434 = swap16(v25);
+    v435 = v48 + 30u * 1u;
+    store16(v435, v434);
+    v436 = v48 + 32u * 1u;
+    store16(v436, 32516u);
+    v437 = v48 + 34u * 1u;
+    store64(v437, v134);
+    v438 = swap16(v26);
+    v439 = v48 + 42u * 1u;
+    store16(v439, v438);
+    v440 = v48 + 44u * 1u;
+    v441 = (u32)v426;
+    v442 = (u32)((u32)v441 << (8u & 31u));
+    v443 = (u32)((u32)v442 | (u32)v425);
+    v444 = (u32)((u32)v443 | (u32)v441);
+    store32(v440, v444);
+    store16(v427, 256u);
+    v445 = v48 + 50u * 1u;
+    store16(v445, 512u);
+    v446 = swap16(v410);
+    v447 = v48 + 52u * 1u;
+    store16(v447, v446);
+    f76(v71, v47, v48);
+    v29 = 9u; goto L81;
+L81:;
+    v448 = v71 + 384u * 1u;
+    v449 = load64(v448);
+    v450 = v110 + 34u * 1u;
+    v451 = load64(v450);
+    v452 = v451 == v449;
+    if (v452) { goto L92; }
+    else { goto L82; }
+L82:;
+    v453 = load8(v110);
+    v454 = (u8)((u32)v453 >> (4u & 7u));
+    v455 = load8(v113);
+    v456 = (u8)((u32)v454 | (u32)v455);
+    v457 = v456 == 0u;
+    if (v457) { goto L83; }
+    else { goto L92; }
+L83:;
+    v458 = v110 + 4u * 1u;
+    v459 = load8(v458);
+    v460 = v71 + 8u * 1u;
+    v461 = load8(v460);
+    v462 = v459 == v461;
+    if (v462) { goto L84; }
+    else { goto L92; }
+L84:;
+    v463 = v110 + 20u * 1u;
+    v464 = load64(v463);
+    v465 = v464 == v449;
+    if (v465) { goto L92; }
+    else { goto L85; }
+L85:;
+    v466 = v110 + 45u * 1u;
+    v467 = load8(v466);
+    v468 = v467 == 0u;
+    if (v468) { goto L92; }
+    else { goto L86; }
+L86:;
+    v469 = (u16)((u32)a1 + (u32)65535u);
+    v470 = load8(v73);
+    v471 = v470 == 0u;
+    v472 = v71 + 248u * 1u;
+    if (v471) { v30 = 376u; v31 = v472; goto L88; }
+    else { goto L87; }
+L87:;
+    v473 = load_address(v472);
+    v30 = 256u; v31 = v473; goto L88;
+L88:;
+    v474 = v71 + v30 * 1u;
+    v475 = load64(v474);
+    v476 = (u64)v469;
+    v477 = v475 > v476;
+    if (v477) { goto L89; }
+    else { goto L92; }
+L89:;
+    v478 = (u64)((u64)v476 << (4u & 63u));
+    v479 = v31 + v478 * 1u;
+    v480 = v479 + 8u * 1u;
+    v481 = load8(v480);
+    switch (v481) {
+    case 4u: goto L93;
+    case 5u: goto L93;
+    case 7u: goto L93;
+    case 8u: goto L93;
+    case 0u: goto L92;
+    case 1u: goto L92;
+    case 2u: goto L92;
+    case 3u: goto L92;
+    case 6u: goto L92;
+    default: goto L90;
+    }
+L90:;
+    UNREACHABLE;
+L91:;
+    v41 = v32; v42 = v34; v43 = v33; v44 = 0u; v45 = 0u; goto L101;
+L92:;
+    v482 = load64(v106);
+    v41 = v482; v42 = 0u; v43 = v29; v44 = 0u; v45 = 0u; goto L101;
+L93:;
+    v483 = load64(v106);
+    v484 = v471 ? 376u : 256u;
+    v485 = v71 + v484 * 1u;
+    v486 = load64(v485);
+    v487 = (u16)(v486);
+    v488 = v487 == 0u;
+    if (v488) { v40 = 0u; goto L100; }
+    else { v35 = 0u; v36 = 0u; goto L94; }
+L94:;
+    v489 = (u16)((u32)v487 - (u32)v36);
+    v490 = v489 == a1;
+    if (v490) { v39 = 0u; goto L99; }
+    else { goto L95; }
+L95:;
+    v491 = v489 > 1u ? (u16)((u32)v489 - (u32)1u) : 0u;
+    if (v471) { v37 = 376u; v38 = v472; goto L97; }
+    else { goto L96; }
+L96:;
+    v492 = load_address(v472);
+    v37 = 256u; v38 = v492; goto L97;
+L97:;
+    v493 = v71 + v37 * 1u;
+    v494 = load64(v493);
+    v495 = (u64)v491;
+    v496 = v494 > v495;
+    if (v496) { goto L98; }
+    else { v39 = 0u; goto L99; }
+L98:;
+    v497 = (u64)((u64)v495 << (4u & 63u));
+    v498 = v38 + v497 * 1u;
+    v499 = v498 + 8u * 1u;
+    v500 = load8(v499);
+    v501 = (u64)v500;
+    v502 = ADDRESS(c358) + v501 * 8u;
+    v503 = load64(v502);
+    v39 = v503; goto L99;
+L99:;
+    v504 = (u64)((u64)v35 << (1u & 63u));
+    v505 = (u64)((u64)v39 | (u64)v504);
+    v506 = (u16)((u32)v36 + (u32)1u);
+    v507 = v506 < v487;
+    if (v507) { v35 = v505; v36 = v506; goto L94; }
+    else { v40 = v505; goto L100; }
+L100:;
+    v508 = v59 + 2u * 1u;
+    v509 = load8(v508);
+    v510 = v59 + 3u * 1u;
+    v511 = load8(v510);
+    v512 = (u64)v509;
+    v513 = (u64)((u64)v512 << (8u & 63u));
+    v514 = (u64)v511;
+    v515 = (u64)((u64)v513 | (u64)v514);
+    v516 = v59 + 45u * 1u;
+    v517 = load8(v516);
+    v518 = v517 > 1u ? (u8)((u32)v517 - (u32)1u) : 0u;
+    store8(v516, v518);
+    v41 = v483; v42 = 0u; v43 = v29; v44 = v515; v45 = v40; goto L101;
+L101:;
+    v519 = (u8)(v42);
+    v520 = (u8)((u32)v43 | (u32)v519);
+    store64(a6, v45);
+    v521 = a6 + 8u * 1u;
+    store64(v521, v44);
+    v522 = a6 + 16u * 1u;
+    store64(v522, v41);
+    switch (v520) {
+    case 0u: goto L102;
+    case 9u: goto L110;
+    case 1u: v46 = 1u; goto L114;
+    case 2u: goto L103;
+    case 3u: goto L104;
+    case 4u: goto L105;
+    case 5u: goto L106;
+    case 6u: goto L107;
+    case 7u: goto L108;
+    case 8u: goto L109;
+    default: goto L111;
+    }
+L102:;
+    v523 = (u32)(v42);
+    v524 = (u32)((u32)v523 >> (8u & 31u));
+    v525 = (u32)((u32)v524 + (u32)16u);
+    v46 = v525; goto L114;
+L103:;
+    v46 = 2u; goto L114;
+L104:;
+    v46 = 3u; goto L114;
+L105:;
+    v46 = 4u; goto L114;
+L106:;
+    v46 = 5u; goto L114;
+L107:;
+    v46 = 6u; goto L114;
+L108:;
+    v46 = 7u; goto L114;
+L109:;
+    v46 = 8u; goto L114;
+L110:;
+    v46 = 9u; goto L114;
+L111:;
+    UNREACHABLE;
+L112:;
+    v46 = 34u; goto L114;
+L113:;
+    v46 = 33u; goto L114;
+L114:;
+    return v46;
 }
 
 u32 portable_ptpm_clock_image(address a0, address a1, u64 a2, address a3) {
@@ -39837,7 +43193,7 @@ L4:;
     UNREACHABLE;
 L5:;
     v17 = load_address(v4);
-    v18 = f70(v17, v8, a2);
+    v18 = f77(v17, v8, a2);
     v19 = v18.m0;
     v20 = v19 == 1u;
     if (v20) { goto L6; }
@@ -39852,136 +43208,164 @@ L7:;
 
 u32 portable_ptpm_clock_image_of(address a0, address a1, u64 a2, address a3, address a4) {
     u32 v5;
-    address v6, v9, v10, v13, v16, v17, v18, v21, v23, v24, v25, v27, v29, v34, v35, v36;
-    address v37, v38, v40, v41, v42, v43, v44, v46, v53, v55, v57, v61, v62, v65, v66, v67;
-    u8 v7, v11, v12, v14, v15, v19, v20, v22, v31, v33, v39, v47, v48, v49, v50, v51;
-    u8 v52, v68, v69, v70;
-    u64 v8, v26, v28, v32, v45, v54, v56, v58, v59, v60, v63, v64;
-    struct s2 v30;
+    address v6, v7, v8, v9, v12, v13, v16, v19, v20, v21, v22, v26, v31, v32, v34, v35;
+    address v36, v37, v39, v41, v42, v44, v49, v50, v52, v53, v54, v55, v56, v58, v65, v67;
+    address v69, v73, v74, v77, v78, v79;
+    u8 v10, v14, v15, v17, v18, v23, v24, v29, v30, v33, v43, v46, v48, v51, v59, v60;
+    u8 v61, v62, v63, v64, v80, v81, v82;
+    u64 v11, v25, v27, v38, v40, v47, v57, v66, v68, v70, v71, v72, v75, v76;
+    u16 v28;
+    struct s2 v45;
     u64 block0[49];
+    u64 block1[31];
+    u64 block2[1];
+    u64 block3[14];
     v6 = ADDRESS(block0);
-    v7 = a1 == 0u;
-    v8 = v7 ? 4096u : 0u;
-    v9 = a1 + v8 * 1u;
+    v7 = ADDRESS(block1);
+    v8 = ADDRESS(block2);
+    v9 = ADDRESS(block3);
+    v10 = a1 == 0u;
+    v11 = v10 ? 4096u : 0u;
+    v12 = a1 + v11 * 1u;
     store64(a3, 0u);
     store64(a4, 0u);
-    v10 = a0 + 8u * 1u;
-    v11 = load8(v10);
-    v12 = (u8)((v11) & UINT64_C(1));
-    if (v12) { goto L1; }
-    else { v5 = 32u; goto L11; }
-L1:;
-    v13 = load_address(a0);
+    v13 = a0 + 8u * 1u;
     v14 = load8(v13);
-    v15 = v14 == 4u;
-    if (v15) { goto L2; }
-    else { v5 = 32u; goto L11; }
+    v15 = (u8)((v14) & UINT64_C(1));
+    if (v15) { goto L1; }
+    else { v5 = 32u; goto L14; }
+L1:;
+    v16 = load_address(a0);
+    v17 = load8(v16);
+    v18 = v17 == 4u;
+    if (v18) { goto L2; }
+    else { v5 = 32u; goto L14; }
 L2:;
-    v16 = v13 + 8u * 1u;
-    v17 = load_address(v16);
+    v19 = v16 + 8u * 1u;
+    v20 = load_address(v19);
     store64(a3, 0u);
     store64(a4, 0u);
+    v21 = load_address(v20);
     memory_set(v6, 0u, 392u);
-    v18 = load_address(v17);
-    f73(v6, v18);
-    v19 = load8(v6);
-    v20 = v19 == 0u;
-    if (v20) { goto L3; }
-    else { goto L9; }
+    v22 = v21 + 240u * 1u;
+    v23 = load8(v22);
+    v24 = v23 == 0u;
+    v25 = v24 ? 376u : 256u;
+    v26 = v21 + v25 * 1u;
+    v27 = load64(v26);
+    v28 = (u16)(v27);
+    v29 = v28 < 9u;
+    if (v29) { goto L3; }
+    else { goto L4; }
 L3:;
-    v21 = v6 + 248u * 1u;
-    v22 = load8(v21);
-    v23 = v6 + 256u * 1u;
-    v24 = load_address(v23);
-    v25 = v6 + 264u * 1u;
-    v26 = load64(v25);
-    v27 = v6 + 272u * 1u;
-    v28 = load64(v27);
-    v29 = load_address(v17);
-    v30 = f70(v29, v9, a2);
-    v31 = v30.m0;
-    v32 = v30.m1;
-    v33 = v31 == 1u;
-    if (v33) { goto L4; }
-    else { goto L5; }
+    f80(v6, v21);
+    goto L5;
 L4:;
-    v34 = v6 + 280u * 1u;
-    v35 = v6 + 249u * 1u;
-    v36 = v6 + 8u * 1u;
-    v37 = v17 + 392u * 1u;
-    v38 = v17 + 632u * 1u;
-    v39 = load8(v38);
-    v40 = v17 + 633u * 1u;
-    v41 = v17 + 640u * 1u;
-    v42 = load_address(v41);
-    v43 = v17 + 648u * 1u;
-    v44 = v17 + 656u * 1u;
-    v45 = load64(v44);
-    v46 = v17 + 664u * 1u;
-    memory_cpy(v37, v36, 240u);
-    store8(v38, v22);
-    memory_cpy(v40, v35, 7u);
-    store_address(v41, v24);
-    store64(v43, v26);
-    store64(v44, v28);
-    memory_cpy(v46, v34, 112u);
-    v47 = v39 != 1u;
-    v48 = v45 == 0u;
-    v49 = v47 ? 1u : v48;
-    if (v49) { goto L8; }
-    else { goto L7; }
+    f81(v6, v21);
+    goto L5;
 L5:;
-    v50 = v22 != 1u;
-    v51 = v28 == 0u;
-    v52 = v50 ? 1u : v51;
-    if (v52) { goto L10; }
-    else { goto L6; }
+    v30 = load8(v6);
+    v31 = v6 + 8u * 1u;
+    v32 = v6 + 248u * 1u;
+    v33 = load8(v32);
+    v34 = v6 + 249u * 1u;
+    v35 = v6 + 256u * 1u;
+    v36 = load_address(v35);
+    v37 = v6 + 264u * 1u;
+    v38 = load64(v37);
+    v39 = v6 + 272u * 1u;
+    v40 = load64(v39);
+    v41 = v6 + 280u * 1u;
+    v42 = v7 + 7u * 1u;
+    memory_cpy(v42, v31, 240u);
+    memory_cpy(v8, v34, 7u);
+    memory_cpy(v9, v41, 112u);
+    v43 = v30 == 0u;
+    if (v43) { goto L6; }
+    else { goto L12; }
 L6:;
-    portable_rattle_dealloc(v24);
-    goto L10;
+    v44 = load_address(v20);
+    v45 = f77(v44, v12, a2);
+    v46 = v45.m0;
+    v47 = v45.m1;
+    v48 = v46 == 1u;
+    if (v48) { goto L7; }
+    else { goto L8; }
 L7:;
-    portable_rattle_dealloc(v42);
-    goto L8;
+    v49 = v20 + 392u * 1u;
+    v50 = v20 + 632u * 1u;
+    v51 = load8(v50);
+    v52 = v20 + 633u * 1u;
+    v53 = v20 + 640u * 1u;
+    v54 = load_address(v53);
+    v55 = v20 + 648u * 1u;
+    v56 = v20 + 656u * 1u;
+    v57 = load64(v56);
+    v58 = v20 + 664u * 1u;
+    memory_cpy(v49, v42, 240u);
+    store8(v50, v33);
+    memory_cpy(v52, v8, 7u);
+    store_address(v53, v36);
+    store64(v55, v38);
+    store64(v56, v40);
+    memory_cpy(v58, v9, 112u);
+    v59 = v51 != 1u;
+    v60 = v57 == 0u;
+    v61 = v59 ? 1u : v60;
+    if (v61) { goto L11; }
+    else { goto L10; }
 L8:;
-    v53 = v17 + 808u * 1u;
-    v54 = load64(v53);
-    v55 = v17 + 800u * 1u;
-    v56 = load64(v55);
-    v57 = v17 + 816u * 1u;
-    v58 = load64(v57);
-    v59 = (u64)((u64)v56 + (u64)v58);
-    v60 = (u64)((u64)v54 - (u64)v59);
-    v61 = v17 + 824u * 1u;
-    store64(v61, v60);
-    v62 = v17 + 832u * 1u;
-    v63 = load64(v62);
-    v64 = (u64)((u64)v63 + (u64)1u);
-    store64(v62, v64);
-    v65 = v17 + 840u * 1u;
-    store8(v65, 1u);
-    v66 = v17 + 842u * 1u;
-    store8(v66, 0u);
-    v67 = v17 + 844u * 1u;
-    v68 = load8(v67);
-    v69 = v68 == 0u;
-    v70 = v69 ? 0u : 2u;
-    store8(v67, v70);
-    store64(a3, v32);
-    store64(a4, v64);
-    v5 = 0u; goto L11;
+    v62 = v33 != 1u;
+    v63 = v40 == 0u;
+    v64 = v62 ? 1u : v63;
+    if (v64) { goto L13; }
+    else { goto L9; }
 L9:;
-    v5 = 35u; goto L11;
+    portable_rattle_dealloc(v36);
+    goto L13;
 L10:;
-    v5 = 34u; goto L11;
+    portable_rattle_dealloc(v54);
+    goto L11;
 L11:;
+    v65 = v20 + 808u * 1u;
+    v66 = load64(v65);
+    v67 = v20 + 800u * 1u;
+    v68 = load64(v67);
+    v69 = v20 + 816u * 1u;
+    v70 = load64(v69);
+    v71 = (u64)((u64)v68 + (u64)v70);
+    v72 = (u64)((u64)v66 - (u64)v71);
+    v73 = v20 + 824u * 1u;
+    store64(v73, v72);
+    v74 = v20 + 832u * 1u;
+    v75 = load64(v74);
+    v76 = (u64)((u64)v75 + (u64)1u);
+    store64(v74, v76);
+    v77 = v20 + 840u * 1u;
+    store8(v77, 1u);
+    v78 = v20 + 842u * 1u;
+    store8(v78, 0u);
+    v79 = v20 + 844u * 1u;
+    v80 = load8(v79);
+    v81 = v80 == 0u;
+    v82 = v81 ? 0u : 2u;
+    store8(v79, v82);
+    store64(a3, v47);
+    store64(a4, v76);
+    v5 = 0u; goto L14;
+L12:;
+    v5 = 35u; goto L14;
+L13:;
+    v5 = 34u; goto L14;
+L14:;
     return v5;
 }
 
 u64 portable_ptpm_clock_most_sent(address a0) {
-    address v1, v6, v7, v10, v12, v13, v14, v15, v16, v17, v21, v26, v29, v30, v31, v35;
-    address v36;
-    u64 v2, v3, v4, v5, v20, v22, v23, v24, v25, v27, v33, v34, v37, v38, v39;
-    u8 v8, v9, v11, v18, v19, v28, v32, v40;
+    address v1, v6, v7, v10, v12, v13, v14, v15, v16, v20, v22, v23, v26, v27, v28, v32;
+    address v33;
+    u64 v2, v3, v4, v5, v19, v21, v24, v30, v31, v34, v35, v36, v38, v39, v40, v41;
+    u8 v8, v9, v11, v17, v18, v25, v29, v37;
     u64 block0[11];
     v6 = ADDRESS(block0);
     v7 = a0 + 8u * 1u;
@@ -40014,42 +43398,43 @@ L4:;
     UNREACHABLE;
 L5:;
     v15 = load_address(v1);
+    v16 = v15 + 240u * 1u;
+    v17 = load8(v16);
+    v18 = v17 == 0u;
+    v19 = v18 ? 376u : 256u;
+    v20 = v15 + v19 * 1u;
+    v21 = load64(v20);
     memory_set(v6, 0u, 88u);
-    v16 = v15 + 384u * 1u;
-    f22(v6, v16);
-    v17 = v15 + 240u * 1u;
-    v18 = load8(v17);
-    v19 = v18 == 0u;
-    v20 = v19 ? 376u : 256u;
-    v21 = v15 + v20 * 1u;
-    v22 = load64(v21);
-    v23 = (u64)((u64)v22 << (1u & 63u));
-    v24 = (u64)((u64)v23 & (u64)UINT64_C(131070));
-    v25 = (u64)((u64)v24 + (u64)UINT64_C(18446744073709551615));
-    v26 = v6 + 80u * 1u;
-    v27 = load64(v26);
-    v28 = v27 == 0u;
-    if (v28) { v4 = v25; goto L8; }
+    v22 = v15 + 384u * 1u;
+    f22(v6, v22);
+    v23 = v6 + 80u * 1u;
+    v24 = load64(v23);
+    v25 = v24 == 0u;
+    if (v25) { v4 = 0u; goto L8; }
     else { goto L6; }
 L6:;
-    v29 = v6 + 16u * 1u;
-    v30 = load_address(v6);
-    v2 = v25; v3 = 0u; goto L7;
+    v26 = v6 + 16u * 1u;
+    v27 = load_address(v6);
+    v2 = 0u; v3 = 0u; goto L7;
 L7:;
-    v31 = v29 + v3 * 1u;
-    v32 = load8(v31);
-    v33 = (u64)v32;
-    v34 = (u64)((u64)v33 * (u64)2144u);
-    v35 = v30 + v34 * 1u;
-    v36 = v35 + 1448u * 1u;
-    v37 = load64(v36);
-    v38 = v2 > v37 ? v2 : v37;
-    v39 = (u64)((u64)v3 + (u64)1u);
-    v40 = v39 == v27;
-    if (v40) { v4 = v38; goto L8; }
-    else { v2 = v38; v3 = v39; goto L7; }
+    v28 = v26 + v3 * 1u;
+    v29 = load8(v28);
+    v30 = (u64)v29;
+    v31 = (u64)((u64)v30 * (u64)2144u);
+    v32 = v27 + v31 * 1u;
+    v33 = v32 + 1448u * 1u;
+    v34 = load64(v33);
+    v35 = v2 > v34 ? v2 : v34;
+    v36 = (u64)((u64)v3 + (u64)1u);
+    v37 = v36 == v24;
+    if (v37) { v4 = v35; goto L8; }
+    else { v2 = v35; v3 = v36; goto L7; }
 L8:;
-    v5 = v4; goto L9;
+    v38 = (u64)((u64)v21 << (1u & 63u));
+    v39 = (u64)((u64)v38 & (u64)UINT64_C(131070));
+    v40 = (u64)((u64)v39 + (u64)UINT64_C(18446744073709551615));
+    v41 = v4 > v40 ? v4 : v40;
+    v5 = v41; goto L9;
 L9:;
     return v5;
 }
@@ -40111,7 +43496,7 @@ L6:;
     goto L8;
 L7:;
     v27 = (u64)v21;
-    f50(v26, v22, v27);
+    f51(v26, v22, v27);
     goto L8;
 L8:;
     v28 = load64(v15);
@@ -40214,23 +43599,24 @@ L9:;
 }
 
 u32 portable_ptpm_clock_saving(address a0, u64 a1) {
-    u64 v2, v3, v4, v5, v6, v27, v32, v34, v35, v36, v37, v40, v41, v45, v51, v52;
-    u64 v55, v56, v57, v62, v65, v67, v70, v71, v74, v76, v80, v86, v88, v105, v107, v110;
-    u64 v119, v127, v138, v142, v145, v182, v190, v201, v205, v208;
-    address v7, v10, v11, v12, v13, v14, v15, v16, v17, v18, v19, v21, v24, v26, v28, v29;
-    address v33, v38, v43, v44, v47, v48, v49, v53, v54, v68, v75, v79, v81, v83, v84, v85;
-    address v87, v94, v95, v96, v97, v98, v99, v101, v102, v103, v104, v106, v108, v113, v114, v116;
-    address v117, v118, v120, v122, v124, v125, v126, v135, v136, v137, v139, v140, v141, v146, v147, v148;
-    address v149, v150, v151, v152, v153, v154, v155, v156, v157, v158, v159, v160, v161, v162, v163, v164;
-    address v165, v166, v168, v176, v177, v179, v180, v181, v183, v185, v187, v188, v189, v198, v199, v200;
-    address v202, v203, v204;
-    u32 v8, v9;
-    u8 v20, v22, v23, v25, v30, v31, v42, v46, v50, v58, v59, v60, v61, v66, v69, v72;
-    u8 v73, v77, v78, v82, v89, v90, v91, v92, v93, v100, v111, v112, v115, v121, v123, v128;
-    u8 v129, v130, v131, v132, v133, v134, v143, v144, v167, v169, v170, v171, v172, v173, v174, v175;
-    u8 v178, v184, v186, v191, v192, v193, v194, v195, v196, v197, v206, v207;
-    u16 v39;
-    struct pair v63, v64, v109;
+    u64 v2, v3, v4, v5, v8, v36, v41, v43, v44, v45, v46, v49, v50, v54, v60, v61;
+    u64 v64, v65, v66, v68, v72, v75, v77, v80, v81, v82, v84, v87, v89, v94, v102, v104;
+    u64 v109, v111, v123, v125, v133, v142, v150, v161, v165, v168, v205, v213, v224, v228, v231;
+    u8 v6, v29, v31, v32, v34, v39, v40, v51, v55, v59, v67, v69, v70, v71, v76, v79;
+    u8 v85, v86, v91, v92, v97, v106, v107, v108, v113, v114, v118, v127, v128, v129, v130, v134;
+    u8 v135, v138, v144, v146, v151, v152, v153, v154, v155, v156, v157, v166, v167, v190, v192, v193;
+    u8 v194, v195, v196, v197, v198, v201, v207, v209, v214, v215, v216, v217, v218, v219, v220, v229;
+    u8 v230;
+    address v7, v11, v12, v13, v14, v15, v16, v17, v18, v19, v20, v21, v22, v23, v24, v25;
+    address v26, v27, v28, v30, v33, v35, v37, v38, v42, v47, v52, v53, v56, v57, v58, v62;
+    address v63, v78, v83, v88, v93, v95, v96, v98, v99, v100, v101, v103, v105, v110, v115, v116;
+    address v117, v119, v120, v121, v122, v124, v126, v131, v136, v137, v139, v140, v141, v143, v145, v147;
+    address v148, v149, v158, v159, v160, v162, v163, v164, v169, v170, v171, v172, v173, v174, v175, v176;
+    address v177, v178, v179, v180, v181, v182, v183, v184, v185, v186, v187, v188, v189, v191, v199, v200;
+    address v202, v203, v204, v206, v208, v210, v211, v212, v221, v222, v223, v225, v226, v227;
+    u32 v9, v10;
+    u16 v48, v90, v112;
+    struct pair v73, v74, v132;
     u64 block0[1];
     u64 block1[44];
     u64 block2[11];
@@ -40238,502 +43624,563 @@ u32 portable_ptpm_clock_saving(address a0, u64 a1) {
     u64 block4[49];
     u64 block5[29];
     u64 block6[1];
-    u64 block7[1];
-    u64 block8[14];
-    v10 = ADDRESS(block0);
-    v11 = ADDRESS(block1);
-    v12 = ADDRESS(block2);
-    v13 = ADDRESS(block3);
-    v14 = ADDRESS(block4);
-    v15 = ADDRESS(block5);
-    v16 = ADDRESS(block6);
-    v17 = ADDRESS(block7);
-    v18 = ADDRESS(block8);
-    v19 = a0 + 9u * 1u;
-    v20 = load8(v19);
-    v21 = a0 + 8u * 1u;
-    v22 = load8(v21);
-    v23 = (u8)((v22) & UINT64_C(1));
-    if (v23) { goto L1; }
-    else { v9 = 32u; goto L71; }
+    u64 block7[14];
+    u64 block8[31];
+    u64 block9[1];
+    u64 block10[14];
+    u64 block11[29];
+    u64 block12[1];
+    u64 block13[14];
+    u64 block14[30];
+    u64 block15[1];
+    u64 block16[14];
+    v11 = ADDRESS(block0);
+    v12 = ADDRESS(block1);
+    v13 = ADDRESS(block2);
+    v14 = ADDRESS(block3);
+    v15 = ADDRESS(block4);
+    v16 = ADDRESS(block5);
+    v17 = ADDRESS(block6);
+    v18 = ADDRESS(block7);
+    v19 = ADDRESS(block8);
+    v20 = ADDRESS(block9);
+    v21 = ADDRESS(block10);
+    v22 = ADDRESS(block11);
+    v23 = ADDRESS(block12);
+    v24 = ADDRESS(block13);
+    v25 = ADDRESS(block14);
+    v26 = ADDRESS(block15);
+    v27 = ADDRESS(block16);
+    v28 = a0 + 9u * 1u;
+    v29 = load8(v28);
+    v30 = a0 + 8u * 1u;
+    v31 = load8(v30);
+    v32 = (u8)((v31) & UINT64_C(1));
+    if (v32) { goto L1; }
+    else { v10 = 32u; goto L78; }
 L1:;
-    v24 = load_address(a0);
-    v25 = load8(v24);
-    v26 = v24 + 8u * 1u;
-    v27 = load64(v26);
-    v28 = (address)v27;
-    memory_set(v24, 0u, 16u);
-    switch (v25) {
+    v33 = load_address(a0);
+    v34 = load8(v33);
+    v35 = v33 + 8u * 1u;
+    v36 = load64(v35);
+    v37 = (address)v36;
+    memory_set(v33, 0u, 16u);
+    switch (v34) {
     case 1u: goto L2;
-    case 4u: goto L68;
-    case 0u: goto L69;
-    case 2u: goto L69;
-    case 3u: goto L69;
-    case 5u: goto L69;
-    case 6u: goto L69;
-    case 7u: goto L69;
-    default: goto L70;
+    case 4u: goto L75;
+    case 0u: goto L76;
+    case 2u: goto L76;
+    case 3u: goto L76;
+    case 5u: goto L76;
+    case 6u: goto L76;
+    case 7u: goto L76;
+    default: goto L77;
     }
 L2:;
-    memory_set(v13, 0u, 392u);
-    memory_set(v14, 0u, 392u);
-    v29 = v28 + 240u * 1u;
-    v30 = load8(v29);
-    v31 = v30 == 0u;
-    v32 = v31 ? 376u : 256u;
-    v33 = v28 + v32 * 1u;
-    v34 = load64(v33);
-    v35 = (u64)((u64)v34 << (1u & 63u));
-    v36 = (u64)((u64)v35 & (u64)UINT64_C(131070));
-    v37 = (u64)((u64)v36 + (u64)UINT64_C(18446744073709551615));
-    v38 = v28 + 416u * 1u;
-    v39 = load16(v38);
-    v40 = (u64)v39;
-    v41 = v40 > v37 ? v40 : v37;
-    v42 = v41 > a1;
-    if (v42) { goto L3; }
-    else { goto L7; }
+    memory_set(v22, 0u, 232u);
+    memory_set(v23, 0u, 7u);
+    memory_set(v24, 0u, 112u);
+    memory_set(v25, 0u, 240u);
+    memory_set(v26, 0u, 7u);
+    memory_set(v27, 0u, 112u);
+    memory_set(v19, 0u, 247u);
+    v38 = v37 + 240u * 1u;
+    v39 = load8(v38);
+    v40 = v39 == 0u;
+    v41 = v40 ? 376u : 256u;
+    v42 = v37 + v41 * 1u;
+    v43 = load64(v42);
+    v44 = (u64)((u64)v43 << (1u & 63u));
+    v45 = (u64)((u64)v44 & (u64)UINT64_C(131070));
+    v46 = (u64)((u64)v45 + (u64)UINT64_C(18446744073709551615));
+    v47 = v37 + 416u * 1u;
+    v48 = load16(v47);
+    v49 = (u64)v48;
+    v50 = v49 > v46 ? v49 : v46;
+    v51 = v50 > a1;
+    if (v51) { goto L3; }
+    else { goto L8; }
 L3:;
-    v43 = v28 + 384u * 1u;
-    memory_set(v12, 0u, 88u);
-    f22(v12, v43);
-    v44 = v12 + 80u * 1u;
-    v45 = load64(v44);
-    v46 = v45 == 0u;
-    if (v46) { v4 = v37; goto L6; }
+    v52 = v37 + 384u * 1u;
+    memory_set(v13, 0u, 88u);
+    f22(v13, v52);
+    v53 = v13 + 80u * 1u;
+    v54 = load64(v53);
+    v55 = v54 == 0u;
+    if (v55) { v4 = v46; goto L7; }
     else { goto L4; }
 L4:;
-    v47 = v12 + 16u * 1u;
-    v48 = load_address(v12);
-    v2 = v37; v3 = 0u; goto L5;
+    v56 = v13 + 16u * 1u;
+    v57 = load_address(v13);
+    v2 = 0u; v3 = 0u; goto L5;
 L5:;
-    v49 = v47 + v3 * 1u;
-    v50 = load8(v49);
-    v51 = (u64)v50;
-    v52 = (u64)((u64)v51 * (u64)2144u);
-    v53 = v48 + v52 * 1u;
-    v54 = v53 + 1448u * 1u;
-    v55 = load64(v54);
-    v56 = v2 > v55 ? v2 : v55;
-    v57 = (u64)((u64)v3 + (u64)1u);
-    v58 = v57 == v45;
-    if (v58) { v4 = v56; goto L6; }
-    else { v2 = v56; v3 = v57; goto L5; }
+    v58 = v56 + v3 * 1u;
+    v59 = load8(v58);
+    v60 = (u64)v59;
+    v61 = (u64)((u64)v60 * (u64)2144u);
+    v62 = v57 + v61 * 1u;
+    v63 = v62 + 1448u * 1u;
+    v64 = load64(v63);
+    v65 = v2 > v64 ? v2 : v64;
+    v66 = (u64)((u64)v3 + (u64)1u);
+    v67 = v66 == v54;
+    if (v67) { goto L6; }
+    else { v2 = v65; v3 = v66; goto L5; }
 L6:;
-    v59 = v4 > a1;
-    if (v59) { goto L21; }
-    else { goto L7; }
+    v68 = v65 > v46 ? v65 : v46;
+    v4 = v68; goto L7;
 L7:;
-    v60 = a1 == 0u;
-    if (v60) { goto L12; }
+    v69 = v4 > a1;
+    if (v69) { goto L27; }
     else { goto L8; }
 L8:;
-    v61 = a1 < UINT64_C(6248897043939551);
-    if (v61) { goto L9; }
-    else { goto L22; }
+    v70 = a1 == 0u;
+    if (v70) { v6 = v39; v7 = v11; v8 = 0u; goto L14; }
+    else { goto L9; }
 L9:;
-    v62 = (u64)((u64)a1 * (u64)1476u);
-    v63 = portable_rattle_alloc(v62, 2u);
-    v64 = v63;
-    v65 = v64.m0;
-    v66 = (u8)((v65) & UINT64_C(1));
-    if (v66) { goto L10; }
-    else { goto L22; }
+    v71 = a1 < UINT64_C(6248897043939551);
+    if (v71) { goto L10; }
+    else { goto L29; }
 L10:;
-    v67 = v64.m1;
-    v68 = (address)v67;
-    v69 = a1 == 1u;
-    if (v69) { v5 = 0u; goto L13; }
-    else { goto L11; }
+    v72 = (u64)((u64)a1 * (u64)1476u);
+    v73 = portable_rattle_alloc(v72, 2u);
+    v74 = v73;
+    v75 = v74.m0;
+    v76 = (u8)((v75) & UINT64_C(1));
+    if (v76) { goto L11; }
+    else { goto L29; }
 L11:;
-    v70 = (u64)((u64)v62 + (u64)UINT64_C(18446744073709550140));
-    memory_set(v68, 0u, v70);
-    v71 = (u64)((u64)a1 + (u64)UINT64_C(18446744073709551615));
-    v5 = v71; goto L13;
+    v77 = v74.m1;
+    v78 = (address)v77;
+    v79 = a1 == 1u;
+    if (v79) { v5 = 0u; goto L13; }
+    else { goto L12; }
 L12:;
-    f73(v13, v28);
-    v72 = load8(v13);
-    v73 = v72 == 0u;
-    if (v73) { v6 = 0u; v7 = v10; goto L14; }
-    else { goto L22; }
+    v80 = (u64)((u64)v72 + (u64)UINT64_C(18446744073709550140));
+    memory_set(v78, 0u, v80);
+    v81 = (u64)((u64)a1 + (u64)UINT64_C(18446744073709551615));
+    v5 = v81; goto L13;
 L13:;
-    v74 = (u64)((u64)v5 * (u64)1476u);
-    v75 = v68 + v74 * 1u;
-    memory_set(v75, 0u, 1476u);
-    v76 = (u64)((u64)v5 + (u64)1u);
-    f73(v13, v28);
-    v77 = load8(v13);
-    v78 = v77 == 0u;
-    if (v78) { v6 = v76; v7 = v68; goto L14; }
-    else { goto L15; }
+    v82 = (u64)((u64)v5 * (u64)1476u);
+    v83 = v78 + v82 * 1u;
+    memory_set(v83, 0u, 1476u);
+    v84 = (u64)((u64)v5 + (u64)1u);
+    v85 = load8(v38);
+    v6 = v85; v7 = v78; v8 = v84; goto L14;
 L14:;
-    v79 = v13 + 8u * 1u;
-    v80 = load64(v79);
-    v81 = v13 + 248u * 1u;
-    v82 = load8(v81);
-    v83 = v13 + 256u * 1u;
-    v84 = load_address(v83);
-    v85 = v13 + 264u * 1u;
-    v86 = load64(v85);
-    v87 = v13 + 272u * 1u;
-    v88 = load64(v87);
-    f73(v14, v28);
-    v89 = load8(v14);
-    v90 = v89 == 0u;
-    if (v90) { goto L20; }
+    memory_set(v14, 0u, 392u);
+    v86 = v6 == 0u;
+    v87 = v86 ? 376u : 256u;
+    v88 = v37 + v87 * 1u;
+    v89 = load64(v88);
+    v90 = (u16)(v89);
+    v91 = v90 < 9u;
+    if (v91) { goto L15; }
     else { goto L16; }
 L15:;
-    portable_rattle_dealloc(v68);
-    goto L22;
+    f80(v14, v37);
+    goto L17;
 L16:;
-    v91 = v82 != 1u;
-    v92 = v88 == 0u;
-    v93 = v91 ? 1u : v92;
-    if (v93) { goto L18; }
-    else { goto L17; }
+    f81(v14, v37);
+    goto L17;
 L17:;
-    portable_rattle_dealloc(v84);
-    goto L18;
+    v92 = load8(v14);
+    v93 = v14 + 8u * 1u;
+    v94 = load64(v93);
+    v95 = v14 + 16u * 1u;
+    v96 = v14 + 248u * 1u;
+    v97 = load8(v96);
+    v98 = v14 + 249u * 1u;
+    v99 = v14 + 256u * 1u;
+    v100 = load_address(v99);
+    v101 = v14 + 264u * 1u;
+    v102 = load64(v101);
+    v103 = v14 + 272u * 1u;
+    v104 = load64(v103);
+    v105 = v14 + 280u * 1u;
+    memory_cpy(v16, v95, 232u);
+    memory_cpy(v17, v98, 7u);
+    memory_cpy(v18, v105, 112u);
+    v106 = v92 == 0u;
+    if (v106) { goto L18; }
+    else { goto L22; }
 L18:;
-    if (v60) { goto L22; }
-    else { goto L19; }
+    memory_set(v15, 0u, 392u);
+    v107 = load8(v38);
+    v108 = v107 == 0u;
+    v109 = v108 ? 376u : 256u;
+    v110 = v37 + v109 * 1u;
+    v111 = load64(v110);
+    v112 = (u16)(v111);
+    v113 = v112 < 9u;
+    if (v113) { goto L19; }
+    else { goto L20; }
 L19:;
-    portable_rattle_dealloc(v7);
-    goto L22;
+    f80(v15, v37);
+    goto L21;
 L20:;
-    v94 = v13 + 280u * 1u;
-    v95 = v13 + 249u * 1u;
-    v96 = v13 + 16u * 1u;
-    v97 = v14 + 8u * 1u;
-    memory_cpy(v15, v96, 232u);
-    memory_cpy(v16, v95, 7u);
-    memory_cpy(v11, v94, 112u);
-    v98 = v11 + 112u * 1u;
-    memory_cpy(v98, v97, 240u);
-    v99 = v14 + 248u * 1u;
-    v100 = load8(v99);
-    v101 = v14 + 249u * 1u;
-    memory_cpy(v17, v101, 7u);
-    v102 = v14 + 256u * 1u;
-    v103 = load_address(v102);
-    v104 = v14 + 264u * 1u;
-    v105 = load64(v104);
-    v106 = v14 + 272u * 1u;
-    v107 = load64(v106);
-    v108 = v14 + 280u * 1u;
-    memory_cpy(v18, v108, 112u);
-    v109 = portable_rattle_alloc(848u, 8u);
-    v110 = v109.m0;
-    v111 = (u8)((v110) & UINT64_C(1));
-    if (v111) { goto L37; }
-    else { goto L45; }
+    f81(v15, v37);
+    goto L21;
 L21:;
-    store64(v24, 1u);
-    store64(v26, v27);
-    v8 = 34u; goto L67;
+    v114 = load8(v15);
+    v115 = v15 + 8u * 1u;
+    v116 = v19 + 7u * 1u;
+    memory_cpy(v116, v115, 240u);
+    v117 = v15 + 248u * 1u;
+    v118 = load8(v117);
+    v119 = v15 + 249u * 1u;
+    memory_cpy(v20, v119, 7u);
+    v120 = v15 + 256u * 1u;
+    v121 = load_address(v120);
+    v122 = v15 + 264u * 1u;
+    v123 = load64(v122);
+    v124 = v15 + 272u * 1u;
+    v125 = load64(v124);
+    v126 = v15 + 280u * 1u;
+    memory_cpy(v21, v126, 112u);
+    v127 = v114 == 0u;
+    if (v127) { goto L26; }
+    else { goto L23; }
 L22:;
-    v112 = load8(v24);
-    v113 = load_address(v26);
-    store64(v24, 1u);
-    store64(v26, v27);
-    switch (v112) {
-    case 1u: goto L23;
-    case 2u: goto L24;
-    case 3u: goto L29;
-    case 4u: goto L30;
-    case 5u: goto L31;
-    case 6u: goto L32;
-    case 7u: goto L36;
-    case 0u: v8 = 35u; goto L67;
-    default: goto L66;
-    }
-L23:;
-    f13(v113);
-    v8 = 35u; goto L67;
-L24:;
-    v114 = v113 + 48u * 1u;
-    v115 = load8(v114);
-    v116 = v113 + 64u * 1u;
-    v117 = load_address(v116);
-    v118 = v113 + 80u * 1u;
-    v119 = load64(v118);
-    v120 = v113 + 1576u * 1u;
-    v121 = load8(v120);
-    v122 = v113 + 1592u * 1u;
-    v123 = load8(v122);
-    v124 = v113 + 1600u * 1u;
-    v125 = load_address(v124);
-    v126 = v113 + 1616u * 1u;
-    v127 = load64(v126);
-    portable_rattle_dealloc(v113);
-    v128 = v115 == 0u;
-    v129 = v119 == 0u;
-    v130 = v128 ? 1u : v129;
-    if (v130) { goto L26; }
-    else { goto L25; }
-L25:;
-    portable_rattle_dealloc(v117);
-    goto L26;
-L26:;
-    v131 = v121 == 0u;
-    if (v131) { v8 = 35u; goto L67; }
-    else { goto L27; }
-L27:;
-    v132 = v123 != 0u;
-    v133 = v127 == 0u;
-    v134 = v132 ? 1u : v133;
-    if (v134) { v8 = 35u; goto L67; }
+    if (v70) { goto L29; }
     else { goto L28; }
+L23:;
+    v128 = v97 != 1u;
+    v129 = v104 == 0u;
+    v130 = v128 ? 1u : v129;
+    if (v130) { goto L25; }
+    else { goto L24; }
+L24:;
+    portable_rattle_dealloc(v100);
+    goto L25;
+L25:;
+    if (v70) { goto L29; }
+    else { goto L28; }
+L26:;
+    memory_cpy(v22, v16, 232u);
+    memory_cpy(v23, v17, 7u);
+    memory_cpy(v24, v18, 112u);
+    memory_cpy(v25, v116, 240u);
+    memory_cpy(v26, v20, 7u);
+    memory_cpy(v27, v21, 112u);
+    memory_cpy(v12, v24, 112u);
+    v131 = v12 + 112u * 1u;
+    memory_cpy(v131, v25, 240u);
+    v132 = portable_rattle_alloc(848u, 8u);
+    v133 = v132.m0;
+    v134 = (u8)((v133) & UINT64_C(1));
+    if (v134) { goto L44; }
+    else { goto L52; }
+L27:;
+    store64(v33, 1u);
+    store64(v35, v36);
+    v9 = 34u; goto L74;
 L28:;
-    portable_rattle_dealloc(v125);
-    v8 = 35u; goto L67;
+    portable_rattle_dealloc(v7);
+    goto L29;
 L29:;
-    f15(v113);
-    v8 = 35u; goto L67;
+    v135 = load8(v33);
+    v136 = load_address(v35);
+    store64(v33, 1u);
+    store64(v35, v36);
+    switch (v135) {
+    case 1u: goto L30;
+    case 2u: goto L31;
+    case 3u: goto L36;
+    case 4u: goto L37;
+    case 5u: goto L38;
+    case 6u: goto L39;
+    case 7u: goto L43;
+    case 0u: v9 = 35u; goto L74;
+    default: goto L73;
+    }
 L30:;
-    f16(v113);
-    v8 = 35u; goto L67;
+    f13(v136);
+    v9 = 35u; goto L74;
 L31:;
-    f17(v113);
-    v8 = 35u; goto L67;
-L32:;
-    v135 = v113 + 32u * 1u;
-    v136 = load_address(v135);
-    v137 = v113 + 48u * 1u;
-    v138 = load64(v137);
-    v139 = v113 + 56u * 1u;
+    v137 = v136 + 48u * 1u;
+    v138 = load8(v137);
+    v139 = v136 + 64u * 1u;
     v140 = load_address(v139);
-    v141 = v113 + 72u * 1u;
+    v141 = v136 + 80u * 1u;
     v142 = load64(v141);
-    portable_rattle_dealloc(v113);
-    v143 = v138 == 0u;
-    if (v143) { goto L34; }
-    else { goto L33; }
-L33:;
+    v143 = v136 + 1576u * 1u;
+    v144 = load8(v143);
+    v145 = v136 + 1592u * 1u;
+    v146 = load8(v145);
+    v147 = v136 + 1600u * 1u;
+    v148 = load_address(v147);
+    v149 = v136 + 1616u * 1u;
+    v150 = load64(v149);
     portable_rattle_dealloc(v136);
-    goto L34;
+    v151 = v138 == 0u;
+    v152 = v142 == 0u;
+    v153 = v151 ? 1u : v152;
+    if (v153) { goto L33; }
+    else { goto L32; }
+L32:;
+    portable_rattle_dealloc(v140);
+    goto L33;
+L33:;
+    v154 = v144 == 0u;
+    if (v154) { v9 = 35u; goto L74; }
+    else { goto L34; }
 L34:;
-    v144 = v142 == 0u;
-    if (v144) { v8 = 35u; goto L67; }
+    v155 = v146 != 0u;
+    v156 = v150 == 0u;
+    v157 = v155 ? 1u : v156;
+    if (v157) { v9 = 35u; goto L74; }
     else { goto L35; }
 L35:;
-    portable_rattle_dealloc(v140);
-    v8 = 35u; goto L67;
+    portable_rattle_dealloc(v148);
+    v9 = 35u; goto L74;
 L36:;
-    f19(v113);
-    v8 = 35u; goto L67;
+    f15(v136);
+    v9 = 35u; goto L74;
 L37:;
-    v145 = v109.m1;
-    v146 = (address)v145;
-    store_address(v146, v28);
-    v147 = v146 + 8u * 1u;
-    store64(v147, v80);
-    v148 = v146 + 16u * 1u;
-    memory_cpy(v148, v15, 232u);
-    v149 = v146 + 248u * 1u;
-    store8(v149, v82);
-    v150 = v146 + 249u * 1u;
-    memory_cpy(v150, v16, 7u);
-    v151 = v146 + 256u * 1u;
-    store_address(v151, v84);
-    v152 = v146 + 264u * 1u;
-    store64(v152, v86);
-    v153 = v146 + 272u * 1u;
-    store64(v153, v88);
-    v154 = v146 + 280u * 1u;
-    memory_cpy(v154, v11, 352u);
-    v155 = v146 + 632u * 1u;
-    store8(v155, v100);
-    v156 = v146 + 633u * 1u;
-    memory_cpy(v156, v17, 7u);
-    v157 = v146 + 640u * 1u;
-    store_address(v157, v103);
-    v158 = v146 + 648u * 1u;
-    store64(v158, v105);
-    v159 = v146 + 656u * 1u;
-    store64(v159, v107);
-    v160 = v146 + 664u * 1u;
-    memory_cpy(v160, v18, 112u);
-    v161 = v146 + 776u * 1u;
-    store_address(v161, v7);
-    v162 = v146 + 784u * 1u;
-    store64(v162, v6);
-    v163 = v146 + 792u * 1u;
-    store64(v163, a1);
-    v164 = v146 + 800u * 1u;
-    memory_set(v164, 0u, 43u);
-    v165 = v146 + 843u * 1u;
-    store8(v165, v20);
-    v166 = v146 + 844u * 1u;
-    store32(v166, 0u);
-    v167 = load8(v24);
-    v168 = load_address(v26);
-    store64(v24, 4u);
-    store64(v26, v145);
-    switch (v167) {
-    case 1u: goto L38;
-    case 2u: goto L39;
-    case 3u: goto L40;
-    case 4u: goto L41;
-    case 5u: goto L42;
-    case 6u: goto L43;
-    case 7u: goto L44;
-    case 0u: v8 = 0u; goto L67;
-    default: goto L66;
-    }
+    f16(v136);
+    v9 = 35u; goto L74;
 L38:;
-    f13(v168);
-    v8 = 0u; goto L67;
+    f17(v136);
+    v9 = 35u; goto L74;
 L39:;
-    f14(v168);
-    v8 = 0u; goto L67;
+    v158 = v136 + 32u * 1u;
+    v159 = load_address(v158);
+    v160 = v136 + 48u * 1u;
+    v161 = load64(v160);
+    v162 = v136 + 56u * 1u;
+    v163 = load_address(v162);
+    v164 = v136 + 72u * 1u;
+    v165 = load64(v164);
+    portable_rattle_dealloc(v136);
+    v166 = v161 == 0u;
+    if (v166) { goto L41; }
+    else { goto L40; }
 L40:;
-    f15(v168);
-    v8 = 0u; goto L67;
+    portable_rattle_dealloc(v159);
+    goto L41;
 L41:;
-    f16(v168);
-    v8 = 0u; goto L67;
+    v167 = v165 == 0u;
+    if (v167) { v9 = 35u; goto L74; }
+    else { goto L42; }
 L42:;
-    f17(v168);
-    v8 = 0u; goto L67;
+    portable_rattle_dealloc(v163);
+    v9 = 35u; goto L74;
 L43:;
-    f18(v168);
-    v8 = 0u; goto L67;
+    f19(v136);
+    v9 = 35u; goto L74;
 L44:;
-    f19(v168);
-    v8 = 0u; goto L67;
-L45:;
-    v169 = v82 != 1u;
-    v170 = v88 == 0u;
-    v171 = v169 ? 1u : v170;
-    if (v171) { goto L47; }
-    else { goto L46; }
-L46:;
-    portable_rattle_dealloc(v84);
-    goto L47;
-L47:;
-    v172 = v100 != 1u;
-    v173 = v107 == 0u;
-    v174 = v172 ? 1u : v173;
-    if (v174) { goto L49; }
-    else { goto L48; }
-L48:;
-    portable_rattle_dealloc(v103);
-    goto L49;
-L49:;
-    if (v60) { goto L51; }
-    else { goto L50; }
-L50:;
-    portable_rattle_dealloc(v7);
-    goto L51;
-L51:;
-    v175 = load8(v24);
-    v176 = load_address(v26);
-    store64(v24, 1u);
-    store_address(v26, v28);
-    switch (v175) {
-    case 1u: goto L52;
-    case 2u: goto L53;
-    case 3u: goto L58;
-    case 4u: goto L59;
-    case 5u: goto L60;
-    case 6u: goto L61;
-    case 7u: goto L65;
-    case 0u: v8 = 35u; goto L67;
-    default: goto L66;
+    v168 = v132.m1;
+    v169 = (address)v168;
+    store_address(v169, v37);
+    v170 = v169 + 8u * 1u;
+    store64(v170, v94);
+    v171 = v169 + 16u * 1u;
+    memory_cpy(v171, v22, 232u);
+    v172 = v169 + 248u * 1u;
+    store8(v172, v97);
+    v173 = v169 + 249u * 1u;
+    memory_cpy(v173, v23, 7u);
+    v174 = v169 + 256u * 1u;
+    store_address(v174, v100);
+    v175 = v169 + 264u * 1u;
+    store64(v175, v102);
+    v176 = v169 + 272u * 1u;
+    store64(v176, v104);
+    v177 = v169 + 280u * 1u;
+    memory_cpy(v177, v12, 352u);
+    v178 = v169 + 632u * 1u;
+    store8(v178, v118);
+    v179 = v169 + 633u * 1u;
+    memory_cpy(v179, v26, 7u);
+    v180 = v169 + 640u * 1u;
+    store_address(v180, v121);
+    v181 = v169 + 648u * 1u;
+    store64(v181, v123);
+    v182 = v169 + 656u * 1u;
+    store64(v182, v125);
+    v183 = v169 + 664u * 1u;
+    memory_cpy(v183, v27, 112u);
+    v184 = v169 + 776u * 1u;
+    store_address(v184, v7);
+    v185 = v169 + 784u * 1u;
+    store64(v185, v8);
+    v186 = v169 + 792u * 1u;
+    store64(v186, a1);
+    v187 = v169 + 800u * 1u;
+    memory_set(v187, 0u, 43u);
+    v188 = v169 + 843u * 1u;
+    store8(v188, v29);
+    v189 = v169 + 844u * 1u;
+    store32(v189, 0u);
+    v190 = load8(v33);
+    v191 = load_address(v35);
+    store64(v33, 4u);
+    store64(v35, v168);
+    switch (v190) {
+    case 1u: goto L45;
+    case 2u: goto L46;
+    case 3u: goto L47;
+    case 4u: goto L48;
+    case 5u: goto L49;
+    case 6u: goto L50;
+    case 7u: goto L51;
+    case 0u: v9 = 0u; goto L74;
+    default: goto L73;
     }
+L45:;
+    f13(v191);
+    v9 = 0u; goto L74;
+L46:;
+    f14(v191);
+    v9 = 0u; goto L74;
+L47:;
+    f15(v191);
+    v9 = 0u; goto L74;
+L48:;
+    f16(v191);
+    v9 = 0u; goto L74;
+L49:;
+    f17(v191);
+    v9 = 0u; goto L74;
+L50:;
+    f18(v191);
+    v9 = 0u; goto L74;
+L51:;
+    f19(v191);
+    v9 = 0u; goto L74;
 L52:;
-    f13(v176);
-    v8 = 35u; goto L67;
+    v192 = v97 != 1u;
+    v193 = v104 == 0u;
+    v194 = v192 ? 1u : v193;
+    if (v194) { goto L54; }
+    else { goto L53; }
 L53:;
-    v177 = v176 + 48u * 1u;
-    v178 = load8(v177);
-    v179 = v176 + 64u * 1u;
-    v180 = load_address(v179);
-    v181 = v176 + 80u * 1u;
-    v182 = load64(v181);
-    v183 = v176 + 1576u * 1u;
-    v184 = load8(v183);
-    v185 = v176 + 1592u * 1u;
-    v186 = load8(v185);
-    v187 = v176 + 1600u * 1u;
-    v188 = load_address(v187);
-    v189 = v176 + 1616u * 1u;
-    v190 = load64(v189);
-    portable_rattle_dealloc(v176);
-    v191 = v178 == 0u;
-    v192 = v182 == 0u;
-    v193 = v191 ? 1u : v192;
-    if (v193) { goto L55; }
-    else { goto L54; }
+    portable_rattle_dealloc(v100);
+    goto L54;
 L54:;
-    portable_rattle_dealloc(v180);
-    goto L55;
-L55:;
-    v194 = v184 == 0u;
-    if (v194) { v8 = 35u; goto L67; }
-    else { goto L56; }
-L56:;
-    v195 = v186 != 0u;
-    v196 = v190 == 0u;
+    v195 = v118 != 1u;
+    v196 = v125 == 0u;
     v197 = v195 ? 1u : v196;
-    if (v197) { v8 = 35u; goto L67; }
+    if (v197) { goto L56; }
+    else { goto L55; }
+L55:;
+    portable_rattle_dealloc(v121);
+    goto L56;
+L56:;
+    if (v70) { goto L58; }
     else { goto L57; }
 L57:;
-    portable_rattle_dealloc(v188);
-    v8 = 35u; goto L67;
+    portable_rattle_dealloc(v7);
+    goto L58;
 L58:;
-    f15(v176);
-    v8 = 35u; goto L67;
+    v198 = load8(v33);
+    v199 = load_address(v35);
+    store64(v33, 1u);
+    store_address(v35, v37);
+    switch (v198) {
+    case 1u: goto L59;
+    case 2u: goto L60;
+    case 3u: goto L65;
+    case 4u: goto L66;
+    case 5u: goto L67;
+    case 6u: goto L68;
+    case 7u: goto L72;
+    case 0u: v9 = 35u; goto L74;
+    default: goto L73;
+    }
 L59:;
-    f16(v176);
-    v8 = 35u; goto L67;
+    f13(v199);
+    v9 = 35u; goto L74;
 L60:;
-    f17(v176);
-    v8 = 35u; goto L67;
-L61:;
-    v198 = v176 + 32u * 1u;
-    v199 = load_address(v198);
-    v200 = v176 + 48u * 1u;
-    v201 = load64(v200);
-    v202 = v176 + 56u * 1u;
+    v200 = v199 + 48u * 1u;
+    v201 = load8(v200);
+    v202 = v199 + 64u * 1u;
     v203 = load_address(v202);
-    v204 = v176 + 72u * 1u;
+    v204 = v199 + 80u * 1u;
     v205 = load64(v204);
-    portable_rattle_dealloc(v176);
-    v206 = v201 == 0u;
-    if (v206) { goto L63; }
-    else { goto L62; }
-L62:;
+    v206 = v199 + 1576u * 1u;
+    v207 = load8(v206);
+    v208 = v199 + 1592u * 1u;
+    v209 = load8(v208);
+    v210 = v199 + 1600u * 1u;
+    v211 = load_address(v210);
+    v212 = v199 + 1616u * 1u;
+    v213 = load64(v212);
     portable_rattle_dealloc(v199);
-    goto L63;
+    v214 = v201 == 0u;
+    v215 = v205 == 0u;
+    v216 = v214 ? 1u : v215;
+    if (v216) { goto L62; }
+    else { goto L61; }
+L61:;
+    portable_rattle_dealloc(v203);
+    goto L62;
+L62:;
+    v217 = v207 == 0u;
+    if (v217) { v9 = 35u; goto L74; }
+    else { goto L63; }
 L63:;
-    v207 = v205 == 0u;
-    if (v207) { v8 = 35u; goto L67; }
+    v218 = v209 != 0u;
+    v219 = v213 == 0u;
+    v220 = v218 ? 1u : v219;
+    if (v220) { v9 = 35u; goto L74; }
     else { goto L64; }
 L64:;
-    portable_rattle_dealloc(v203);
-    v8 = 35u; goto L67;
+    portable_rattle_dealloc(v211);
+    v9 = 35u; goto L74;
 L65:;
-    f19(v176);
-    v8 = 35u; goto L67;
+    f15(v199);
+    v9 = 35u; goto L74;
 L66:;
-    UNREACHABLE;
+    f16(v199);
+    v9 = 35u; goto L74;
 L67:;
-    v9 = v8; goto L71;
+    f17(v199);
+    v9 = 35u; goto L74;
 L68:;
-    store64(v24, 4u);
-    store64(v26, v27);
-    v9 = 0u; goto L71;
+    v221 = v199 + 32u * 1u;
+    v222 = load_address(v221);
+    v223 = v199 + 48u * 1u;
+    v224 = load64(v223);
+    v225 = v199 + 56u * 1u;
+    v226 = load_address(v225);
+    v227 = v199 + 72u * 1u;
+    v228 = load64(v227);
+    portable_rattle_dealloc(v199);
+    v229 = v224 == 0u;
+    if (v229) { goto L70; }
+    else { goto L69; }
 L69:;
-    v208 = (u64)v25;
-    store64(v24, v208);
-    store64(v26, v27);
-    v9 = 32u; goto L71;
+    portable_rattle_dealloc(v222);
+    goto L70;
 L70:;
-    UNREACHABLE;
+    v230 = v228 == 0u;
+    if (v230) { v9 = 35u; goto L74; }
+    else { goto L71; }
 L71:;
-    return v9;
+    portable_rattle_dealloc(v226);
+    v9 = 35u; goto L74;
+L72:;
+    f19(v199);
+    v9 = 35u; goto L74;
+L73:;
+    UNREACHABLE;
+L74:;
+    v10 = v9; goto L78;
+L75:;
+    store64(v33, 4u);
+    store64(v35, v36);
+    v10 = 0u; goto L78;
+L76:;
+    v231 = (u64)v34;
+    store64(v33, v231);
+    store64(v35, v36);
+    v10 = 32u; goto L78;
+L77:;
+    UNREACHABLE;
+L78:;
+    return v10;
 }
 
 void portable_ptpm_clock_stop(address a0) {
@@ -40836,13 +44283,13 @@ L5:;
     default: goto L9;
     }
 L6:;
-    f43(v11, v29, a1, v17, a3, v20, a7);
+    f44(v11, v29, a1, v17, a3, v20, a7);
     goto L10;
 L7:;
-    f58(v11, v29, a1, v17, a3, v34, v20, a7);
+    f60(v11, v29, a1, v17, a3, v34, v20, a7);
     goto L10;
 L8:;
-    f63(v11, v29, a1, v17, a3, v37, v39, v20, a7);
+    f65(v11, v29, a1, v17, a3, v37, v39, v20, a7);
     goto L10;
 L9:;
     UNREACHABLE;
@@ -40911,7 +44358,7 @@ L23:;
 L24:;
     v58 = v25 + 8u * 1u;
     v59 = load_address(v58);
-    v60 = f81(v59, a1, v17, a3, a4, v26, v20, a7, a8);
+    v60 = f89(v59, a1, v17, a3, a4, v26, v20, a7, a8);
     v10 = v60; goto L26;
 L25:;
     UNREACHABLE;
@@ -40969,10 +44416,10 @@ u64 portable_ptpm_error_name(u16 a0, address a1, u64 a2) {
     else { v4 = 0u; goto L5; }
 L1:;
     v13 = (u64)v8;
-    v14 = ADDRESS(c358) + v13 * 8u;
+    v14 = ADDRESS(c359) + v13 * 8u;
     v15 = load64(v14);
     v16 = (u64)v8;
-    v17 = ADDRESS(c359) + v16 * 8u;
+    v17 = ADDRESS(c360) + v16 * 8u;
     v18 = load_address(v17);
     v19 = a2 < v15;
     if (v19) { v4 = 0u; goto L5; }
@@ -41159,7 +44606,7 @@ L4:;
     if (v138) { goto L7; }
     else { v10 = v136; v11 = v137; v12 = v135; goto L3; }
 L5:;
-    f27(v79, v9, v11);
+    f28(v79, v9, v11);
     v139 = load8(v79);
     v140 = v139 == 0u;
     if (v140) { goto L6; }
@@ -41376,7 +44823,7 @@ L30:;
     v52 = 11u; v53 = 4u; goto L31;
 L31:;
     memory_set(v78, 0u, 144u);
-    v232 = f83(v52, v53);
+    v232 = f91(v52, v53);
     v233 = v232 > 130u;
     if (v233) { goto L33; }
     else { goto L32; }
@@ -41432,7 +44879,7 @@ L45:;
     UNREACHABLE;
 L46:;
     v235 = (u64)v53;
-    v236 = ADDRESS(c360) + v235 * 8u;
+    v236 = ADDRESS(c361) + v235 * 8u;
     v237 = load_address(v236);
     v54 = v237; goto L47;
 L47:;
@@ -41486,7 +44933,7 @@ L52:;
     store8(v241, v263);
     v264 = load8(v244);
     store8(v243, v264);
-    v265 = f89(v75);
+    v265 = f97(v75);
     v266 = v265.m0;
     v267 = v265.m1;
     v268 = v257 == v267;
@@ -41520,7 +44967,7 @@ L55:;
 L56:;
     v61 = v264; v62 = v263; v63 = v262; v64 = 2u; goto L58;
 L57:;
-    f84(v76, v74, v259, v261, v78);
+    f92(v76, v74, v259, v261, v78);
     v285 = load8(v76);
     v286 = load8(v245);
     v287 = load8(v246);
@@ -41534,7 +44981,7 @@ L58:;
 L59:;
     goto L62;
 L60:;
-    f84(v77, v54, v51, v50, v78);
+    f92(v77, v54, v51, v50, v78);
     v291 = load8(v77);
     v292 = v77 + 1u * 1u;
     v293 = load8(v292);
@@ -41581,7 +45028,7 @@ L69:;
     store8(v304, v67);
     v305 = v72 + 2u * 1u;
     store8(v305, v68);
-    v306 = f91(a0, v72);
+    v306 = f99(a0, v72);
     v69 = 0u; v70 = v306; v71 = 116u; goto L71;
 L70:;
     store8(v73, v66);
@@ -41589,7 +45036,7 @@ L70:;
     store8(v307, v67);
     v308 = v73 + 2u * 1u;
     store8(v308, v68);
-    v309 = f91(a0, v73);
+    v309 = f99(a0, v73);
     v69 = 0u; v70 = v309; v71 = 117u; goto L71;
 L71:;
     store64(a5, v69);
@@ -41693,7 +45140,7 @@ L19:;
     if (v35) { goto L20; }
     else { goto L49; }
 L20:;
-    f92(1u, 1u, v19);
+    f100(1u, 1u, v19);
     v36 = load8(v31);
     v37 = v36 == 1u;
     if (v37) { goto L21; }
@@ -41729,7 +45176,7 @@ L25:;
     store64(v32, v6);
     goto L26;
 L26:;
-    f92(1u, 2u, v19);
+    f100(1u, 2u, v19);
     v51 = load8(v31);
     v52 = v51 == 1u;
     if (v52) { goto L27; }
@@ -41765,7 +45212,7 @@ L31:;
     store64(v32, v8);
     goto L32;
 L32:;
-    f92(1u, 3u, v19);
+    f100(1u, 3u, v19);
     v66 = load8(v31);
     v67 = v66 == 1u;
     if (v67) { goto L33; }
@@ -41801,7 +45248,7 @@ L37:;
     store64(v32, v10);
     goto L38;
 L38:;
-    f92(1u, 4u, v19);
+    f100(1u, 4u, v19);
     v81 = load8(v31);
     v82 = v81 == 1u;
     if (v82) { goto L39; }
@@ -41837,7 +45284,7 @@ L43:;
     store64(v32, v12);
     goto L44;
 L44:;
-    f92(1u, 254u, v19);
+    f100(1u, 254u, v19);
     v96 = load8(v31);
     v97 = v96 == 1u;
     if (v97) { goto L45; }
@@ -42065,7 +45512,7 @@ u64 portable_ptpm_field_text(u16 a0, address a1, u64 a2, address a3, u64 a4) {
     store64(v209, 1u);
     v210 = v201 + 24u * 1u;
     store64(v210, 0u);
-    v211 = f93(a0, v204, a2);
+    v211 = f101(a0, v204, a2);
     v212 = v211.m0;
     v213 = v211.m1;
     v214 = v213 == 0u;
@@ -42246,7 +45693,7 @@ L26:;
     store8(v200, v286);
     store8(v215, v288);
     store8(v216, v290);
-    v307 = f89(v200);
+    v307 = f97(v200);
     v308 = v307.m0;
     v309 = v307.m1;
     v310 = v41 == 1u;
@@ -42401,7 +45848,7 @@ L49:;
     if (v380) { v168 = v85; v169 = v86; v170 = v87; v171 = v88; v172 = v89; v173 = v90; v174 = v91; v175 = v92; v176 = v93; v177 = v94; v178 = v95; v179 = v96; goto L176; }
     else { v69 = v85; v70 = v86; v71 = v87; v72 = v88; v73 = v89; v74 = v90; v75 = v91; v76 = v92; v77 = v93; v78 = v94; v79 = v95; v80 = v96; v81 = v97; v82 = v379; goto L43; }
 L50:;
-    f95(v199, v294, v296, v298, v299);
+    f103(v199, v294, v296, v298, v299);
     v381 = load8(v199);
     v382 = load8(v217);
     v383 = load8(v218);
@@ -42427,11 +45874,11 @@ L50:;
     default: goto L174;
     }
 L51:;
-    f96(v387, v201);
+    f104(v387, v201);
     goto L175;
 L52:;
     memory_set(v196, 0u, 40u);
-    v389 = f97(v196, v387);
+    v389 = f105(v196, v387);
     v390 = v389.m0;
     v391 = v389.m1;
     v392 = v98 == 1u;
@@ -42541,7 +45988,7 @@ L68:;
     goto L69;
 L69:;
     v443 = (u64)((u64)v433 >> (16u & 63u));
-    f96(v443, v201);
+    f104(v443, v201);
     v444 = load8(v209);
     v445 = v444 == 1u;
     if (v445) { goto L70; }
@@ -42570,7 +46017,7 @@ L74:;
     v454 = (u32)((u32)v117 * (u32)10u);
     v455 = (u32)((u32)v454 >> (16u & 31u));
     v456 = (u64)v455;
-    f96(v456, v201);
+    f104(v456, v201);
     v457 = (u32)((u32)v454 & (u32)65534u);
     v458 = v457 == 0u;
     v459 = (u8)((u32)v118 + (u32)255u);
@@ -42722,10 +46169,10 @@ L95:;
     goto L96;
 L96:;
     v528 = (u64)((u64)v491 & (u64)65535u);
-    f96(v528, v201);
+    f104(v528, v201);
     goto L175;
 L97:;
-    f92(v382, v383, v201);
+    f100(v382, v383, v201);
     goto L175;
 L98:;
     v529 = v103 == 1u;
@@ -42771,7 +46218,7 @@ L103:;
     goto L104;
 L104:;
     v547 = (u64)v383;
-    f96(v547, v201);
+    f104(v547, v201);
     v548 = load8(v209);
     v549 = v548 == 1u;
     if (v549) { goto L105; }
@@ -43426,7 +46873,7 @@ u32 portable_ptpm_id_named(address a0, u64 a1) {
     v2 = a0 == 0u;
     v3 = v2 ? 4096u : 0u;
     v4 = a0 + v3 * 1u;
-    v5 = f98(v4, a1);
+    v5 = f106(v4, a1);
     v6 = v5.m0;
     v7 = v6 == 1u;
     v8 = v5.m1;
@@ -43464,13 +46911,13 @@ L2:;
 L3:;
     v11 = v5 + 2u * 1u;
     v12 = (u64)((u64)a1 + (u64)UINT64_C(18446744073709551614));
-    v13 = f99(v11, v12);
+    v13 = f107(v11, v12);
     v2 = v13; goto L5;
 L4:;
-    v14 = f98(v5, a1);
+    v14 = f106(v5, a1);
     v15 = v14.m0;
     v16 = v14.m1;
-    v17 = f99(v5, a1);
+    v17 = f107(v5, a1);
     v18 = v17.m0;
     v19 = v17.m1;
     v20 = (u8)((v15) & UINT64_C(1));
@@ -43503,7 +46950,7 @@ u8 portable_ptpm_identity_parse(address a0, u64 a1, address a2) {
     v8 = a0 + v7 * 1u;
     memory_set(v5, 0u, 9u);
     memory_set(v4, 0u, 24u);
-    f27(v4, v8, a1);
+    f28(v4, v8, a1);
     v9 = load8(v4);
     v10 = v9 == 0u;
     if (v10) { goto L2; }
@@ -43515,7 +46962,7 @@ L2:;
     v12 = load_address(v11);
     v13 = v4 + 16u * 1u;
     v14 = load64(v13);
-    f100(v5, v12, v14);
+    f108(v5, v12, v14);
     v15 = load8(v5);
     v16 = v15 == 1u;
     if (v16) { goto L3; }
@@ -43554,7 +47001,7 @@ L1:;
     v18 = v7 + 4u * 1u;
     store64(v18, v17);
     store64(v16, 12u);
-    v19 = f101(v14, a2, v7, 12u);
+    v19 = f109(v14, a2, v7, 12u);
     v20 = swap32(v19);
     v21 = v7 + 12u * 1u;
     store32(v21, v20);
@@ -43580,7 +47027,7 @@ u32 portable_ptpm_image_unseal(address a0, u64 a1, address a2, address a3) {
     memory_set(v5, 0u, 24u);
     store64(a2, 0u);
     store64(a3, 0u);
-    f102(v5, v8, a1);
+    f110(v5, v8, a1);
     v9 = load8(v5);
     v10 = v9 == 0u;
     if (v10) { goto L1; }
@@ -43840,7 +47287,7 @@ L12:;
     v186 = v19 + 24u * 1u;
     store64(v186, v13);
     v187 = load_address(v179);
-    f103(v20, v187, v19, v23, a3, v26, a5, v29, a7);
+    f111(v20, v187, v19, v23, a3, v26, a5, v29, a7);
     v188 = load8(v20);
     v189 = v188 == 0u;
     if (v189) { goto L13; }
@@ -43854,7 +47301,7 @@ L14:;
     v192 = v20 + 1u * 1u;
     v193 = load8(v192);
     v194 = (u64)v193;
-    v195 = ADDRESS(c361) + v194 * 4u;
+    v195 = ADDRESS(c362) + v194 * 4u;
     v196 = load32(v195);
     v18 = v196; goto L15;
 L15:;
@@ -43930,7 +47377,7 @@ L1:;
 L2:;
     v29 = v26 + 8u * 1u;
     v30 = load_address(v29);
-    f108(v19, v30, v22, a2);
+    f116(v19, v30, v22, a2);
     v31 = load8(v19);
     v32 = v31 == 0u;
     if (v32) { goto L3; }
@@ -44075,7 +47522,7 @@ L15:;
     v113 = v19 + 1u * 1u;
     v114 = load8(v113);
     v115 = (u64)v114;
-    v116 = ADDRESS(c362) + v115 * 4u;
+    v116 = ADDRESS(c363) + v115 * 4u;
     v117 = load32(v116);
     v18 = v117; goto L16;
 L16:;
@@ -44169,11 +47616,11 @@ u16 portable_ptpm_limits_say(address a0, u64 a1, address a2) {
     default: goto L11;
     }
 L1:;
-    v11 = f110(v8, a1, a2);
+    v11 = f118(v8, a1, a2);
     if (v11) { v5 = 6u; goto L12; }
     else { goto L11; }
 L2:;
-    v12 = f110(v8, a1, a2);
+    v12 = f118(v8, a1, a2);
     if (v12) { v5 = 5u; goto L12; }
     else { goto L3; }
 L3:;
@@ -44248,7 +47695,7 @@ u32 portable_ptpm_member_kind(u16 a0, address a1, u64 a2, u64 a3) {
     v7 = v6 ? 4096u : 0u;
     v8 = a1 + v7 * 1u;
     memory_set(v5, 0u, 24u);
-    v9 = f93(a0, v8, a2);
+    v9 = f101(a0, v8, a2);
     v10 = v9.m1;
     v11 = a3 < v10;
     if (v11) { goto L1; }
@@ -44266,7 +47713,7 @@ L1:;
     v21 = (u64)v20;
     v22 = v8 + v21 * 1u;
     v23 = (u64)((u64)a2 - (u64)v21);
-    f95(v5, v16, v18, v22, v23);
+    f103(v5, v16, v18, v22, v23);
     v24 = load8(v5);
     switch (v24) {
     case 0u: v4 = 1u; goto L12;
@@ -44335,7 +47782,7 @@ L3:;
     memory_set(v17, 0u, 24u);
     v26 = (u64)((u64)v5 * (u64)a2);
     v27 = v20 + v26 * 1u;
-    f102(v17, v27, a2);
+    f110(v17, v27, a2);
     v28 = load8(v17);
     v29 = v28 == 0u;
     if (v29) { goto L5; }
@@ -44389,7 +47836,7 @@ L1:;
     v12 = a1 + v11 * 1u;
     v13 = (u8)(v8);
     memory_set(v7, 0u, 24u);
-    f27(v7, v12, a2);
+    f28(v7, v12, a2);
     v14 = load8(v7);
     v15 = v14 == 0u;
     if (v15) { goto L2; }
@@ -44401,10 +47848,10 @@ L2:;
     v19 = load64(v18);
     memory_set(v6, 0u, 24u);
     v20 = (u64)v8;
-    v21 = ADDRESS(c363) + v20 * 8u;
+    v21 = ADDRESS(c364) + v20 * 8u;
     v22 = load64(v21);
     v23 = (u64)v8;
-    v24 = ADDRESS(c364) + v23 * 8u;
+    v24 = ADDRESS(c365) + v23 * 8u;
     v25 = load_address(v24);
     v26 = v6 + 16u * 1u;
     v27 = v6 + 8u * 1u;
@@ -44413,7 +47860,7 @@ L2:;
 L3:;
     v29 = v25 + v3 * 1u;
     v30 = load8(v29);
-    f87(v6, v13, v30);
+    f95(v6, v13, v30);
     v31 = load8(v6);
     v32 = v31 == 1u;
     if (v32) { goto L4; }
@@ -44476,7 +47923,7 @@ L1:;
     v3 = ADDRESS(c328) + a0 * 1u;
     v4 = load8(v3);
     v5 = (u64)v4;
-    v6 = ADDRESS(c367) + v5 * 4u;
+    v6 = ADDRESS(c368) + v5 * 4u;
     v7 = load32(v6);
     v1 = v7; goto L2;
 L2:;
@@ -44560,7 +48007,7 @@ u32 portable_ptpm_other_id_named(address a0, u64 a1) {
     v7 = v6 ? 4096u : 0u;
     v8 = a0 + v7 * 1u;
     memory_set(v5, 0u, 24u);
-    f27(v5, v8, a1);
+    f28(v5, v8, a1);
     v9 = load8(v5);
     v10 = v9 == 0u;
     if (v10) { goto L1; }
@@ -44575,10 +48022,10 @@ L2:;
     v15 = ADDRESS(c328) + v2 * 1u;
     v16 = load8(v15);
     v17 = (u64)v16;
-    v18 = ADDRESS(c365) + v17 * 8u;
+    v18 = ADDRESS(c366) + v17 * 8u;
     v19 = load64(v18);
     v20 = (u64)v16;
-    v21 = ADDRESS(c366) + v20 * 8u;
+    v21 = ADDRESS(c367) + v20 * 8u;
     v22 = load_address(v21);
     v23 = v14 == v19;
     if (v23) { v3 = 0u; goto L4; }
@@ -44611,7 +48058,7 @@ L5:;
     else { v2 = v39; goto L2; }
 L6:;
     v41 = (u64)v16;
-    v42 = ADDRESS(c367) + v41 * 4u;
+    v42 = ADDRESS(c368) + v41 * 4u;
     v43 = load32(v42);
     v4 = v43; goto L7;
 L7:;
@@ -44628,7 +48075,7 @@ u8 portable_ptpm_passed_on_is_first(address a0, address a1, u64 a2, u64 a3, u64 
     v8 = v7 ? 4096u : 0u;
     v9 = a1 + v8 * 1u;
     v10 = load64(a0);
-    f111(v6, v9, a2);
+    f119(v6, v9, a2);
     v11 = load8(v6);
     v12 = v11 == 1u;
     if (v12) { goto L1; }
@@ -44636,7 +48083,7 @@ u8 portable_ptpm_passed_on_is_first(address a0, address a1, u64 a2, u64 a3, u64 
 L1:;
     v13 = a0 + 8u * 1u;
     v14 = v6 + 8u * 1u;
-    v15 = f112(v10, v13, 4096u, v14, a3, a4);
+    v15 = f120(v10, v13, 4096u, v14, a3, a4);
     v5 = v15; goto L2;
 L2:;
     return v5;
@@ -44659,14 +48106,14 @@ L1:;
     v14 = a3 == 0u;
     v15 = v14 ? 4096u : 0u;
     v16 = a3 + v15 * 1u;
-    f111(v8, v16, a4);
+    f119(v8, v16, a4);
     v17 = load8(v8);
     v18 = v17 == 1u;
     if (v18) { goto L2; }
     else { v7 = 0u; goto L3; }
 L2:;
     v19 = v8 + 8u * 1u;
-    v20 = f112(a0, v11, a2, v19, a5, a6);
+    v20 = f120(a0, v11, a2, v19, a5, a6);
     v7 = v20; goto L3;
 L3:;
     return v7;
@@ -44709,7 +48156,7 @@ u8 portable_ptpm_port_identity_parse(address a0, u64 a1, address a2, address a3)
     v11 = v10 ? 4096u : 0u;
     v12 = a0 + v11 * 1u;
     memory_set(v9, 0u, 24u);
-    f27(v9, v12, a1);
+    f28(v9, v12, a1);
     v13 = load8(v9);
     v14 = v13 == 0u;
     if (v14) { goto L2; }
@@ -44723,7 +48170,7 @@ L2:;
     v18 = load64(v17);
     memory_set(v7, 0u, 12u);
     memory_set(v8, 0u, 12u);
-    f113(v7, 47u, v16, v18);
+    f121(v7, 47u, v16, v18);
     v19 = load8(v7);
     v20 = v19 == 1u;
     v21 = v8 + 10u * 1u;
@@ -44737,7 +48184,7 @@ L3:;
     v25 = load16(v21);
     v4 = v25; v5 = v24; goto L5;
 L4:;
-    f113(v8, 45u, v16, v18);
+    f121(v8, 45u, v16, v18);
     v26 = load8(v8);
     v27 = v8 + 2u * 1u;
     v28 = load64(v27);
@@ -45297,7 +48744,7 @@ L28:;
     v241 = load64(v240);
     memory_set(v112, 0u, 32u);
     memory_set(v113, 0u, 32u);
-    f115(v112, v237, v239, v241);
+    f123(v112, v237, v239, v241);
     v242 = load8(v112);
     v243 = v242 == 0u;
     if (v243) { goto L29; }
@@ -45309,7 +48756,7 @@ L29:;
     v247 = load64(v246);
     v248 = v112 + 24u * 1u;
     v249 = load64(v248);
-    f115(v113, v237, v10, v9);
+    f123(v113, v237, v10, v9);
     v250 = load8(v113);
     v251 = v250 == 0u;
     if (v251) { goto L30; }
@@ -46849,7 +50296,7 @@ L54:;
     v746 = v146 + 176u * 1u;
     v747 = v146 + 174u * 1u;
     v748 = load64(a1);
-    f122(v146, v748);
+    f130(v146, v748);
     v85 = v745; v86 = v746; v87 = v747; v88 = v147; v89 = v146; goto L190;
 L55:;
     v749 = load16(v218);
@@ -46898,7 +50345,7 @@ L61:;
     store16(v760, 1u);
     v773 = (u16)(v30);
     store16(v761, v773);
-    v774 = f104(v759, v131);
+    v774 = f112(v759, v131);
     if (v774) { v31 = 1u; v32 = v773; goto L63; }
     else { goto L62; }
 L62:;
@@ -47057,7 +50504,7 @@ L88:;
 L89:;
     v853 = v130 + 8u * 1u;
     memory_set(v853, 0u, 40u);
-    f124(v130, v134, a3);
+    f132(v130, v134, a3);
     v854 = load8(v130);
     v855 = load16(v853);
     v856 = v130 + 10u * 1u;
@@ -47144,7 +50591,7 @@ L98:;
     if (v909) { goto L101; }
     else { v59 = v908; goto L97; }
 L99:;
-    v910 = f42(v48, v47, v867, v47);
+    v910 = f43(v48, v47, v867, v47);
     if (v910) { goto L101; }
     else { v60 = 3u; goto L106; }
 L100:;
@@ -47173,7 +50620,7 @@ L105:;
 L106:;
     v919 = v129 + 8u * 1u;
     memory_set(v919, 0u, 40u);
-    f124(v129, v134, a3);
+    f132(v129, v134, a3);
     v920 = load8(v129);
     v921 = v920 == 1u;
     v922 = v129 + 16u * 1u;
@@ -47234,7 +50681,7 @@ L112:;
     store16(v220, 0u);
     v107 = 3u; v108 = v749; v109 = 65535u; v110 = 0u; goto L227;
 L113:;
-    f122(v214, v215);
+    f130(v214, v215);
     v85 = v220; v86 = v219; v87 = v218; v88 = v216; v89 = v214; goto L190;
 L114:;
     store64(v127, 2u);
@@ -47253,7 +50700,7 @@ L114:;
     memory_set(v128, 0u, 16u);
     v946 = load_address(v938);
     v947 = load64(v939);
-    f103(v128, v937, v127, ADDRESS(c148), 0u, ADDRESS(c148), 0u, v946, v947);
+    f111(v128, v937, v127, ADDRESS(c148), 0u, ADDRESS(c148), 0u, v946, v947);
     v948 = load8(v128);
     v949 = v948 == 0u;
     if (v949) { goto L115; }
@@ -47287,7 +50734,7 @@ L117:;
     memory_set(v126, 0u, 16u);
     v959 = load_address(v938);
     v960 = load64(v939);
-    f103(v126, v937, v125, ADDRESS(c148), 0u, ADDRESS(c148), 0u, v959, v960);
+    f111(v126, v937, v125, ADDRESS(c148), 0u, ADDRESS(c148), 0u, v959, v960);
     v961 = load8(v126);
     v962 = v961 == 0u;
     if (v962) { goto L118; }
@@ -47321,7 +50768,7 @@ L120:;
     memory_set(v124, 0u, 16u);
     v972 = load_address(v938);
     v973 = load64(v939);
-    f103(v124, v937, v123, ADDRESS(c148), 0u, ADDRESS(c148), 0u, v972, v973);
+    f111(v124, v937, v123, ADDRESS(c148), 0u, ADDRESS(c148), 0u, v972, v973);
     v974 = load8(v124);
     v975 = v974 == 0u;
     if (v975) { goto L121; }
@@ -47358,7 +50805,7 @@ L125:;
     store16(v220, 0u);
     v107 = 3u; v108 = v749; v109 = 65535u; v110 = 0u; goto L227;
 L126:;
-    f125(v214, v749, v61);
+    f133(v214, v749, v61);
     v85 = v220; v86 = v219; v87 = v218; v88 = v216; v89 = v214; goto L190;
 L127:;
     v979 = v935 == 1u;
@@ -47380,7 +50827,7 @@ L129:;
     store8(v988, 1u);
     goto L130;
 L130:;
-    f122(v214, v215);
+    f130(v214, v215);
     v85 = v220; v86 = v219; v87 = v218; v88 = v216; v89 = v214; goto L190;
 L131:;
     v989 = (u16)v56;
@@ -47392,7 +50839,7 @@ L131:;
     store16(v220, v55);
     v85 = v220; v86 = v219; v87 = v218; v88 = v216; v89 = v214; goto L190;
 L132:;
-    f122(v214, v215);
+    f130(v214, v215);
     v85 = v220; v86 = v219; v87 = v218; v88 = v216; v89 = v214; goto L190;
 L133:;
     if (v54) { goto L134; }
@@ -47446,7 +50893,7 @@ L138:;
     v1009 = load_address(v1008);
     v1010 = v214 + 192u * 1u;
     v1011 = load64(v1010);
-    f103(v122, v1007, v121, ADDRESS(c148), 0u, ADDRESS(c148), 0u, v1009, v1011);
+    f111(v122, v1007, v121, ADDRESS(c148), 0u, ADDRESS(c148), 0u, v1009, v1011);
     v1012 = load8(v122);
     v1013 = v1012 == 0u;
     if (v1013) { goto L139; }
@@ -47484,7 +50931,7 @@ L141:;
     v1026 = load_address(v1025);
     v1027 = v214 + 192u * 1u;
     v1028 = load64(v1027);
-    f103(v120, v1024, v119, ADDRESS(c148), 0u, ADDRESS(c148), 0u, v1026, v1028);
+    f111(v120, v1024, v119, ADDRESS(c148), 0u, ADDRESS(c148), 0u, v1026, v1028);
     v1029 = load8(v120);
     v1030 = v1029 == 0u;
     if (v1030) { goto L142; }
@@ -47504,7 +50951,7 @@ L143:;
 L144:;
     UNREACHABLE;
 L145:;
-    f122(v214, v215);
+    f130(v214, v215);
     v85 = v220; v86 = v219; v87 = v218; v88 = v216; v89 = v214; goto L190;
 L146:;
     v1034 = load16(v157);
@@ -47541,7 +50988,7 @@ L148:;
     v1051 = load_address(v1050);
     v1052 = v153 + 192u * 1u;
     v1053 = load64(v1052);
-    f103(v118, v1049, v117, ADDRESS(c148), 0u, ADDRESS(c148), 0u, v1051, v1053);
+    f111(v118, v1049, v117, ADDRESS(c148), 0u, ADDRESS(c148), 0u, v1051, v1053);
     v1054 = load8(v118);
     v1055 = v1054 == 0u;
     if (v1055) { goto L149; }
@@ -47563,22 +51010,22 @@ L151:;
     v1060 = v175 + 176u * 1u;
     v1061 = v175 + 174u * 1u;
     v1062 = load64(a1);
-    f126(v175, v1062, 4u, 0u, ADDRESS(c148), 0u);
+    f134(v175, v1062, 4u, 0u, ADDRESS(c148), 0u);
     v85 = v1059; v86 = v1060; v87 = v1061; v88 = v176; v89 = v175; goto L190;
 L152:;
     if (v29) { goto L153; }
     else { v63 = v19; v64 = v20; v65 = v21; v66 = v22; v67 = v23; v68 = v24; v69 = v25; v70 = v26; goto L154; }
 L153:;
-    f126(v24, v23, 0u, 0u, v25, v26);
+    f134(v24, v23, 0u, 0u, v25, v26);
     v85 = v19; v86 = v20; v87 = v21; v88 = v22; v89 = v24; goto L190;
 L154:;
-    f126(v68, v67, 1u, 0u, v69, v70);
+    f134(v68, v67, 1u, 0u, v69, v70);
     v85 = v63; v86 = v64; v87 = v65; v88 = v66; v89 = v68; goto L190;
 L155:;
-    f126(v76, v75, 2u, v77, ADDRESS(c148), 0u);
+    f134(v76, v75, 2u, v77, ADDRESS(c148), 0u);
     v85 = v71; v86 = v72; v87 = v73; v88 = v74; v89 = v76; goto L190;
 L156:;
-    f126(v179, v180, 3u, 0u, ADDRESS(c148), 0u);
+    f134(v179, v180, 3u, 0u, ADDRESS(c148), 0u);
     v85 = v185; v86 = v184; v87 = v183; v88 = v181; v89 = v179; goto L190;
 L157:;
     v1063 = load8(v192);
@@ -47696,7 +51143,7 @@ L171:;
     store8(v1119, 1u);
     goto L172;
 L172:;
-    f122(v188, v189);
+    f130(v188, v189);
     v85 = v194; v86 = v193; v87 = v192; v88 = v190; v89 = v188; goto L190;
 L173:;
     store16(v190, 13u);
@@ -47706,11 +51153,11 @@ L173:;
     store16(v194, v1065);
     v105 = 1u; v106 = v1065; goto L225;
 L174:;
-    f122(v188, v189);
+    f130(v188, v189);
     v85 = v194; v86 = v193; v87 = v192; v88 = v190; v89 = v188; goto L190;
 L175:;
     v1120 = (u8)((v1066) & UINT64_C(1));
-    f125(v188, v1065, v1120);
+    f133(v188, v1065, v1120);
     v85 = v194; v86 = v193; v87 = v192; v88 = v190; v89 = v188; goto L190;
 L176:;
     store16(v190, 4u);
@@ -47733,7 +51180,7 @@ L177:;
 L178:;
     UNREACHABLE;
 L179:;
-    f122(v188, v189);
+    f130(v188, v189);
     v85 = v194; v86 = v193; v87 = v192; v88 = v190; v89 = v188; goto L190;
 L180:;
     v1126 = v162 + 178u * 1u;
@@ -47756,7 +51203,7 @@ L181:;
     v1134 = v116 + 18u * 1u;
     store16(v1134, v1131);
     v1135 = v167 + 8u * 1u;
-    v1136 = f104(v1135, v116);
+    v1136 = f112(v1135, v116);
     if (v1136) { goto L182; }
     else { goto L185; }
 L182:;
@@ -47768,7 +51215,7 @@ L182:;
     v1139 = load_address(v1138);
     v1140 = v167 + 192u * 1u;
     v1141 = load64(v1140);
-    f103(v115, v1135, v114, ADDRESS(c148), 0u, ADDRESS(c148), 0u, v1139, v1141);
+    f111(v115, v1135, v114, ADDRESS(c148), 0u, ADDRESS(c148), 0u, v1139, v1141);
     v1142 = load8(v115);
     v1143 = v1142 == 0u;
     if (v1143) { goto L183; }
@@ -48103,7 +51550,7 @@ L4:;
 L5:;
     v36 = v20.m1;
     v37 = (u64)v36;
-    v38 = ADDRESS(c368) + v37 * 4u;
+    v38 = ADDRESS(c369) + v37 * 4u;
     v39 = load32(v38);
     v6 = v39; goto L6;
 L6:;
@@ -48213,7 +51660,7 @@ L10:;
     else { goto L11; }
 L11:;
     v61 = (u64)v8;
-    v62 = ADDRESS(c368) + v61 * 4u;
+    v62 = ADDRESS(c369) + v61 * 4u;
     v63 = load32(v62);
     v9 = v63; goto L12;
 L12:;
@@ -48744,16 +52191,16 @@ L2:;
 
 u32 portable_ptpm_sizes_agree(address a0, u64 a1) {
     u64 v2, v3, v6, v9, v11, v14, v15, v17, v18, v21, v22, v24, v25, v28, v29, v31;
-    u64 v32, v35, v36, v38, v42, v45, v48;
-    u32 v4, v50;
-    u8 v5, v8, v10, v16, v23, v30, v37, v39, v40, v43, v46, v49;
-    address v7, v12, v13, v19, v20, v26, v27, v33, v34, v41, v44, v47;
+    u64 v32, v35, v36, v38, v42;
+    u32 v4, v44;
+    u8 v5, v8, v10, v16, v23, v30, v37, v39, v40, v43;
+    address v7, v12, v13, v19, v20, v26, v27, v33, v34, v41;
     v5 = a0 == 0u;
     v6 = v5 ? 4096u : 0u;
     v7 = a0 + v6 * 1u;
-    v8 = a1 == 27u;
+    v8 = a1 == 29u;
     if (v8) { v2 = 0u; goto L1; }
-    else { v4 = 47u; goto L12; }
+    else { v4 = 47u; goto L10; }
 L1:;
     v9 = (u64)((u64)v2 + (u64)4u);
     v10 = v2 == UINT64_C(18446744073709551612);
@@ -48802,31 +52249,19 @@ L6:;
     v3 = v38; goto L7;
 L7:;
     v39 = v3 < v9;
-    if (v39) { v4 = 47u; goto L12; }
+    if (v39) { v4 = 47u; goto L10; }
     else { goto L8; }
 L8:;
-    v40 = v2 == 20u;
+    v40 = v2 == 24u;
     if (v40) { goto L9; }
     else { goto L2; }
 L9:;
-    v41 = v7 + 192u * 1u;
+    v41 = v7 + 224u * 1u;
     v42 = load64(v41);
-    v43 = v42 == 16u;
-    if (v43) { goto L10; }
-    else { v4 = 47u; goto L12; }
+    v43 = v42 == 12u;
+    v44 = v43 ? 0u : 47u;
+    v4 = v44; goto L10;
 L10:;
-    v44 = v7 + 200u * 1u;
-    v45 = load64(v44);
-    v46 = v45 == 16u;
-    if (v46) { goto L11; }
-    else { v4 = 47u; goto L12; }
-L11:;
-    v47 = v7 + 208u * 1u;
-    v48 = load64(v47);
-    v49 = v48 == 12u;
-    v50 = v49 ? 0u : 47u;
-    v4 = v50; goto L12;
-L12:;
     return v4;
 }
 
@@ -49775,7 +53210,7 @@ L40:;
     if (v569) { goto L41; }
     else { v16 = v446; v17 = v445; goto L43; }
 L41:;
-    v570 = f128(v102);
+    v570 = f136(v102);
     v571 = v570 == 0u;
     if (v571) { goto L42; }
     else { goto L49; }
@@ -50316,7 +53751,7 @@ L10:;
     v100 = v38 + 8u * 1u;
     store16(v100, v79);
     store64(v39, v68);
-    f131(v37, v64, a4, v38, v39, v73, v5);
+    f139(v37, v64, a4, v38, v39, v73, v5);
     v101 = load8(v37);
     v102 = v101 == 0u;
     if (v102) { goto L11; }
@@ -50588,7 +54023,7 @@ L36:;
     portable_rattle_dealloc(v15);
     v33 = 35u; goto L38;
 L37:;
-    v222 = ADDRESS(c371) + v32 * 4u;
+    v222 = ADDRESS(c372) + v32 * 4u;
     v223 = load32(v222);
     v33 = v223; goto L38;
 L38:;
@@ -50845,7 +54280,7 @@ L1:;
     if (v44) { goto L20; }
     else { goto L2; }
 L2:;
-    v45 = f42(v29, 4u, (ADDRESS(c341) + 8u * 1u), 4u);
+    v45 = f43(v29, 4u, (ADDRESS(c341) + 8u * 1u), 4u);
     if (v45) { goto L3; }
     else { goto L20; }
 L3:;
@@ -50924,7 +54359,7 @@ L6:;
     store8(v93, v62);
     v94 = v21 + 15u * 1u;
     store8(v94, v64);
-    v95 = f42(v29, 16u, v21, 16u);
+    v95 = f43(v29, 16u, v21, 16u);
     v96 = v70 >= v68;
     v97 = v95 ? v96 : 0u;
     if (v97) { goto L7; }
@@ -50971,13 +54406,13 @@ L12:;
     if (v119) { goto L13; }
     else { goto L14; }
 L13:;
-    f134(v22, a1, a2, v26, a4, v98, v99);
+    f141(v22, a1, a2, v26, a4, v98, v99);
     v120 = load8(v22);
     v121 = v120 == 0u;
     if (v121) { goto L17; }
     else { goto L18; }
 L14:;
-    v122 = f132(v26, a4);
+    v122 = f140(v26, a4);
     v123 = v122.m0;
     v124 = v123 == 1u;
     if (v124) { goto L15; }
@@ -51023,7 +54458,7 @@ L18:;
 L19:;
     v13 = v8; v14 = v9; v15 = v10; v16 = v11; v17 = v12; goto L21;
 L20:;
-    f134(v23, a1, a2, v26, a4, v29, a6);
+    f141(v23, a1, a2, v26, a4, v29, a6);
     v149 = load8(v23);
     v150 = v23 + 1u * 1u;
     v151 = load8(v150);
@@ -51097,7 +54532,7 @@ L30:;
     v18 = 0u; goto L32;
 L31:;
     v179 = (u64)v15;
-    v180 = ADDRESS(c369) + v179 * 4u;
+    v180 = ADDRESS(c370) + v179 * 4u;
     v181 = load32(v180);
     v18 = v181; goto L32;
 L32:;
@@ -51105,869 +54540,341 @@ L32:;
 }
 
 u32 portable_ptpm_clock_start(address a0, address a1, address a2, u64 a3, address a4, u64 a5) {
-    u64 v6, v17, v18, v26, v27, v28, v30, v33, v34, v36, v41, v77, v80, v88, v93, v96;
-    u64 v98, v100, v106, v117, v128, v131, v137, v156, v158, v162, v166, v214, v217, v320, v322, v328;
-    u64 v338, v341, v342, v360, v361, v363, v365, v382, v390, v392, v400, v406;
-    address v7, v16, v25, v29, v32, v35, v44, v45, v46, v47, v48, v49, v50, v51, v52, v53;
-    address v54, v55, v56, v57, v58, v59, v60, v61, v62, v63, v64, v65, v66, v67, v68, v69;
-    address v70, v71, v72, v73, v74, v75, v78, v81, v82, v83, v87, v89, v90, v99, v101, v102;
-    address v104, v107, v109, v111, v113, v115, v118, v119, v120, v121, v122, v123, v124, v125, v126, v127;
-    address v130, v132, v134, v138, v139, v140, v144, v146, v148, v150, v152, v154, v157, v159, v161, v163;
-    address v168, v172, v174, v176, v178, v183, v185, v190, v192, v197, v199, v204, v206, v211, v213, v218;
-    address v220, v224, v228, v232, v236, v240, v244, v246, v248, v249, v250, v251, v252, v253, v254, v255;
-    address v256, v257, v258, v259, v260, v261, v262, v263, v264, v265, v266, v267, v268, v269, v270, v271;
-    address v272, v273, v274, v275, v276, v277, v278, v279, v280, v281, v282, v283, v284, v285, v286, v287;
-    address v288, v292, v293, v294, v296, v298, v300, v301, v303, v305, v307, v309, v312, v313, v314, v316;
-    address v317, v318, v319, v321, v323, v327, v330, v340, v343, v344, v345, v346, v347, v348, v349, v350;
-    address v351, v352, v353, v354, v355, v356, v357, v359, v364, v367, v368, v381, v393, v394, v395, v399;
-    address v401, v402, v407;
-    u8 v8, v9, v10, v11, v12, v13, v14, v15, v19, v20, v21, v22, v23, v24, v31, v37;
-    u8 v38, v39, v40, v42, v76, v79, v84, v85, v86, v91, v92, v97, v103, v105, v108, v110;
-    u8 v112, v114, v116, v129, v133, v135, v136, v141, v142, v143, v145, v147, v149, v153, v160, v165;
-    u8 v169, v170, v171, v177, v179, v180, v181, v182, v184, v186, v187, v188, v189, v191, v193, v194;
-    u8 v195, v196, v198, v201, v205, v207, v208, v209, v210, v212, v215, v216, v221, v222, v223, v225;
-    u8 v226, v227, v229, v230, v231, v233, v234, v235, v237, v238, v239, v241, v242, v243, v245, v289;
-    u8 v290, v291, v295, v297, v299, v302, v304, v306, v308, v310, v311, v315, v324, v325, v326, v329;
-    u8 v331, v332, v333, v334, v335, v336, v337, v339, v358, v366, v369, v371, v372, v373, v374, v375;
-    u8 v376, v377, v378, v379, v380, v383, v384, v385, v386, v387, v388, v391, v396, v397, v398, v403;
-    u32 v43, v175, v404, v405, v408;
-    struct pair v94, v95, v389;
-    u16 v151, v155, v164, v167, v173, v200, v202, v203, v219, v247, v362;
-    struct s3 v370;
-    u64 block0[1];
-    u64 block1[6];
-    u64 block2[1];
-    u64 block3[31];
-    u64 block4[1];
-    u64 block5[14];
-    u64 block6[97];
-    u64 block7[49];
-    u64 block8[49];
-    u64 block9[49];
-    u64 block10[18];
-    u64 block11[19];
-    u64 block12[31];
-    u64 block13[1];
-    u64 block14[14];
-    u64 block15[97];
-    u64 block16[31];
-    u64 block17[1];
-    u64 block18[14];
-    u64 block19[31];
-    u64 block20[98];
-    u64 block21[149];
-    u64 block22[31];
-    u64 block23[1];
-    u64 block24[14];
-    u64 block25[97];
-    u64 block26[31];
-    u64 block27[1];
-    u64 block28[14];
-    u64 block29[97];
-    u64 block30[6];
-    u64 block31[5];
-    v44 = ADDRESS(block0);
-    v45 = ADDRESS(block1);
-    v46 = ADDRESS(block2);
-    v47 = ADDRESS(block3);
-    v48 = ADDRESS(block4);
-    v49 = ADDRESS(block5);
-    v50 = ADDRESS(block6);
-    v51 = ADDRESS(block7);
-    v52 = ADDRESS(block8);
-    v53 = ADDRESS(block9);
-    v54 = ADDRESS(block10);
-    v55 = ADDRESS(block11);
-    v56 = ADDRESS(block12);
-    v57 = ADDRESS(block13);
-    v58 = ADDRESS(block14);
-    v59 = ADDRESS(block15);
-    v60 = ADDRESS(block16);
-    v61 = ADDRESS(block17);
-    v62 = ADDRESS(block18);
-    v63 = ADDRESS(block19);
-    v64 = ADDRESS(block20);
-    v65 = ADDRESS(block21);
-    v66 = ADDRESS(block22);
-    v67 = ADDRESS(block23);
-    v68 = ADDRESS(block24);
-    v69 = ADDRESS(block25);
-    v70 = ADDRESS(block26);
-    v71 = ADDRESS(block27);
-    v72 = ADDRESS(block28);
-    v73 = ADDRESS(block29);
-    v74 = ADDRESS(block30);
-    v75 = ADDRESS(block31);
-    v76 = a2 == 0u;
-    v77 = v76 ? 4096u : 0u;
-    v78 = a2 + v77 * 1u;
-    v79 = a4 == 0u;
-    v80 = v79 ? 4096u : 0u;
-    v81 = a4 + v80 * 1u;
-    v82 = load_address(a0);
-    v83 = a0 + 8u * 1u;
-    v84 = load8(v83);
-    v85 = (u8)((v84) & UINT64_C(1));
+    u32 v6, v102, v103, v106;
+    address v7, v8, v9, v10, v11, v12, v13, v14, v15, v18, v21, v22, v23, v27, v29, v32;
+    address v34, v35, v37, v38, v40, v41, v42, v43, v45, v47, v48, v50, v51, v60, v61, v63;
+    address v64, v65, v66, v67, v68, v69, v70, v77, v83, v84, v85, v89, v91, v92, v93, v95;
+    address v97, v99, v105;
+    u8 v16, v19, v24, v25, v26, v30, v31, v33, v39, v53, v54, v55, v56, v59, v62, v72;
+    u8 v73, v74, v75, v76, v81, v86, v87, v88, v94, v96, v98, v100, v101;
+    u64 v17, v20, v28, v36, v44, v46, v49, v52, v57, v78, v80, v82, v90, v104;
+    u16 v58;
+    struct s3 v71;
+    struct pair v79;
+    u64 block0[6];
+    u64 block1[1];
+    u64 block2[29];
+    u64 block3[1];
+    u64 block4[13];
+    u64 block5[53];
+    u64 block6[6];
+    u64 block7[48];
+    u64 block8[5];
+    v7 = ADDRESS(block0);
+    v8 = ADDRESS(block1);
+    v9 = ADDRESS(block2);
+    v10 = ADDRESS(block3);
+    v11 = ADDRESS(block4);
+    v12 = ADDRESS(block5);
+    v13 = ADDRESS(block6);
+    v14 = ADDRESS(block7);
+    v15 = ADDRESS(block8);
+    v16 = a2 == 0u;
+    v17 = v16 ? 4096u : 0u;
+    v18 = a2 + v17 * 1u;
+    v19 = a4 == 0u;
+    v20 = v19 ? 4096u : 0u;
+    v21 = a4 + v20 * 1u;
+    v22 = load_address(a0);
+    v23 = a0 + 8u * 1u;
+    v24 = load8(v23);
+    v25 = (u8)((v24) & UINT64_C(1));
     memory_set(a0, 0u, 16u);
-    if (v85) { goto L1; }
+    if (v25) { goto L1; }
     else { goto L2; }
 L1:;
-    v86 = load8(v82);
-    v87 = v82 + 8u * 1u;
-    v88 = load64(v87);
-    portable_rattle_dealloc(v82);
-    v89 = (address)v88;
-    f12(v86, v89);
+    v26 = load8(v22);
+    v27 = v22 + 8u * 1u;
+    v28 = load64(v27);
+    portable_rattle_dealloc(v22);
+    v29 = (address)v28;
+    f12(v26, v29);
     goto L2;
 L2:;
-    memory_set(v65, 0u, 1192u);
-    memory_set(v66, 0u, 243u);
-    memory_set(v67, 0u, 7u);
-    memory_set(v68, 0u, 112u);
-    memory_set(v69, 0u, 776u);
-    memory_set(v70, 0u, 243u);
-    memory_set(v71, 0u, 7u);
-    memory_set(v72, 0u, 112u);
-    memory_set(v73, 0u, 776u);
-    memory_set(v74, 0u, 47u);
-    memory_set(v75, 0u, 40u);
-    memory_set(v56, 0u, 243u);
-    memory_set(v57, 0u, 7u);
-    memory_set(v58, 0u, 112u);
-    memory_set(v59, 0u, 776u);
-    memory_set(v60, 0u, 243u);
-    memory_set(v61, 0u, 7u);
-    memory_set(v62, 0u, 112u);
-    v90 = v63 + 176u * 1u;
-    memory_set(v64, 0u, 784u);
-    v91 = a3 == 0u;
-    if (v91) { v7 = v44; goto L7; }
-    else { goto L3; }
-L3:;
-    v92 = a3 < UINT64_C(384307168202282326);
-    if (v92) { goto L4; }
-    else { goto L14; }
-L4:;
-    v93 = (u64)((u64)a3 * (u64)24u);
-    v94 = portable_rattle_alloc(v93, 8u);
-    v95 = v94;
-    v96 = v95.m0;
-    v97 = (u8)((v96) & UINT64_C(1));
-    if (v97) { goto L5; }
-    else { goto L14; }
-L5:;
-    v98 = v95.m1;
-    v99 = (address)v98;
-    v6 = 0u; goto L6;
-L6:;
-    v100 = (u64)((u64)v6 << (4u & 63u));
-    v101 = v78 + v100 * 1u;
-    v102 = v101 + 8u * 1u;
-    v103 = load8(v102);
-    v104 = v101 + 9u * 1u;
-    v105 = load8(v104);
-    v106 = load64(v101);
-    v107 = v101 + 10u * 1u;
-    v108 = load8(v107);
-    v109 = v101 + 11u * 1u;
-    v110 = load8(v109);
-    v111 = v101 + 12u * 1u;
-    v112 = load8(v111);
-    v113 = v101 + 13u * 1u;
-    v114 = load8(v113);
-    v115 = v101 + 14u * 1u;
-    v116 = load8(v115);
-    v117 = (u64)((u64)v6 * (u64)24u);
-    v118 = v99 + v117 * 1u;
-    store8(v118, v103);
-    v119 = v118 + 1u * 1u;
-    store8(v119, v105);
-    v120 = v118 + 2u * 1u;
-    memory_set(v120, 0u, 6u);
-    v121 = v118 + 8u * 1u;
-    store64(v121, v106);
-    v122 = v118 + 16u * 1u;
-    store8(v122, v108);
-    v123 = v118 + 17u * 1u;
-    store8(v123, v110);
-    v124 = v118 + 18u * 1u;
-    store8(v124, v112);
-    v125 = v118 + 19u * 1u;
-    store8(v125, v114);
-    v126 = v118 + 20u * 1u;
-    store8(v126, v116);
-    v127 = v118 + 21u * 1u;
-    memory_set(v127, 0u, 3u);
-    v128 = (u64)((u64)v6 + (u64)1u);
-    v129 = v128 == a3;
-    if (v129) { v7 = v99; goto L7; }
-    else { v6 = v128; goto L6; }
-L7:;
-    memory_set(v55, 0u, 7u);
-    v130 = a1 + 32u * 1u;
-    v131 = load64(v130);
-    v132 = a1 + 56u * 1u;
-    v133 = load8(v132);
-    v134 = a1 + 81u * 1u;
-    v135 = load8(v134);
-    memory_set(v54, 0u, 136u);
-    v136 = v135 < 129u ? v135 : 129u;
-    v137 = (u64)v136;
-    v138 = a1 + 82u * 1u;
-    memory_cpy(v54, v138, v137);
-    v139 = v54 + 136u * 1u;
-    store64(v139, v137);
-    v140 = a1 + 57u * 1u;
-    v141 = load8(v140);
-    v142 = v141 != 0u;
-    v143 = (u8)v142;
-    v144 = a1 + 58u * 1u;
-    v145 = load8(v144);
-    v146 = a1 + 59u * 1u;
-    v147 = load8(v146);
-    v148 = a1 + 60u * 1u;
-    v149 = load8(v148);
-    v150 = a1 + 20u * 1u;
-    v151 = load16(v150);
-    v152 = a1 + 61u * 1u;
-    v153 = load8(v152);
-    v154 = a1 + 22u * 1u;
-    v155 = load16(v154);
-    v156 = load64(a1);
-    v157 = a1 + 8u * 1u;
-    v158 = load64(v157);
-    v159 = a1 + 74u * 1u;
-    v160 = load8(v159);
-    v161 = a1 + 40u * 1u;
-    v162 = load64(v161);
-    v163 = a1 + 28u * 1u;
-    v164 = load16(v163);
-    v165 = v160 != 0u;
-    v166 = v165 ? v162 : 0u;
-    v167 = v165 ? v164 : 0u;
-    v168 = a1 + 62u * 1u;
-    v169 = load8(v168);
-    v170 = v169 != 0u;
-    v171 = (u8)v170;
-    v172 = a1 + 24u * 1u;
-    v173 = load16(v172);
-    v174 = a1 + 16u * 1u;
-    v175 = load32(v174);
-    v176 = a1 + 76u * 1u;
-    v177 = load8(v176);
-    v178 = a1 + 63u * 1u;
-    v179 = load8(v178);
-    v180 = v177 != 0u;
-    v181 = (u8)v180;
-    v182 = v180 ? v179 : 0u;
-    v183 = a1 + 77u * 1u;
-    v184 = load8(v183);
-    v185 = a1 + 64u * 1u;
-    v186 = load8(v185);
-    v187 = v184 != 0u;
-    v188 = (u8)v187;
-    v189 = v187 ? v186 : 0u;
-    v190 = a1 + 78u * 1u;
-    v191 = load8(v190);
-    v192 = a1 + 65u * 1u;
-    v193 = load8(v192);
-    v194 = v191 != 0u;
-    v195 = (u8)v194;
-    v196 = v194 ? v193 : 0u;
-    v197 = a1 + 79u * 1u;
-    v198 = load8(v197);
-    v199 = a1 + 26u * 1u;
-    v200 = load16(v199);
-    v201 = v198 != 0u;
-    v202 = v201 ? v200 : 0u;
-    v203 = (u16)v201;
-    v204 = a1 + 80u * 1u;
-    v205 = load8(v204);
-    v206 = a1 + 66u * 1u;
-    v207 = load8(v206);
-    v208 = v205 != 0u;
-    v209 = (u8)v208;
-    v210 = v208 ? v207 : 0u;
-    v211 = a1 + 75u * 1u;
-    v212 = load8(v211);
-    v213 = a1 + 48u * 1u;
-    v214 = load64(v213);
-    v215 = v212 != 0u;
-    v216 = (u8)v215;
-    v217 = v215 ? v214 : 0u;
-    v218 = a1 + 30u * 1u;
-    v219 = load16(v218);
-    v220 = a1 + 67u * 1u;
-    v221 = load8(v220);
-    v222 = v221 != 0u;
-    v223 = (u8)v222;
-    v224 = a1 + 68u * 1u;
-    v225 = load8(v224);
-    v226 = v225 != 0u;
-    v227 = (u8)v226;
-    v228 = a1 + 69u * 1u;
-    v229 = load8(v228);
-    v230 = v229 != 0u;
-    v231 = (u8)v230;
-    v232 = a1 + 70u * 1u;
-    v233 = load8(v232);
-    v234 = v233 != 0u;
-    v235 = (u8)v234;
-    v236 = a1 + 71u * 1u;
-    v237 = load8(v236);
-    v238 = v237 != 0u;
-    v239 = (u8)v238;
-    v240 = a1 + 72u * 1u;
-    v241 = load8(v240);
-    v242 = v241 != 0u;
-    v243 = (u8)v242;
-    v244 = a1 + 73u * 1u;
-    v245 = load8(v244);
-    v246 = v55 + 7u * 1u;
-    memory_cpy(v246, v54, 144u);
-    v247 = (u16)v165;
-    v248 = v63 + 9u * 1u;
-    memory_cpy(v248, v55, 151u);
-    store64(v63, v131);
-    v249 = v63 + 8u * 1u;
-    store8(v249, v133);
-    v250 = v63 + 160u * 1u;
-    store8(v250, v143);
-    v251 = v63 + 161u * 1u;
-    store8(v251, v145);
-    v252 = v63 + 162u * 1u;
-    store8(v252, v147);
-    v253 = v63 + 163u * 1u;
-    store8(v253, v149);
-    v254 = v63 + 164u * 1u;
-    store16(v254, v151);
-    v255 = v63 + 166u * 1u;
-    store8(v255, v153);
-    v256 = v63 + 167u * 1u;
-    store8(v256, 0u);
-    v257 = v63 + 168u * 1u;
-    store16(v257, v155);
-    v258 = v63 + 170u * 1u;
-    memory_set(v258, 0u, 6u);
-    store64(v90, v156);
-    v259 = v63 + 184u * 1u;
-    store64(v259, v158);
-    v260 = v63 + 192u * 1u;
-    store16(v260, v247);
-    v261 = v63 + 194u * 1u;
-    store64(v261, v166);
-    v262 = v63 + 202u * 1u;
-    store16(v262, v167);
-    v263 = v63 + 204u * 1u;
-    store8(v263, v171);
-    v264 = v63 + 205u * 1u;
-    store8(v264, 0u);
-    v265 = v63 + 206u * 1u;
-    store16(v265, v173);
-    v266 = v63 + 208u * 1u;
-    store32(v266, v175);
-    v267 = v63 + 212u * 1u;
-    store8(v267, v181);
-    v268 = v63 + 213u * 1u;
-    store8(v268, v182);
-    v269 = v63 + 214u * 1u;
-    store8(v269, v188);
-    v270 = v63 + 215u * 1u;
-    store8(v270, v189);
-    v271 = v63 + 216u * 1u;
-    store8(v271, v195);
-    v272 = v63 + 217u * 1u;
-    store8(v272, v196);
-    v273 = v63 + 218u * 1u;
-    store16(v273, v203);
-    v274 = v63 + 220u * 1u;
-    store16(v274, v202);
-    v275 = v63 + 222u * 1u;
-    store8(v275, v209);
-    v276 = v63 + 223u * 1u;
-    store8(v276, v210);
-    v277 = v63 + 224u * 1u;
-    store8(v277, v216);
-    v278 = v63 + 225u * 1u;
-    store64(v278, v217);
-    v279 = v63 + 233u * 1u;
-    store8(v279, 0u);
-    v280 = v63 + 234u * 1u;
-    store16(v280, v219);
-    v281 = v63 + 236u * 1u;
-    store8(v281, v223);
-    v282 = v63 + 237u * 1u;
-    store8(v282, v227);
-    v283 = v63 + 238u * 1u;
-    store8(v283, v231);
-    v284 = v63 + 239u * 1u;
-    store8(v284, v235);
-    v285 = v63 + 240u * 1u;
-    store8(v285, v239);
-    v286 = v63 + 241u * 1u;
-    store8(v286, v243);
-    v287 = v63 + 242u * 1u;
-    store8(v287, v245);
-    v288 = v63 + 243u * 1u;
-    memory_set(v288, 0u, 5u);
-    memory_set(v51, 0u, 392u);
-    memory_set(v52, 0u, 392u);
-    memory_set(v53, 0u, 387u);
-    v289 = a3 > 8u;
-    if (v289) { goto L12; }
-    else { goto L8; }
-L8:;
-    f25(v52, v63, v7, a3);
-    v290 = load8(v52);
-    v291 = v290 == 0u;
-    if (v291) { goto L9; }
-    else { goto L10; }
-L9:;
-    v292 = v52 + 8u * 1u;
-    v293 = v53 + 3u * 1u;
-    memory_cpy(v293, v292, 384u);
-    v8 = 0u; v9 = 0u; v10 = 0u; goto L11;
-L10:;
-    v294 = v52 + 1u * 1u;
-    v295 = load8(v294);
-    v296 = v52 + 2u * 1u;
-    v297 = load8(v296);
-    v298 = v52 + 3u * 1u;
-    v299 = load8(v298);
-    v8 = v295; v9 = v297; v10 = v299; goto L11;
-L11:;
-    v300 = v51 + 8u * 1u;
-    v301 = v53 + 3u * 1u;
-    memory_cpy(v300, v301, 384u);
-    v11 = v10; v12 = v9; v13 = v8; v14 = 1u; v15 = v290; goto L13;
-L12:;
-    f79(v51, v63, v7, a3);
-    v302 = load8(v51);
-    v303 = v51 + 1u * 1u;
-    v304 = load8(v303);
-    v305 = v51 + 2u * 1u;
-    v306 = load8(v305);
-    v307 = v51 + 3u * 1u;
-    v308 = load8(v307);
-    v309 = v51 + 4u * 1u;
-    v310 = load8(v309);
-    v311 = v304 == 0u;
-    v11 = v310; v12 = v308; v13 = v306; v14 = v311; v15 = v302; goto L13;
-L13:;
-    v312 = v51 + 8u * 1u;
-    v313 = v60 + 3u * 1u;
-    memory_cpy(v313, v312, 240u);
-    v314 = v51 + 248u * 1u;
-    v315 = load8(v314);
-    v316 = v51 + 249u * 1u;
-    memory_cpy(v61, v316, 7u);
-    v317 = v51 + 256u * 1u;
-    v318 = load_address(v317);
-    v319 = v51 + 264u * 1u;
-    v320 = load64(v319);
-    v321 = v51 + 272u * 1u;
-    v322 = load64(v321);
-    v323 = v51 + 280u * 1u;
-    memory_cpy(v62, v323, 112u);
-    v324 = v15 == 0u;
-    if (v324) { goto L15; }
-    else { goto L16; }
-L14:;
-    memory_set(v70, 0u, 243u);
-    memory_set(v71, 0u, 7u);
-    memory_set(v72, 0u, 112u);
-    memory_set(v73, 0u, 776u);
-    v19 = 0u; v20 = 3u; v21 = 0u; v22 = 0u; v23 = 0u; v24 = 0u; v25 = 0u; v26 = 0u; v27 = 0u; v28 = 0u; v29 = 0u; v30 = 0u; goto L37;
-L15:;
-    f133(v64, v81, a5);
-    v325 = load8(v64);
-    v326 = v325 == 0u;
-    if (v326) { goto L23; }
-    else { goto L24; }
-L16:;
-    if (v14) { goto L17; }
-    else { goto L20; }
-L17:;
-    if (v91) { goto L19; }
+    memory_set(v12, 0u, 424u);
+    f154(v12, a1, v18, a3, v21, a5);
+    v30 = load8(v12);
+    v31 = v30 == 0u;
+    if (v31) { goto L3; }
     else { goto L18; }
-L18:;
-    portable_rattle_dealloc(v7);
-    goto L19;
-L19:;
-    memory_cpy(v70, v56, 243u);
-    memory_cpy(v71, v57, 7u);
-    memory_cpy(v72, v58, 112u);
-    memory_cpy(v73, v59, 776u);
-    v19 = 0u; v20 = 0u; v21 = v13; v22 = v12; v23 = v11; v24 = 0u; v25 = 0u; v26 = 0u; v27 = 0u; v28 = 0u; v29 = 0u; v30 = 0u; goto L37;
-L20:;
-    if (v91) { goto L22; }
-    else { goto L21; }
-L21:;
-    portable_rattle_dealloc(v7);
-    goto L22;
-L22:;
-    memory_cpy(v70, v56, 243u);
-    memory_cpy(v71, v57, 7u);
-    memory_cpy(v72, v58, 112u);
-    memory_cpy(v73, v59, 776u);
-    v19 = 0u; v20 = 3u; v21 = 0u; v22 = 0u; v23 = 0u; v24 = 0u; v25 = 0u; v26 = 0u; v27 = 0u; v28 = 0u; v29 = 0u; v30 = 0u; goto L37;
-L23:;
-    v327 = v64 + 8u * 1u;
-    v328 = load64(v130);
-    v329 = v328 == 0u;
-    if (v329) { goto L29; }
-    else { goto L34; }
-L24:;
-    v330 = v64 + 1u * 1u;
-    v331 = load8(v330);
-    v332 = v315 != 1u;
-    v333 = v322 == 0u;
-    v334 = v332 ? 1u : v333;
-    if (v334) { goto L26; }
-    else { goto L25; }
-L25:;
-    portable_rattle_dealloc(v318);
-    goto L26;
-L26:;
-    if (v91) { goto L28; }
-    else { goto L27; }
-L27:;
-    portable_rattle_dealloc(v7);
-    goto L28;
-L28:;
-    memory_cpy(v70, v56, 243u);
-    memory_cpy(v71, v57, 7u);
-    memory_cpy(v72, v58, 112u);
-    memory_cpy(v73, v59, 776u);
-    v19 = 0u; v20 = 1u; v21 = v331; v22 = 0u; v23 = 0u; v24 = 0u; v25 = 0u; v26 = 0u; v27 = 0u; v28 = 0u; v29 = 0u; v30 = 0u; goto L37;
-L29:;
-    v335 = v315 != 1u;
-    v336 = v322 == 0u;
-    v337 = v335 ? 1u : v336;
-    if (v337) { goto L31; }
-    else { goto L30; }
-L30:;
-    portable_rattle_dealloc(v318);
-    goto L31;
-L31:;
-    if (v91) { goto L33; }
-    else { goto L32; }
-L32:;
-    portable_rattle_dealloc(v7);
-    goto L33;
-L33:;
-    memory_cpy(v70, v56, 243u);
-    memory_cpy(v71, v57, 7u);
-    memory_cpy(v72, v58, 112u);
-    memory_cpy(v73, v59, 776u);
-    v19 = 0u; v20 = 2u; v21 = 0u; v22 = 0u; v23 = 0u; v24 = 0u; v25 = 0u; v26 = 0u; v27 = 0u; v28 = 0u; v29 = 0u; v30 = 0u; goto L37;
-L34:;
-    v338 = (u64)((u64)a3 + (u64)UINT64_C(18446744073709551607));
-    v339 = v338 < UINT64_C(18446744073709551608);
-    v340 = v289 ? v7 : 0u;
-    v341 = v289 ? a3 : 0u;
-    v342 = (u64)v289;
-    if (v339) { v16 = v340; v17 = v341; v18 = v342; goto L36; }
-    else { goto L35; }
-L35:;
-    portable_rattle_dealloc(v7);
-    v16 = 0u; v17 = 0u; v18 = 0u; goto L36;
-L36:;
-    v343 = v56 + 3u * 1u;
-    memory_cpy(v343, v313, 240u);
-    memory_cpy(v70, v56, 243u);
-    memory_cpy(v71, v61, 7u);
-    memory_cpy(v72, v62, 112u);
-    memory_cpy(v73, v327, 776u);
-    v19 = 1u; v20 = 0u; v21 = 0u; v22 = 0u; v23 = 0u; v24 = v315; v25 = v318; v26 = v320; v27 = v322; v28 = v18; v29 = v16; v30 = v17; goto L37;
-L37:;
-    memory_set(v47, 0u, 243u);
-    memory_set(v48, 0u, 7u);
-    memory_set(v49, 0u, 112u);
-    memory_set(v50, 0u, 776u);
-    if (v19) { goto L38; }
-    else { v31 = 0u; v32 = 0u; v33 = 0u; v34 = 0u; v35 = 0u; v36 = 0u; v37 = v20; v38 = v21; v39 = v22; v40 = v23; v41 = 0u; goto L39; }
-L38:;
-    v344 = v70 + 3u * 1u;
-    v345 = v47 + 3u * 1u;
-    memory_cpy(v345, v344, 240u);
-    memory_cpy(v48, v71, 7u);
-    memory_cpy(v49, v72, 112u);
-    memory_cpy(v50, v73, 776u);
-    v31 = v24; v32 = v25; v33 = v26; v34 = v27; v35 = v29; v36 = v30; v37 = 0u; v38 = 0u; v39 = 0u; v40 = 0u; v41 = v28; goto L39;
-L39:;
-    memory_cpy(v66, v47, 243u);
-    memory_cpy(v67, v48, 7u);
-    memory_cpy(v68, v49, 112u);
-    memory_cpy(v69, v50, 776u);
-    if (v19) { goto L40; }
-    else { goto L55; }
-L40:;
-    v346 = v66 + 3u * 1u;
-    memory_cpy(v65, v346, 240u);
-    v347 = v65 + 240u * 1u;
-    store8(v347, v31);
-    v348 = v65 + 241u * 1u;
-    memory_cpy(v348, v67, 7u);
-    v349 = v65 + 248u * 1u;
-    store_address(v349, v32);
-    v350 = v65 + 256u * 1u;
-    store64(v350, v33);
-    v351 = v65 + 264u * 1u;
-    store64(v351, v34);
-    v352 = v65 + 272u * 1u;
-    memory_cpy(v352, v68, 112u);
-    v353 = v65 + 384u * 1u;
-    memory_cpy(v353, v69, 776u);
-    v354 = v65 + 1160u * 1u;
-    store64(v354, v41);
-    v355 = v65 + 1168u * 1u;
-    store_address(v355, v35);
-    v356 = v65 + 1176u * 1u;
-    store64(v356, v36);
-    v357 = v65 + 1184u * 1u;
-    store64(v357, v36);
-    memory_set(v45, 0u, 48u);
-    v358 = v31 == 0u;
-    v359 = v65 + 376u * 1u;
-    v360 = load64(v359);
-    v361 = v358 ? v360 : v33;
-    v362 = (u16)(v361);
-    v363 = load64(v65);
-    store64(v46, v363);
-    v364 = v65 + 1152u * 1u;
-    v365 = load64(v364);
-    f143(v45, v46, v362, v353, v365);
-    v366 = load8(v45);
-    v367 = v45 + 8u * 1u;
-    v368 = v74 + 7u * 1u;
-    memory_cpy(v368, v367, 40u);
-    v369 = v366 == 0u;
-    if (v369) { goto L41; }
-    else { goto L42; }
-L41:;
-    memory_cpy(v75, v368, 40u);
-    v370 = f144(v65, v75);
-    v371 = v370.m0;
-    v372 = v371 == 0u;
-    if (v372) { goto L45; }
-    else { goto L47; }
-L42:;
-    v373 = (u8)(v41);
-    v374 = v31 != 1u;
-    v375 = v34 == 0u;
-    v376 = v374 ? 1u : v375;
-    if (v376) { v42 = v373; goto L44; }
-    else { goto L43; }
-L43:;
-    portable_rattle_dealloc(v32);
-    v377 = load8(v354);
-    v42 = v377; goto L44;
-L44:;
-    v378 = v42 != 1u;
-    v379 = v36 == 0u;
-    v380 = (u8)(((u32)v379 | (u32)v378) & UINT64_C(1));
-    if (v380) { goto L54; }
-    else { goto L53; }
-L45:;
-    v381 = v370.m1;
-    v382 = (u64)v381;
-    v383 = v41 != 1u;
-    v384 = v36 == 0u;
-    v385 = (u8)(((u32)v384 | (u32)v383) & UINT64_C(1));
-    if (v385) { goto L48; }
-    else { goto L46; }
-L46:;
-    portable_rattle_dealloc(v35);
-    goto L48;
-L47:;
-    v386 = v41 != 1u;
-    v387 = v36 == 0u;
-    v388 = (u8)(((u32)v387 | (u32)v386) & UINT64_C(1));
-    if (v388) { goto L54; }
-    else { goto L53; }
-L48:;
-    v389 = portable_rattle_alloc(16u, 8u);
-    v390 = v389.m0;
-    v391 = (u8)((v390) & UINT64_C(1));
-    if (v391) { goto L49; }
-    else { goto L52; }
-L49:;
-    v392 = v389.m1;
-    v393 = (address)v392;
-    store64(v393, 1u);
-    v394 = v393 + 8u * 1u;
-    store64(v394, v382);
-    v395 = load_address(a0);
-    v396 = load8(v83);
-    v397 = (u8)((v396) & UINT64_C(1));
+L3:;
+    v32 = v12 + 392u * 1u;
+    v33 = load8(v32);
+    v34 = v12 + 400u * 1u;
+    v35 = v12 + 8u * 1u;
+    v36 = load64(v35);
+    v37 = v12 + 16u * 1u;
+    v38 = v12 + 248u * 1u;
+    v39 = load8(v38);
+    v40 = v12 + 249u * 1u;
+    v41 = v12 + 256u * 1u;
+    v42 = load_address(v41);
+    v43 = v12 + 264u * 1u;
+    v44 = load64(v43);
+    v45 = v12 + 272u * 1u;
+    v46 = load64(v45);
+    v47 = v12 + 280u * 1u;
+    v48 = v12 + 384u * 1u;
+    v49 = load64(v48);
+    v50 = load_address(v34);
+    v51 = v12 + 416u * 1u;
+    v52 = load64(v51);
+    v53 = v33 != 1u;
+    v54 = v52 == 0u;
+    v55 = v53 ? 1u : v54;
+    memory_cpy(v9, v37, 232u);
+    memory_cpy(v10, v40, 7u);
+    memory_cpy(v11, v47, 104u);
+    memory_set(v7, 0u, 48u);
+    store64(v8, v36);
+    v56 = v39 == 0u;
+    v57 = v56 ? v49 : v44;
+    v58 = (u16)(v57);
+    f150(v7, v8, v58, v21, a5);
+    v59 = load8(v7);
+    v60 = v7 + 8u * 1u;
+    v61 = v13 + 7u * 1u;
+    memory_cpy(v61, v60, 40u);
+    v62 = v59 == 0u;
+    if (v62) { goto L4; }
+    else { goto L5; }
+L4:;
+    store64(v14, v36);
+    v63 = v14 + 8u * 1u;
+    memory_cpy(v63, v9, 232u);
+    v64 = v14 + 240u * 1u;
+    store8(v64, v39);
+    v65 = v14 + 241u * 1u;
+    memory_cpy(v65, v10, 7u);
+    v66 = v14 + 248u * 1u;
+    store_address(v66, v42);
+    v67 = v14 + 256u * 1u;
+    store64(v67, v44);
+    v68 = v14 + 264u * 1u;
+    store64(v68, v46);
+    v69 = v14 + 272u * 1u;
+    memory_cpy(v69, v11, 104u);
+    v70 = v14 + 376u * 1u;
+    store64(v70, v49);
+    memory_cpy(v15, v61, 40u);
+    v71 = f151(v14, v15);
+    v72 = v71.m0;
+    v73 = v72 == 0u;
+    if (v73) { goto L8; }
+    else { goto L10; }
+L5:;
+    v74 = v39 != 1u;
+    v75 = v46 == 0u;
+    v76 = v74 ? 1u : v75;
+    if (v76) { goto L7; }
+    else { goto L6; }
+L6:;
+    portable_rattle_dealloc(v42);
+    goto L7;
+L7:;
+    if (v55) { goto L17; }
+    else { goto L16; }
+L8:;
+    v77 = v71.m1;
+    v78 = (u64)v77;
+    if (v55) { goto L11; }
+    else { goto L9; }
+L9:;
+    portable_rattle_dealloc(v50);
+    goto L11;
+L10:;
+    if (v55) { goto L17; }
+    else { goto L16; }
+L11:;
+    v79 = portable_rattle_alloc(16u, 8u);
+    v80 = v79.m0;
+    v81 = (u8)((v80) & UINT64_C(1));
+    if (v81) { goto L12; }
+    else { goto L15; }
+L12:;
+    v82 = v79.m1;
+    v83 = (address)v82;
+    store64(v83, 1u);
+    v84 = v83 + 8u * 1u;
+    store64(v84, v78);
+    v85 = load_address(a0);
+    v86 = load8(v23);
+    v87 = (u8)((v86) & UINT64_C(1));
     memory_set(a0, 0u, 16u);
-    if (v397) { goto L50; }
-    else { goto L51; }
-L50:;
-    v398 = load8(v395);
-    v399 = v395 + 8u * 1u;
-    v400 = load64(v399);
-    portable_rattle_dealloc(v395);
-    v401 = (address)v400;
-    f12(v398, v401);
-    goto L51;
-L51:;
-    store64(a0, v392);
-    store8(v83, 1u);
-    v402 = a0 + 9u * 1u;
-    memory_set(v402, 0u, 7u);
-    v43 = 0u; goto L98;
-L52:;
-    f13(v381);
-    v43 = 35u; goto L98;
-L53:;
-    portable_rattle_dealloc(v35);
-    goto L54;
-L54:;
-    goto L95;
-L55:;
-    switch (v37) {
-    case 0u: goto L56;
-    case 1u: goto L97;
-    case 2u: v43 = 56u; goto L98;
-    case 3u: goto L95;
-    default: goto L96;
-    }
-L56:;
-    switch (v38) {
-    case 0u: v43 = 48u; goto L98;
-    case 1u: goto L57;
-    case 3u: goto L58;
-    case 2u: goto L59;
-    default: goto L94;
-    }
-L57:;
-    v43 = 49u; goto L98;
-L58:;
-    v43 = 50u; goto L98;
-L59:;
-    switch (v39) {
-    case 0u: v43 = 64u; goto L98;
+    if (v87) { goto L13; }
+    else { goto L14; }
+L13:;
+    v88 = load8(v85);
+    v89 = v85 + 8u * 1u;
+    v90 = load64(v89);
+    portable_rattle_dealloc(v85);
+    v91 = (address)v90;
+    f12(v88, v91);
+    goto L14;
+L14:;
+    store64(a0, v82);
+    store8(v23, 1u);
+    v92 = a0 + 9u * 1u;
+    memory_set(v92, 0u, 7u);
+    v6 = 0u; goto L61;
+L15:;
+    f13(v77);
+    v6 = 35u; goto L61;
+L16:;
+    portable_rattle_dealloc(v50);
+    goto L17;
+L17:;
+    goto L58;
+L18:;
+    v93 = v12 + 4u * 1u;
+    v94 = load8(v93);
+    v95 = v12 + 3u * 1u;
+    v96 = load8(v95);
+    v97 = v12 + 2u * 1u;
+    v98 = load8(v97);
+    v99 = v12 + 1u * 1u;
+    v100 = load8(v99);
+    switch (v100) {
+    case 0u: goto L19;
     case 1u: goto L60;
-    case 2u: goto L61;
-    case 3u: goto L62;
-    case 4u: goto L63;
-    case 5u: goto L64;
-    case 6u: goto L65;
-    case 7u: goto L66;
-    case 8u: goto L67;
-    case 9u: goto L68;
-    case 10u: goto L69;
-    case 11u: goto L70;
-    case 12u: goto L71;
-    case 13u: goto L72;
-    case 14u: goto L73;
-    case 15u: goto L74;
-    case 16u: goto L75;
-    case 17u: goto L76;
-    case 18u: goto L77;
-    case 19u: goto L78;
-    case 20u: goto L79;
-    case 21u: goto L80;
-    case 22u: goto L81;
-    case 23u: goto L82;
-    case 24u: goto L83;
-    case 25u: goto L84;
-    case 26u: goto L85;
-    case 27u: goto L86;
-    case 28u: goto L87;
-    case 29u: goto L88;
-    case 30u: goto L89;
-    case 31u: goto L90;
-    case 32u: goto L91;
-    case 33u: goto L92;
-    default: goto L93;
+    case 2u: v6 = 56u; goto L61;
+    case 3u: goto L58;
+    default: goto L59;
     }
+L19:;
+    switch (v98) {
+    case 0u: v6 = 48u; goto L61;
+    case 1u: goto L20;
+    case 3u: goto L21;
+    case 2u: goto L22;
+    default: goto L57;
+    }
+L20:;
+    v6 = 49u; goto L61;
+L21:;
+    v6 = 50u; goto L61;
+L22:;
+    switch (v96) {
+    case 0u: v6 = 64u; goto L61;
+    case 1u: goto L23;
+    case 2u: goto L24;
+    case 3u: goto L25;
+    case 4u: goto L26;
+    case 5u: goto L27;
+    case 6u: goto L28;
+    case 7u: goto L29;
+    case 8u: goto L30;
+    case 9u: goto L31;
+    case 10u: goto L32;
+    case 11u: goto L33;
+    case 12u: goto L34;
+    case 13u: goto L35;
+    case 14u: goto L36;
+    case 15u: goto L37;
+    case 16u: goto L38;
+    case 17u: goto L39;
+    case 18u: goto L40;
+    case 19u: goto L41;
+    case 20u: goto L42;
+    case 21u: goto L43;
+    case 22u: goto L44;
+    case 23u: goto L45;
+    case 24u: goto L46;
+    case 25u: goto L47;
+    case 26u: goto L48;
+    case 27u: goto L49;
+    case 28u: goto L50;
+    case 29u: goto L51;
+    case 30u: goto L52;
+    case 31u: goto L53;
+    case 32u: goto L54;
+    case 33u: goto L55;
+    default: goto L56;
+    }
+L23:;
+    v6 = 65u; goto L61;
+L24:;
+    v6 = 66u; goto L61;
+L25:;
+    v6 = 67u; goto L61;
+L26:;
+    v6 = 68u; goto L61;
+L27:;
+    v6 = 69u; goto L61;
+L28:;
+    v6 = 70u; goto L61;
+L29:;
+    v6 = 71u; goto L61;
+L30:;
+    v6 = 72u; goto L61;
+L31:;
+    v6 = 73u; goto L61;
+L32:;
+    v6 = 74u; goto L61;
+L33:;
+    v6 = 75u; goto L61;
+L34:;
+    v6 = 76u; goto L61;
+L35:;
+    v6 = 77u; goto L61;
+L36:;
+    v6 = 78u; goto L61;
+L37:;
+    v6 = 79u; goto L61;
+L38:;
+    v6 = 80u; goto L61;
+L39:;
+    v6 = 81u; goto L61;
+L40:;
+    v6 = 82u; goto L61;
+L41:;
+    v6 = 83u; goto L61;
+L42:;
+    v6 = 84u; goto L61;
+L43:;
+    v6 = 85u; goto L61;
+L44:;
+    v6 = 86u; goto L61;
+L45:;
+    v6 = 87u; goto L61;
+L46:;
+    v6 = 88u; goto L61;
+L47:;
+    v6 = 89u; goto L61;
+L48:;
+    v6 = 90u; goto L61;
+L49:;
+    v6 = 91u; goto L61;
+L50:;
+    v6 = 92u; goto L61;
+L51:;
+    v6 = 93u; goto L61;
+L52:;
+    v6 = 94u; goto L61;
+L53:;
+    v6 = 95u; goto L61;
+L54:;
+    v6 = 96u; goto L61;
+L55:;
+    v101 = (u8)((u32)v94 + (u32)33u);
+    v102 = (u32)v101;
+    v103 = (u32)((u32)v102 + (u32)64u);
+    v6 = v103; goto L61;
+L56:;
+    UNREACHABLE;
+L57:;
+    UNREACHABLE;
+L58:;
+    v6 = 35u; goto L61;
+L59:;
+    UNREACHABLE;
 L60:;
-    v43 = 65u; goto L98;
+    v104 = (u64)v98;
+    v105 = ADDRESS(c370) + v104 * 4u;
+    v106 = load32(v105);
+    v6 = v106; goto L61;
 L61:;
-    v43 = 66u; goto L98;
-L62:;
-    v43 = 67u; goto L98;
-L63:;
-    v43 = 68u; goto L98;
-L64:;
-    v43 = 69u; goto L98;
-L65:;
-    v43 = 70u; goto L98;
-L66:;
-    v43 = 71u; goto L98;
-L67:;
-    v43 = 72u; goto L98;
-L68:;
-    v43 = 73u; goto L98;
-L69:;
-    v43 = 74u; goto L98;
-L70:;
-    v43 = 75u; goto L98;
-L71:;
-    v43 = 76u; goto L98;
-L72:;
-    v43 = 77u; goto L98;
-L73:;
-    v43 = 78u; goto L98;
-L74:;
-    v43 = 79u; goto L98;
-L75:;
-    v43 = 80u; goto L98;
-L76:;
-    v43 = 81u; goto L98;
-L77:;
-    v43 = 82u; goto L98;
-L78:;
-    v43 = 83u; goto L98;
-L79:;
-    v43 = 84u; goto L98;
-L80:;
-    v43 = 85u; goto L98;
-L81:;
-    v43 = 86u; goto L98;
-L82:;
-    v43 = 87u; goto L98;
-L83:;
-    v43 = 88u; goto L98;
-L84:;
-    v43 = 89u; goto L98;
-L85:;
-    v43 = 90u; goto L98;
-L86:;
-    v43 = 91u; goto L98;
-L87:;
-    v43 = 92u; goto L98;
-L88:;
-    v43 = 93u; goto L98;
-L89:;
-    v43 = 94u; goto L98;
-L90:;
-    v43 = 95u; goto L98;
-L91:;
-    v43 = 96u; goto L98;
-L92:;
-    v403 = (u8)((u32)v40 + (u32)33u);
-    v404 = (u32)v403;
-    v405 = (u32)((u32)v404 + (u32)64u);
-    v43 = v405; goto L98;
-L93:;
-    UNREACHABLE;
-L94:;
-    UNREACHABLE;
-L95:;
-    v43 = 35u; goto L98;
-L96:;
-    UNREACHABLE;
-L97:;
-    v406 = (u64)v38;
-    v407 = ADDRESS(c369) + v406 * 4u;
-    v408 = load32(v407);
-    v43 = v408; goto L98;
-L98:;
-    return v43;
+    return v6;
 }
 
 u32 portable_ptpm_journal_start(address a0) {
@@ -52174,7 +55081,7 @@ L1:;
     store_address(v69, v62);
     v89 = v69 + 8u * 1u;
     memory_set(v89, 0u, 16u);
-    f108(v70, v67, v80, a2);
+    f116(v70, v67, v80, a2);
     v90 = load8(v70);
     v91 = v90 == 0u;
     if (v91) { goto L2; }
@@ -52315,7 +55222,7 @@ L20:;
     if (v163) { goto L21; }
     else { v13 = v162; goto L23; }
 L21:;
-    v164 = f147(v68);
+    v164 = f155(v68);
     if (v164) { goto L22; }
     else { goto L27; }
 L22:;
@@ -52356,7 +55263,7 @@ L23:;
     if (v183) { goto L24; }
     else { v14 = v5; v15 = v182; goto L26; }
 L24:;
-    v184 = f148(v69);
+    v184 = f156(v69);
     if (v184) { goto L25; }
     else { goto L49; }
 L25:;
@@ -52478,7 +55385,7 @@ L47:;
     v235 = (u64)((u64)v234 + (u64)v121);
     v236 = v80 + v235 * 1u;
     v237 = (u64)((u64)a2 - (u64)v235);
-    f108(v70, v67, v236, v237);
+    f116(v70, v67, v236, v237);
     v238 = load8(v70);
     v239 = v238 == 0u;
     if (v239) { v5 = v17; v6 = v18; v7 = v236; v8 = v235; goto L3; }
@@ -52569,7 +55476,7 @@ L63:;
     store8(v74, 5u);
     v276 = v74 + 1u * 1u;
     store8(v276, 0u);
-    v277 = f104(v71, v74);
+    v277 = f112(v71, v74);
     if (v277) { goto L80; }
     else { goto L65; }
 L64:;
@@ -52714,7 +55621,7 @@ L89:;
     if (v332) { goto L90; }
     else { v32 = v24; v33 = v23; v34 = v25; v35 = v64; goto L92; }
 L90:;
-    v333 = f149(v66);
+    v333 = f157(v66);
     if (v333) { goto L91; }
     else { goto L107; }
 L91:;
@@ -53058,7 +55965,7 @@ L147:;
     store64(v484, 8221u);
     v485 = v72 + 208u * 1u;
     store64(v485, 0u);
-    v486 = f150(v72);
+    v486 = f158(v72);
     if (v486) { goto L156; }
     else { goto L158; }
 L148:;
@@ -53081,7 +55988,7 @@ L152:;
     store64(v489, v270);
     v490 = v75 + 16u * 1u;
     store64(v490, v271);
-    f153(v75);
+    f161(v75);
     v491 = v71 + 48u * 1u;
     v492 = load64(v491);
     v493 = v492 == 0u;
@@ -53102,11 +56009,11 @@ L155:;
     v499 = load_address(v56);
     v57 = v499; goto L167;
 L156:;
-    v500 = f151(v72);
+    v500 = f159(v72);
     if (v500) { goto L157; }
     else { goto L158; }
 L157:;
-    v501 = f152(v72);
+    v501 = f160(v72);
     if (v501) { goto L166; }
     else { goto L158; }
 L158:;
@@ -53132,7 +56039,7 @@ L161:;
     portable_rattle_dealloc(v505);
     goto L162;
 L162:;
-    f153(v470);
+    f161(v470);
     v512 = v274 == 0u;
     if (v512) { goto L164; }
     else { goto L163; }
@@ -53174,7 +56081,7 @@ L167:;
     goto L171;
 L168:;
     v532 = (u64)v58;
-    v533 = ADDRESS(c370) + v532 * 4u;
+    v533 = ADDRESS(c371) + v532 * 4u;
     v534 = load32(v533);
     v61 = v534; goto L194;
 L169:;
@@ -53379,7 +56286,7 @@ u32 portable_ptpm_session_restore(address a0, address a1, address a2, u64 a3) {
     v20 = load16(v19);
     v21 = a1 + 4u * 1u;
     v22 = load16(v21);
-    f131(v5, v12, a3, v6, v7, v20, v22);
+    f139(v5, v12, a3, v6, v7, v20, v22);
     v23 = load8(v5);
     v24 = v23 == 0u;
     if (v24) { goto L1; }
@@ -53412,7 +56319,7 @@ L2:;
     v44 = v5 + 1u * 1u;
     v45 = load8(v44);
     v46 = (u64)v45;
-    v47 = ADDRESS(c371) + v46 * 4u;
+    v47 = ADDRESS(c372) + v46 * 4u;
     v48 = load32(v47);
     v4 = v48; goto L14;
 L3:;
@@ -53760,7 +56667,7 @@ L3:;
     memory_set(v43, 0u, 24u);
     v44 = v4 + 136u * 1u;
     store64(v44, UINT64_C(2611923443488327891));
-    v45 = f154(a0, v4);
+    v45 = f162(a0, v4);
     v2 = v45; goto L4;
 L4:;
     return v2;
@@ -53860,428 +56767,229 @@ L6:;
     memory_set(v48, 0u, 24u);
     v49 = v5 + 136u * 1u;
     store64(v49, UINT64_C(2611923443488327891));
-    v50 = f154(a0, v5);
+    v50 = f162(a0, v5);
     v3 = v50; goto L7;
 L7:;
     return v3;
 }
 
 u32 portable_ptpm_clock_observe(address a0, address a1, address a2, u64 a3, address a4) {
-    u8 v5, v6, v7, v8, v13, v14, v15, v16, v19, v20, v21, v22, v23, v40, v45, v46;
-    u8 v50, v51, v53, v59, v60, v65, v71, v73, v77, v78, v79, v80, v82, v83, v84, v85;
-    u8 v87, v89, v98, v99, v101, v103, v105, v112, v113, v118, v124, v126, v130, v131, v132, v133;
-    u8 v135, v136, v137, v138, v140, v142, v151, v154, v156, v158, v160, v163, v167, v168, v170, v171;
-    u8 v172;
-    address v9, v25, v26, v27, v28, v29, v30, v31, v32, v33, v34, v35, v36, v37, v38, v39;
-    address v42, v43, v44, v47, v48, v49, v56, v57, v58, v62, v67, v68, v69, v72, v75, v76;
-    address v81, v86, v93, v94, v95, v96, v100, v102, v104, v106, v107, v108, v109, v110, v111, v115;
-    address v120, v121, v122, v125, v128, v129, v134, v139, v146, v147, v148, v149, v152, v155, v157, v159;
-    address v161, v162, v164, v165, v166, v169;
-    u32 v10, v24, v54, v55;
-    u64 v11, v12, v17, v18, v41, v52, v61, v63, v64, v66, v70, v74, v88, v90, v91, v92;
-    u64 v97, v114, v116, v117, v119, v123, v127, v141, v143, v144, v145, v150, v153;
+    address v5, v6, v7, v8, v9, v15, v16, v17, v20, v21, v22, v25, v26, v27, v28, v29;
+    address v30, v31, v32, v33, v39, v43, v54, v55, v56, v57;
+    u64 v10, v11, v12, v19, v40, v41, v45, v46, v47, v48;
+    u32 v13, v14, v52, v53;
+    u8 v18, v23, v24, v34, v35, v36, v37, v38, v42, v44, v49, v50, v51;
     u64 block0[9];
     u64 block1[10];
-    u64 block2[192];
-    u64 block3[193];
-    u64 block4[9];
-    u64 block5[14];
-    u64 block6[193];
-    u64 block7[10];
-    u64 block8[10];
-    u64 block9[192];
-    u64 block10[193];
-    u64 block11[10];
-    u64 block12[14];
-    u64 block13[10];
-    u64 block14[10];
-    v25 = ADDRESS(block0);
-    v26 = ADDRESS(block1);
-    v27 = ADDRESS(block2);
-    v28 = ADDRESS(block3);
-    v29 = ADDRESS(block4);
-    v30 = ADDRESS(block5);
-    v31 = ADDRESS(block6);
-    v32 = ADDRESS(block7);
-    v33 = ADDRESS(block8);
-    v34 = ADDRESS(block9);
-    v35 = ADDRESS(block10);
-    v36 = ADDRESS(block11);
-    v37 = ADDRESS(block12);
-    v38 = ADDRESS(block13);
-    v39 = ADDRESS(block14);
-    v40 = a2 == 0u;
-    v41 = v40 ? 4096u : 0u;
-    v42 = a2 + v41 * 1u;
-    memory_set(v38, 0u, 80u);
-    memory_set(v39, 0u, 80u);
+    u64 block2[10];
+    v15 = ADDRESS(block0);
+    v16 = ADDRESS(block1);
+    v17 = ADDRESS(block2);
+    v18 = a2 == 0u;
+    v19 = v18 ? 4096u : 0u;
+    v20 = a2 + v19 * 1u;
+    memory_set(v16, 0u, 80u);
+    memory_set(v17, 0u, 80u);
     store64(a4, 0u);
-    v43 = a0 + 9u * 1u;
-    store8(v43, 0u);
-    v44 = a0 + 8u * 1u;
-    v45 = load8(v44);
-    v46 = (u8)((v45) & UINT64_C(1));
-    v47 = v38 + 8u * 1u;
-    v48 = v39 + 8u * 1u;
-    if (v46) { goto L1; }
-    else { v24 = 32u; goto L64; }
+    v21 = a0 + 9u * 1u;
+    store8(v21, 0u);
+    v22 = a0 + 8u * 1u;
+    v23 = load8(v22);
+    v24 = (u8)((v23) & UINT64_C(1));
+    v25 = v16 + 2u * 1u;
+    v26 = v17 + 2u * 1u;
+    v27 = v16 + 3u * 1u;
+    v28 = v17 + 3u * 1u;
+    v29 = v16 + 1u * 1u;
+    v30 = v17 + 1u * 1u;
+    v31 = v16 + 8u * 1u;
+    v32 = v17 + 8u * 1u;
+    if (v24) { goto L1; }
+    else { v14 = 32u; goto L50; }
 L1:;
-    v49 = load_address(a0);
-    v50 = load8(v49);
-    switch (v50) {
-    case 1u: goto L43;
-    case 4u: goto L51;
-    case 0u: v24 = 32u; goto L64;
-    case 2u: v24 = 32u; goto L64;
-    case 3u: v24 = 32u; goto L64;
-    case 5u: v24 = 32u; goto L64;
-    case 6u: v24 = 32u; goto L64;
-    case 7u: v24 = 32u; goto L64;
-    default: goto L63;
+    v33 = load_address(a0);
+    v34 = load8(v33);
+    switch (v34) {
+    case 1u: goto L47;
+    case 4u: goto L48;
+    case 0u: v14 = 32u; goto L50;
+    case 2u: v14 = 32u; goto L50;
+    case 3u: v14 = 32u; goto L50;
+    case 5u: v14 = 32u; goto L50;
+    case 6u: v14 = 32u; goto L50;
+    case 7u: v14 = 32u; goto L50;
+    default: goto L49;
     }
 L2:;
-    v51 = v8 == 0u;
-    if (v51) { goto L3; }
-    else { goto L4; }
+    v35 = load8(v9);
+    v36 = load8(v5);
+    v37 = load8(v6);
+    v38 = v35 == 0u;
+    if (v38) { goto L3; }
+    else { goto L8; }
 L3:;
-    memory_cpy(v25, v9, 72u);
-    v52 = f158(v25, 1u, 64u);
-    store64(a4, v52);
-    v10 = 0u; goto L42;
+    memory_cpy(v15, v8, 72u);
+    v39 = v15 + 64u * 1u;
+    v40 = load64(v39);
+    v10 = 0u; v11 = 0u; goto L4;
 L4:;
-    store64(a4, 0u);
-    switch (v5) {
-    case 0u: v10 = 33u; goto L42;
-    case 2u: goto L5;
-    case 1u: goto L6;
-    default: goto L41;
-    }
+    v41 = (u64)((u64)63u - (u64)v11);
+    v42 = v40 > v41;
+    if (v42) { goto L5; }
+    else { v12 = 0u; goto L6; }
 L5:;
-    v10 = 50u; goto L42;
+    v43 = v15 + v41 * 1u;
+    v44 = load8(v43);
+    v45 = (u64)v44;
+    v12 = v45; goto L6;
 L6:;
-    switch (v7) {
-    case 0u: v10 = 64u; goto L42;
-    case 1u: goto L7;
-    case 2u: goto L8;
-    case 3u: goto L9;
-    case 4u: goto L10;
-    case 5u: goto L11;
-    case 6u: goto L12;
-    case 7u: goto L13;
-    case 8u: goto L14;
-    case 9u: goto L15;
-    case 10u: goto L16;
-    case 11u: goto L17;
-    case 12u: goto L18;
-    case 13u: goto L19;
-    case 14u: goto L20;
-    case 15u: goto L21;
-    case 16u: goto L22;
-    case 17u: goto L23;
-    case 18u: goto L24;
-    case 19u: goto L25;
-    case 20u: goto L26;
-    case 21u: goto L27;
-    case 22u: goto L28;
-    case 23u: goto L29;
-    case 24u: goto L30;
-    case 25u: goto L31;
-    case 26u: goto L32;
-    case 27u: goto L33;
-    case 28u: goto L34;
-    case 29u: goto L35;
-    case 30u: goto L36;
-    case 31u: goto L37;
-    case 32u: goto L38;
-    case 33u: goto L39;
-    default: goto L40;
-    }
+    v46 = (u64)((u64)v10 << (1u & 63u));
+    v47 = (u64)((u64)v12 + (u64)v46);
+    v48 = (u64)((u64)v11 + (u64)1u);
+    v49 = v48 == 64u;
+    if (v49) { goto L7; }
+    else { v10 = v47; v11 = v48; goto L4; }
 L7:;
-    v10 = 65u; goto L42;
+    store64(a4, v47);
+    v13 = 0u; goto L46;
 L8:;
-    v10 = 66u; goto L42;
+    v50 = load8(v7);
+    store64(a4, 0u);
+    switch (v50) {
+    case 0u: v13 = 33u; goto L46;
+    case 2u: goto L9;
+    case 1u: goto L10;
+    default: goto L45;
+    }
 L9:;
-    v10 = 67u; goto L42;
+    v13 = 50u; goto L46;
 L10:;
-    v10 = 68u; goto L42;
+    switch (v36) {
+    case 0u: v13 = 64u; goto L46;
+    case 1u: goto L11;
+    case 2u: goto L12;
+    case 3u: goto L13;
+    case 4u: goto L14;
+    case 5u: goto L15;
+    case 6u: goto L16;
+    case 7u: goto L17;
+    case 8u: goto L18;
+    case 9u: goto L19;
+    case 10u: goto L20;
+    case 11u: goto L21;
+    case 12u: goto L22;
+    case 13u: goto L23;
+    case 14u: goto L24;
+    case 15u: goto L25;
+    case 16u: goto L26;
+    case 17u: goto L27;
+    case 18u: goto L28;
+    case 19u: goto L29;
+    case 20u: goto L30;
+    case 21u: goto L31;
+    case 22u: goto L32;
+    case 23u: goto L33;
+    case 24u: goto L34;
+    case 25u: goto L35;
+    case 26u: goto L36;
+    case 27u: goto L37;
+    case 28u: goto L38;
+    case 29u: goto L39;
+    case 30u: goto L40;
+    case 31u: goto L41;
+    case 32u: goto L42;
+    case 33u: goto L43;
+    default: goto L44;
+    }
 L11:;
-    v10 = 69u; goto L42;
+    v13 = 65u; goto L46;
 L12:;
-    v10 = 70u; goto L42;
+    v13 = 66u; goto L46;
 L13:;
-    v10 = 71u; goto L42;
+    v13 = 67u; goto L46;
 L14:;
-    v10 = 72u; goto L42;
+    v13 = 68u; goto L46;
 L15:;
-    v10 = 73u; goto L42;
+    v13 = 69u; goto L46;
 L16:;
-    v10 = 74u; goto L42;
+    v13 = 70u; goto L46;
 L17:;
-    v10 = 75u; goto L42;
+    v13 = 71u; goto L46;
 L18:;
-    v10 = 76u; goto L42;
+    v13 = 72u; goto L46;
 L19:;
-    v10 = 77u; goto L42;
+    v13 = 73u; goto L46;
 L20:;
-    v10 = 78u; goto L42;
+    v13 = 74u; goto L46;
 L21:;
-    v10 = 79u; goto L42;
+    v13 = 75u; goto L46;
 L22:;
-    v10 = 80u; goto L42;
+    v13 = 76u; goto L46;
 L23:;
-    v10 = 81u; goto L42;
+    v13 = 77u; goto L46;
 L24:;
-    v10 = 82u; goto L42;
+    v13 = 78u; goto L46;
 L25:;
-    v10 = 83u; goto L42;
+    v13 = 79u; goto L46;
 L26:;
-    v10 = 84u; goto L42;
+    v13 = 80u; goto L46;
 L27:;
-    v10 = 85u; goto L42;
+    v13 = 81u; goto L46;
 L28:;
-    v10 = 86u; goto L42;
+    v13 = 82u; goto L46;
 L29:;
-    v10 = 87u; goto L42;
+    v13 = 83u; goto L46;
 L30:;
-    v10 = 88u; goto L42;
+    v13 = 84u; goto L46;
 L31:;
-    v10 = 89u; goto L42;
+    v13 = 85u; goto L46;
 L32:;
-    v10 = 90u; goto L42;
+    v13 = 86u; goto L46;
 L33:;
-    v10 = 91u; goto L42;
+    v13 = 87u; goto L46;
 L34:;
-    v10 = 92u; goto L42;
+    v13 = 88u; goto L46;
 L35:;
-    v10 = 93u; goto L42;
+    v13 = 89u; goto L46;
 L36:;
-    v10 = 94u; goto L42;
+    v13 = 90u; goto L46;
 L37:;
-    v10 = 95u; goto L42;
+    v13 = 91u; goto L46;
 L38:;
-    v10 = 96u; goto L42;
+    v13 = 92u; goto L46;
 L39:;
-    v53 = (u8)((u32)v6 + (u32)33u);
-    v54 = (u32)v53;
-    v55 = (u32)((u32)v54 + (u32)64u);
-    v10 = v55; goto L42;
+    v13 = 93u; goto L46;
 L40:;
-    UNREACHABLE;
+    v13 = 94u; goto L46;
 L41:;
-    UNREACHABLE;
+    v13 = 95u; goto L46;
 L42:;
-    v24 = v10; goto L64;
+    v13 = 96u; goto L46;
 L43:;
-    v56 = v49 + 8u * 1u;
-    v57 = load_address(v56);
-    v58 = v57 + 240u * 1u;
-    v59 = load8(v58);
-    v60 = v59 == 0u;
-    v61 = v60 ? 376u : 256u;
-    v62 = v57 + v61 * 1u;
-    v63 = load64(v62);
-    v64 = (u64)((u64)v63 & (u64)65535u);
-    v65 = a3 > v64;
-    if (v65) { goto L44; }
-    else { goto L45; }
+    v51 = (u8)((u32)v37 + (u32)33u);
+    v52 = (u32)v51;
+    v53 = (u32)((u32)v52 + (u32)64u);
+    v13 = v53; goto L46;
 L44:;
-    memory_set(v47, 0u, 72u);
-    v13 = 0u; v14 = 0u; v15 = 0u; v16 = 1u; goto L50;
-L45:;
-    memory_set(v34, 0u, 1536u);
-    v11 = 0u; goto L46;
-L46:;
-    v66 = (u64)((u64)v11 * (u64)24u);
-    v67 = v34 + v66 * 1u;
-    store8(v67, 0u);
-    v68 = v67 + 1u * 1u;
-    store8(v68, 0u);
-    v69 = v67 + 8u * 1u;
-    v70 = (u64)((u64)v11 + (u64)1u);
-    v71 = v70 == 64u;
-    memory_set(v69, 0u, 16u);
-    if (v71) { goto L47; }
-    else { v11 = v70; goto L46; }
-L47:;
-    memory_cpy(v35, v34, 1536u);
-    v72 = v35 + 1536u * 1u;
-    store64(v72, 0u);
-    v73 = a3 == 0u;
-    if (v73) { goto L49; }
-    else { v12 = 0u; goto L48; }
-L48:;
-    v74 = (u64)((u64)v12 << (4u & 63u));
-    v75 = v42 + v74 * 1u;
-    v76 = v75 + 8u * 1u;
-    v77 = load8(v76);
-    v78 = (u8)((u32)v77 + (u32)255u);
-    v79 = v78 < 9u;
-    v80 = v79 ? v78 : 2u;
-    v81 = v75 + 9u * 1u;
-    v82 = load8(v81);
-    v83 = v82 != 0u;
-    v84 = (u8)v83;
-    v85 = v83 ? v80 : 0u;
-    v86 = v75 + 10u * 1u;
-    v87 = load8(v86);
-    v88 = load64(v75);
-    v89 = v87 != 0u;
-    v90 = v89 ? v88 : 0u;
-    v91 = (u64)v89;
-    v92 = (u64)((u64)v12 * (u64)24u);
-    v93 = v35 + v92 * 1u;
-    v94 = v93 + 1u * 1u;
-    v95 = v93 + 8u * 1u;
-    v96 = v93 + 16u * 1u;
-    store8(v93, v84);
-    store8(v94, v85);
-    store64(v95, v91);
-    store64(v96, v90);
-    v97 = (u64)((u64)v12 + (u64)1u);
-    store64(v72, v97);
-    v98 = v97 == a3;
-    if (v98) { goto L49; }
-    else { v12 = v97; goto L48; }
-L49:;
-    f155(v37, a1);
-    memory_set(v33, 0u, 80u);
-    f156(v33, v57, v37, v35, a3);
-    v99 = load8(v33);
-    v100 = v33 + 1u * 1u;
-    v101 = load8(v100);
-    v102 = v33 + 2u * 1u;
-    v103 = load8(v102);
-    v104 = v33 + 3u * 1u;
-    v105 = load8(v104);
-    v106 = v33 + 8u * 1u;
-    v107 = v36 + 4u * 1u;
-    memory_cpy(v107, v106, 72u);
-    memory_cpy(v47, v107, 72u);
-    v13 = v101; v14 = v105; v15 = v103; v16 = v99; goto L50;
-L50:;
-    v5 = v13; v6 = v14; v7 = v15; v8 = v16; v9 = v47; goto L2;
-L51:;
-    v108 = v49 + 8u * 1u;
-    v109 = load_address(v108);
-    v110 = load_address(v109);
-    v111 = v110 + 240u * 1u;
-    v112 = load8(v111);
-    v113 = v112 == 0u;
-    v114 = v113 ? 376u : 256u;
-    v115 = v110 + v114 * 1u;
-    v116 = load64(v115);
-    v117 = (u64)((u64)v116 & (u64)65535u);
-    v118 = a3 > v117;
-    if (v118) { goto L52; }
-    else { goto L53; }
-L52:;
-    memory_set(v48, 0u, 72u);
-    v20 = 0u; v21 = 0u; v22 = 0u; v23 = 1u; goto L62;
-L53:;
-    f155(v30, a1);
-    memory_set(v27, 0u, 1536u);
-    v17 = 0u; goto L54;
-L54:;
-    v119 = (u64)((u64)v17 * (u64)24u);
-    v120 = v27 + v119 * 1u;
-    store8(v120, 0u);
-    v121 = v120 + 1u * 1u;
-    store8(v121, 0u);
-    v122 = v120 + 8u * 1u;
-    v123 = (u64)((u64)v17 + (u64)1u);
-    v124 = v123 == 64u;
-    memory_set(v122, 0u, 16u);
-    if (v124) { goto L55; }
-    else { v17 = v123; goto L54; }
-L55:;
-    memory_cpy(v28, v27, 1536u);
-    v125 = v28 + 1536u * 1u;
-    store64(v125, 0u);
-    v126 = a3 == 0u;
-    if (v126) { goto L57; }
-    else { v18 = 0u; goto L56; }
-L56:;
-    v127 = (u64)((u64)v18 << (4u & 63u));
-    v128 = v42 + v127 * 1u;
-    v129 = v128 + 8u * 1u;
-    v130 = load8(v129);
-    v131 = (u8)((u32)v130 + (u32)255u);
-    v132 = v131 < 9u;
-    v133 = v132 ? v131 : 2u;
-    v134 = v128 + 9u * 1u;
-    v135 = load8(v134);
-    v136 = v135 != 0u;
-    v137 = (u8)v136;
-    v138 = v136 ? v133 : 0u;
-    v139 = v128 + 10u * 1u;
-    v140 = load8(v139);
-    v141 = load64(v128);
-    v142 = v140 != 0u;
-    v143 = v142 ? v141 : 0u;
-    v144 = (u64)v142;
-    v145 = (u64)((u64)v18 * (u64)24u);
-    v146 = v28 + v145 * 1u;
-    v147 = v146 + 1u * 1u;
-    v148 = v146 + 8u * 1u;
-    v149 = v146 + 16u * 1u;
-    store8(v146, v137);
-    store8(v147, v138);
-    store64(v148, v144);
-    store64(v149, v143);
-    v150 = (u64)((u64)v18 + (u64)1u);
-    store64(v125, v150);
-    v151 = v150 == a3;
-    if (v151) { goto L57; }
-    else { v18 = v150; goto L56; }
-L57:;
-    memory_cpy(v31, v28, 1544u);
-    v152 = v31 + 1536u * 1u;
-    v153 = load64(v152);
-    memory_set(v26, 0u, 80u);
-    f156(v26, v110, v30, v31, v153);
-    v154 = load8(v26);
-    v155 = v26 + 1u * 1u;
-    v156 = load8(v155);
-    v157 = v26 + 2u * 1u;
-    v158 = load8(v157);
-    v159 = v26 + 3u * 1u;
-    v160 = load8(v159);
-    v161 = v32 + 8u * 1u;
-    v162 = v26 + 8u * 1u;
-    memory_cpy(v161, v162, 72u);
-    v163 = v154 == 0u;
-    if (v163) { goto L58; }
-    else { goto L61; }
-L58:;
-    memory_cpy(v29, v161, 72u);
-    v164 = v109 + 8u * 1u;
-    f156(v32, v164, v30, v31, v153);
-    v165 = v109 + 392u * 1u;
-    f156(v32, v165, v30, v31, v153);
-    v166 = v109 + 840u * 1u;
-    v167 = load8(v166);
-    v168 = (u8)((v167) & UINT64_C(1));
-    if (v168) { goto L59; }
-    else { v19 = 0u; goto L60; }
-L59:;
-    v169 = v109 + 841u * 1u;
-    v170 = load8(v169);
-    v171 = (u8)((v170) & UINT64_C(1));
-    v19 = v171; goto L60;
-L60:;
-    v172 = (u8)v19;
-    store8(v166, v172);
-    memory_cpy(v48, v29, 72u);
-    v20 = 0u; v21 = 0u; v22 = 0u; v23 = 0u; goto L62;
-L61:;
-    memory_set(v48, 0u, 72u);
-    v20 = v156; v21 = v160; v22 = v158; v23 = 1u; goto L62;
-L62:;
-    v5 = v20; v6 = v21; v7 = v22; v8 = v23; v9 = v48; goto L2;
-L63:;
     UNREACHABLE;
-L64:;
-    return v24;
+L45:;
+    UNREACHABLE;
+L46:;
+    v14 = v13; goto L50;
+L47:;
+    v54 = v33 + 8u * 1u;
+    v55 = load_address(v54);
+    f163(v16, v55, a1, v20, a3);
+    v5 = v25; v6 = v27; v7 = v29; v8 = v31; v9 = v16; goto L2;
+L48:;
+    v56 = v33 + 8u * 1u;
+    v57 = load_address(v56);
+    f167(v17, v57, a1, v20, a3);
+    v5 = v26; v6 = v28; v7 = v30; v8 = v32; v9 = v17; goto L2;
+L49:;
+    UNREACHABLE;
+L50:;
+    return v14;
 }
 
 u32 portable_ptpm_clock_read(address a0, u16 a1, u16 a2, address a3, u64 a4, address a5) {
@@ -54454,7 +57162,7 @@ L28:;
 L29:;
     v10 = 11u; v11 = 4u; goto L39;
 L30:;
-    f38(v6, v7, v17);
+    f39(v6, v7, v17);
     v42 = load64(v41);
     v15 = v42; goto L47;
 L31:;
@@ -54856,7 +57564,7 @@ L32:;
     memory_move(v116, v18, 80u);
     goto L34;
 L33:;
-    f50(v116, v18, v57);
+    f51(v116, v18, v57);
     goto L34;
 L34:;
     v117 = load8(v75);
@@ -54917,7 +57625,7 @@ L1:;
 L2:;
     v21 = v19 + 8u * 1u;
     v22 = load_address(v21);
-    f159(v10, v22, a1, a2, a3, v14, a5);
+    f168(v10, v22, a1, a2, a3, v14, a5);
     v23 = load8(v10);
     v24 = v10 + 1u * 1u;
     v25 = load8(v24);
@@ -54943,7 +57651,7 @@ L4:;
     }
 L5:;
     v30 = (u64)v27;
-    v31 = ADDRESS(c372) + v30 * 2u;
+    v31 = ADDRESS(c373) + v30 * 2u;
     v32 = load16(v31);
     store16(a7, v32);
     v8 = 26u; goto L19;
@@ -54960,7 +57668,7 @@ L10:;
     v34 = load_address(v33);
     memory_set(v9, 0u, 72u);
     v35 = load_address(v34);
-    f159(v9, v35, a1, a2, a3, v14, a5);
+    f168(v9, v35, a1, a2, a3, v14, a5);
     v36 = load8(v9);
     v37 = v36 == 0u;
     if (v37) { goto L11; }
@@ -54993,7 +57701,7 @@ L12:;
     }
 L13:;
     v46 = (u64)v43;
-    v47 = ADDRESS(c372) + v46 * 2u;
+    v47 = ADDRESS(c373) + v46 * 2u;
     v48 = load16(v47);
     store16(a7, v48);
     v8 = 26u; goto L19;
@@ -55047,7 +57755,7 @@ L1:;
 L2:;
     v18 = v16 + 8u * 1u;
     v19 = load_address(v18);
-    f160(v8, v19, a1, v12, a3);
+    f169(v8, v19, a1, v12, a3);
     v20 = load8(v8);
     v21 = v20 == 0u;
     if (v21) { goto L3; }
@@ -55080,7 +57788,7 @@ L7:;
 L8:;
     v29 = v16 + 8u * 1u;
     v30 = load_address(v29);
-    f161(v9, v30, a1, v12, a3);
+    f170(v9, v30, a1, v12, a3);
     v31 = load8(v9);
     v32 = v31 == 0u;
     if (v32) { goto L9; }
@@ -55327,7 +58035,7 @@ L6:;
     if (v38) { goto L7; }
     else { goto L16; }
 L7:;
-    f161(v10, v22, a1, v14, a3);
+    f170(v10, v22, a1, v14, a3);
     v39 = load8(v10);
     v40 = v39 == 0u;
     if (v40) { goto L8; }
@@ -55337,7 +58045,7 @@ L8:;
     v42 = load8(v41);
     v43 = v10 + 4u * 1u;
     v44 = load_address(v22);
-    f82(v9, v44, v14, a3);
+    f90(v9, v44, v14, a3);
     v45 = load8(v9);
     v46 = v45 == 1u;
     if (v46) { goto L10; }
