@@ -24,7 +24,7 @@
      The call ptpm_rollout_open takes 1,500. The images and the restore of a session take 1,000, and so do ptpm_asker_ask and
      ptpm_asker_wake. The call ptpm_clock_handle takes 800.
      As C it takes more (docs/embedding.md, "On any other processor"). Beyond that a call takes the stack of the host's malloc,
-     realloc, free, memcpy, memmove and memset. No call calls itself, but a function below ptpm_clock_observe does, once for each port.
+     realloc, free, memcpy, memmove and memset. No call calls itself.
 
    A call that only reads takes a const handle, and leaves it as it is. If several errors apply, the first is returned. Only
    ptpm_clock_start, and ptpm_clock_restore of a clock of over eight ports, may return PTPM_NO_MEMORY instead. Every other call

@@ -1,23 +1,21 @@
 -- What the device of a clock is asked that is saved while it goes on, after each of its calls.
-use Rattle.std.proofs.Common.{◌≡◌, ◌∙◌, ◌≤◌, ◌&&◌, Bool, true, false, ap, refl, subst, sym, List, [], ◌∷◌, ◌++◌, ℕ, drop, length, take, Option, Some, None, if◌then◌else◌}
-use Rattle.std.specs.Prelude.{is_some}
+use Rattle.std.proofs.Common.{◌≡◌, ◌∙◌, ◌≤◌, Bool, true, false, ap, refl, subst, sym, List, [], ◌∷◌, ◌++◌, ℕ, length, Option, None, if◌then◌else◌}
 use Rattle.ptpm_agent.specs.Turn.{Clock}
 use Rattle.ptpm_data.specs.ObservationBack.{Observation}
 use Rattle.ptpm_device.specs.Saying.{Say}
-use Rattle.ptpm_saved.specs.Saving.{Came, Happening, Noted, Process, after_all}
+use Rattle.ptpm_saved.specs.Saving.{Came, Happening, after_all}
 use Rattle.ptpm_saved.specs.SavingClock.{Datagram}
-use Rattle.ptpm_saved.specs.Batching.{Call, Confirms, Handles, Observes, answers, calls, changes_in, holds, is_held, live, observes, waits}
+use Rattle.ptpm_saved.specs.Batching.{Handles, answers, holds, is_held, live}
 use Rattle.ptpm_host.specs.declared.saving_clock.Acting.{Acting}
 use Rattle.ptpm_host.specs.declared.saving_clock.Acting.TheVariants as actings
 use Rattle.ptpm_host.specs.declared.saving_clock.SavingClock.{SavingClock}
 use Rattle.ptpm_host.specs.Clock.{clock_in}
-use Rattle.ptpm_host.specs.Coming.{ClockBatch, ClockState, Coming, Decides, after_coming, coming_process, datagram_in, is_held_by}
-use Rattle.ptpm_host.specs.KeptBatch.{IsImage, IsImageIf, IsKept, LeadsTo, all_given}
+use Rattle.ptpm_host.specs.Coming.{ClockBatch, ClockState, Coming, coming_process, datagram_in, is_held_by}
+use Rattle.ptpm_host.specs.KeptBatch.{IsImageIf, IsKept, LeadsTo, all_given}
 use Rattle.ptpm_host.specs.SavingClock as saving
 use Rattle.ptpm_host.specs.SavingClock.{IsAsBatch, acting_once_imaged, asked_later, asked_next, called_at, clock_state_in, kept_of, request_under_way, shown_sets}
-use Rattle.ptpm_host.specs.Undertaking.{asked_once_saved, decides_in, is_decision}
-use Rattle.ptpm_host.proofs.AskedLaws.{later_new, later_none, later_other, later_saved, next_one, quiet_later}
-use Rattle.ptpm_host.proofs.ComingLaws.{coming_sound}
+use Rattle.ptpm_host.specs.Undertaking.{asked_once_saved, decides_in}
+use Rattle.ptpm_host.proofs.AskedLaws.{later_new, later_none, later_other, next_one}
 
 -- what is under way at a clock
 abbrev pub under_way_of : SavingClock → Option Datagram

@@ -8,7 +8,7 @@ use Rattle.ptpm_agent.specs.Turn.{Clock}
 use Rattle.ptpm_data.specs.Request.{RequestValue}
 use Rattle.ptpm_saved.specs.Saving.{Came, Happening, Noted, Process, after_all, after_one, all_messages}
 use Rattle.ptpm_saved.specs.SavingClock.{Datagram}
-use Rattle.ptpm_saved.specs.Batching.{Confirms, GivesOut, Handles, Observes, answers, changes_in, gives_out, goes_on, holds, live, observes, shown, waits}
+use Rattle.ptpm_saved.specs.Batching.{Confirms, GivesOut, Handles, Observes, answers, changes_in, gives_out, goes_on, holds, live, observes, waits}
 use Rattle.ptpm_host.specs.declared.saving_clock.Acting.{Acting}
 use Rattle.ptpm_host.specs.declared.saving_clock.Acting.TheVariants as actings
 use Rattle.ptpm_host.specs.declared.saving_clock.SavingClock.{SavingClock}

@@ -1,11 +1,11 @@
 -- What each call does to a batch, and to what is kept of one.
-use Rattle.std.proofs.Common.{arith, ◌≡◌, ◌∙◌, ◌≤◌, ◌+◌, Bool, true, false, ◌&&◌, ◌||◌, ℕ, List, [], ◌∷◌, ◌++◌, take, drop, length, replicate, ap, refl, sym, subst, append_assoc, append-nil}
+use Rattle.std.proofs.Common.{arith, ◌≡◌, ◌∙◌, ◌+◌, Bool, true, false, ◌&&◌, ◌||◌, ℕ, List, [], ◌∷◌, ◌++◌, take, drop, length, replicate, ap, refl, sym, subst, append_assoc, append-nil}
 use Rattle.std.specs.Prelude.{if◌then◌else◌}
 use Rattle.std.proofs.lemmas.Bool.{false≢true}
 use Rattle.std.proofs.lemmas.List.{drop-append-le, take-append-drop, take-append-le, take_all, drop_all, length-append, nil_from_length}
-use Rattle.ptpm_saved.specs.Saving.{Came, Happening, IsSound, Noted, Process, after_all, after_one, all_messages, messages_of}
-use Rattle.ptpm_saved.specs.Batching.{Batch, Call, Confirms, GivesOut, Handles, Observes, answers, begun, calls, calls_each, changes_in, confirms, gives_out, goes_on, holds, is_held, live, observes, shown, shown_from, waits}
-use Rattle.ptpm_host.specs.KeptBatch.{IsGivenOut, IsImage, IsImageIf, IsKept, KeptBatch, LeadsTo, all_given, kept_confirmed, kept_held, kept_imaged, kept_observed}
+use Rattle.ptpm_saved.specs.Saving.{Came, Happening, Noted, Process, after_all, after_one, all_messages, messages_of}
+use Rattle.ptpm_saved.specs.Batching.{Batch, Confirms, GivesOut, Handles, Observes, answers, begun, calls, calls_each, changes_in, gives_out, goes_on, holds, is_held, live, observes, shown, shown_from, waits}
+use Rattle.ptpm_host.specs.KeptBatch.{IsGivenOut, IsImage, IsImageIf, IsKept, KeptBatch, LeadsTo, kept_confirmed, kept_held, kept_imaged, kept_observed}
 
 module _ {S A N M : Type 0} (p : Process S A N M) where
   pub after_all-append : (s : S) (hs gs : List (Happening A N)) → after_all p s (hs ++ gs) ≡ after_all p (after_all p s hs) gs

@@ -64,6 +64,9 @@ most_at es place e is =
 pub most_few : (s : State) (kept : ℕ) → HaveAnswers kept (entries s.entries) → most_sent s ≤ max (2 * length s.sets.ports - 1) kept
 most_few s kept few = omega (arith, kept_most (entries s.entries) kept few)
 
+pub replied_few : (s : State) (kept : ℕ) → HaveAnswers kept (entries s.entries) → most_replied s ≤ max (length s.sets.ports) kept
+replied_few s kept few = omega (arith, kept_most (entries s.entries) kept few)
+
 module _ (c : Clock) (s : State) (ingress : ℕ) (datagram : List ℕ) (most : ℕ) (sized : IsSized s.sets) (port : HasPort ingress s.sets) (ports : 2 * length s.sets.ports - 1 ≤ most) (kept : HaveAnswers most (entries s.entries)) where
   turn_here : length (outbox_of (turn c s ingress datagram)) ≤ most
   turn_here = turn_few c s ingress datagram most sized port ports kept

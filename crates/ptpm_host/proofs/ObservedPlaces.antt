@@ -1,8 +1,9 @@
 -- The places of an observation: one with more of them than the clock has ports is refused; numbers of so many bits.
-use Rattle.std.proofs.Common.{arith, ◌≡◌, ◌<◌, ◌≤◌, ◌+◌, ◌*◌, ◌^◌, ◌-◌, ◌==◌, ◌&&◌, not, ℕ, zero, suc, Bool, true, false, List, ap, sym, nat_lt, Some, length, refl}
+use Rattle.std.proofs.Common.{arith, ◌≡◌, ◌<◌, ◌≤◌, ◌+◌, ◌*◌, ◌^◌, ◌-◌, ◌==◌, ◌&&◌, ◌∙◌, not, ℕ, suc, Bool, true, false, List, ap, nat_lt, Some, length, refl}
 use Rattle.std.specs.Int.{from_bool}
 use Rattle.std.proofs.Math.Nat.{pow-succ'}
 use Rattle.std.proofs.Math.Pow.{pow_mono}
+use Rattle.ptpm_data.specs.declared.ports.TheConstants.{PORTS}
 use Rattle.ptpm_data.specs.Members.{DataSetsValue, may_forward}
 use Rattle.ptpm_data.specs.Observation.{is_left, observation_refusal}
 use Rattle.ptpm_host.specs.Answers.{egress_from}
@@ -15,30 +16,38 @@ use Rattle.ptpm_host.specs.declared.clock.HostedClock.{HostedClock}
 use Rattle.ptpm_host.specs.declared.observing.ObservedClock.{ObservedClock}
 use Rattle.ptpm_host.specs.declared.observing.ObservedPort.{ObservedPort}
 
--- ---- a number of so many bits, with one bit before them
+-- ---- the number of the last ports, with one more before them
 
-pub left_step : (port count : ℕ) (left : List Bool)
-    → 0 < count
-    → left_from port count left ≡ from_bool (is_left port left) + 2 * left_from (port + 1) (count - 1) left
-left_step port zero left some = absurd (omega (arith, some))
-left_step port (suc n) left some =
-    let e : suc n - 1 ≡ n = omega arith in ap (λ k. from_bool (is_left port left) + 2 * left_from (port + 1) k left) (sym e)
+pub next_left : (above number : ℕ) (left : List Bool)
+    → above < PORTS
+    → number ≡ left_from (PORTS + 1 - above) above left
+    → from_bool (is_left (PORTS - above) left) + 2 * number ≡ left_from (PORTS + 1 - (above + 1)) (above + 1) left
+next_left above number left less is =
+    let port : PORTS - above ≡ PORTS + 1 - (above + 1) = omega arith in
+    let behind : PORTS + 1 - above ≡ PORTS - above + 1 = omega arith in
+    let more : suc above ≡ above + 1 = omega arith in
+    ap (λ n. from_bool (is_left (PORTS - above) left) + 2 * n) (is ∙ ap (λ p. left_from p above left) behind)
+    ∙ (λ i. left_from (port i) (more i) left)
 
-pub egress_step : (port count ingress : ℕ) (d : DataSetsValue)
-    → 0 < count
-    → egress_from port count ingress d ≡ from_bool (not (port == ingress) && may_forward port d) + 2 * egress_from (port + 1) (count - 1) ingress d
-egress_step port zero ingress d some = absurd (omega (arith, some))
-egress_step port (suc n) ingress d some =
-    let e : suc n - 1 ≡ n = omega arith in
-    ap (λ k. from_bool (not (port == ingress) && may_forward port d) + 2 * egress_from (port + 1) k ingress d) (sym e)
+pub next_egress : (count above number ingress : ℕ) (d : DataSetsValue)
+    → above < count
+    → number ≡ egress_from (count + 1 - above) above ingress d
+    → from_bool (not (count - above == ingress) && may_forward (count - above) d) + 2 * number
+    ≡ egress_from (count + 1 - (above + 1)) (above + 1) ingress d
+next_egress count above number ingress d less is =
+    let port : count - above ≡ count + 1 - (above + 1) = omega arith in
+    let behind : count + 1 - above ≡ count - above + 1 = omega (arith, less) in
+    let more : suc above ≡ above + 1 = omega arith in
+    ap (λ n. from_bool (not (count - above == ingress) && may_forward (count - above) d) + 2 * n) (is ∙ ap (λ p. egress_from p above ingress d) behind)
+    ∙ (λ i. egress_from (port i) (more i) ingress d)
 
-pub twice_fits : (count bit number : ℕ) → 0 < count → bit ≤ 1 → number < 2 ^ (count - 1) → bit + 2 * number < 2 ^ count
-twice_fits zero bit number some small less = absurd (omega (arith, some))
-twice_fits (suc n) bit number some small less =
-    let e : suc n - 1 ≡ n = omega arith in omega (arith, pow-succ' 2 n, ap (λ k. 2 ^ k) e, small, less)
+pub next_fits : (above bit number : ℕ) → bit ≤ 1 → number < 2 ^ above → bit + 2 * number < 2 ^ (above + 1)
+next_fits above bit number small few =
+    let e : 2 ^ (above + 1) ≡ 2 * 2 ^ above = ap (λ n. 2 ^ n) (omega arith) ∙ pow-succ' 2 above in
+    omega (arith, e, small, few)
 
-pub in_word : (count number : ℕ) → count ≤ 64 → number < 2 ^ count → number < 2 ^ 64
-in_word count number few less = omega (arith, pow_mono {i = count} {j = 64} few, less)
+pub in_word : (above number : ℕ) → above < 64 → number < 2 ^ (above + 1) → number < 2 ^ 64
+in_word above number less few = omega (arith, pow_mono {i = above + 1} {j = 64} (omega (arith, less)), few)
 
 pub bit_small : (b : Bool) → from_bool b ≤ 1
 bit_small true = omega arith

@@ -1,5 +1,5 @@
 -- Messages in places: what follows them stays, whole ones stay whole, and what waits in the places of a queue.
-use Rattle.std.proofs.Common.{◌+◌, ◌<◌, ℕ, All, List, length, slice_set, take, subst, sym, ◌≡◌, zero, suc, [], ◌∷◌, drop, slice_index_or, refl, ap, ◌∙◌, arith, ◌≤◌, ◌-◌, ◌++◌, drop-cons, get_or, length-take-le, map}
+use Rattle.std.proofs.Common.{◌+◌, ◌<◌, ℕ, All, List, length, slice_set, take, subst, sym, ◌≡◌, zero, suc, [], ◌∷◌, drop, slice_index_or, refl, ap, ◌∙◌, arith, ◌≤◌, ◌-◌, ◌++◌, drop-cons, get_or, length-take-le}
 use Rattle.std.proofs.lemmas.List.{get_or-set_same, length-set, take-set, drop-set-lt, drop-map, drop-take, get_or-take, length-drop, length-map, map-append, take_more, take_more_set}
 use Rattle.std.proofs.lemmas.List.Elements.{All-more}
 use Rattle.ptpm_host.specs.declared.sent.Sent.{Sent}

@@ -8,7 +8,7 @@ use Rattle.ptpm_agent.specs.Agent.{IsTurned}
 use Rattle.ptpm_agent.specs.Turn.{Clock, State, outbox_of}
 use Rattle.ptpm_data.specs.Members.{DataSetsValue}
 use Rattle.ptpm_device.specs.Saying.{Say, turn_said}
-use Rattle.ptpm_saved.specs.Batching.{Confirms, Handles, is_held, live, shown, waits}
+use Rattle.ptpm_saved.specs.Batching.{Confirms, Handles, is_held, shown, waits}
 use Rattle.ptpm_saved.specs.BatchingClock.{is_of_manager}
 use Rattle.ptpm_saved.specs.SavingClock.{is_new}
 use Rattle.ptpm_host.specs.declared.clock.HostedClock.{HostedClock}

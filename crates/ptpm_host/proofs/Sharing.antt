@@ -1,11 +1,22 @@
--- What is passed on of a datagram that is its own copy.
-use Rattle.std.proofs.Common.{◌≡◌, ◌≤◌, ◌-◌, ◌++◌, ◌∙◌, ℕ, Bool, true, false, List, ap, drop, length, refl, slice_set, take}
+-- Answers in places, and what is passed on of a datagram that is its own copy.
+use Rattle.std.proofs.Common.{◌≡◌, ◌<◌, ◌≤◌, ◌+◌, ◌-◌, ◌∷◌, ◌++◌, ◌∙◌, ℕ, Bool, true, false, List, [], ap, drop, length, refl, slice_set, take}
 use Rattle.std.specs.Prelude.{IsTrue}
-use Rattle.std.proofs.lemmas.List.{length-set, length-take, length-take-le, take_at, take_min}
+use Rattle.std.proofs.lemmas.List.{length-set, length-take, length-take-le, map-append, take_at, take_min, take_more_set}
 use Rattle.ptpm_codec.specs.Layout.{boundary_hops, message_length, message_octets}
 use Rattle.ptpm_data.specs.Members.{DataSetsValue}
 use Rattle.ptpm_agent.specs.Forwarding.{with_less_hop}
-use Rattle.ptpm_host.specs.Answers.{egress_from, egress_if}
+use Rattle.ptpm_host.specs.Answers.{answer_in, answers_in, egress_from, egress_if}
+use Rattle.ptpm_host.specs.declared.answer_places.SentAnswer.{SentAnswer}
+
+-- one answer more
+pub answers_more : (room : List SentAnswer) (place : ℕ) (s : SentAnswer) (answer : ℕ × List ℕ)
+    → place < length room
+    → answer_in s ≡ answer
+    → answers_in (take (place + 1) (slice_set room place s)) ≡ answers_in (take place room) ++ answer ∷ []
+answers_more room place s answer inside is =
+    ap answers_in (take_more_set room place s inside)
+    ∙ map-append answer_in (take place room) (s ∷ [])
+    ∙ ap (λ x. answers_in (take place room) ++ x ∷ []) is
 
 -- its first octets, with one hop less
 pub lowered : (size hops : ℕ) (datagram : List ℕ)

@@ -1,5 +1,5 @@
 -- What a clock asks of its device may be under way.
-use Rattle.std.proofs.Common.{arith, ◌≡◌, ◌∙◌, ◌≤◌, ◌==◌, ◌+◌, ◌&&◌, ◌∷◌, ap, refl, subst, sym, Bool, true, false, ℕ, List, [], length, Option, Some, None, Result, Ok, Err}
+use Rattle.std.proofs.Common.{arith, ◌≡◌, ◌∙◌, ◌≤◌, ◌+◌, ◌&&◌, ◌∷◌, ap, refl, subst, sym, Bool, true, false, ℕ, List, [], length, Option, Some, None, Ok, Err}
 use Rattle.std.specs.Prelude.{nat_le, take, is_none, is_some, if◌then◌else◌}
 use Rattle.std.proofs.lemmas.Bool.{false≢true, and_from, and_parts, eq-eqb, le-leb, leb-true}
 use Rattle.std.proofs.lemmas.Bool.Decides.{nat_tests}
@@ -8,14 +8,13 @@ use Rattle.ptpm_codec.specs.declared.error.ErrorId.{ErrorId}
 use Rattle.ptpm_codec.specs.declared.message.Action.{Action}
 use Rattle.ptpm_codec.specs.declared.message.Action.TheVariants as actions
 use Rattle.ptpm_codec.specs.PtpText.{is_ptp_text, ptp_text}
-use Rattle.ptpm_codec.specs.Layout.{data_field, even_up, message_length, message_octets}
+use Rattle.ptpm_codec.specs.Layout.{message_length, message_octets}
 use Rattle.ptpm_data.specs.declared.management_id.Layout.{Layout}
 use Rattle.ptpm_data.specs.declared.management_id.Layout.TheVariants as layouts
 use Rattle.ptpm_data.specs.declared.port_setting.PortSetting.TheVariants as settings
 use Rattle.ptpm_data.specs.declared.rights.Rights.{Rights}
 use Rattle.ptpm_data.specs.ManagementId.{RowValue, row_of, set_of}
-use Rattle.ptpm_data.specs.Ranges.{allows_text}
-use Rattle.ptpm_data.specs.Refusals.{is_length, is_set_length, is_set_value, is_value, refusal_at, refusal_of, row_refusal}
+use Rattle.ptpm_data.specs.Refusals.{is_length, is_set_length, is_set_value, is_value, refusal_at, refusal_of}
 use Rattle.ptpm_data.specs.Request.{RequestValue}
 use Rattle.ptpm_data.specs.SetForm.{SetField, NoSet, Empty, TextUpTo, AnyOctet, from◌to◌, either◌to◌or◌, MechanismNumber, minus◌to◌, NotBothLeaps}
 use Rattle.ptpm_data.proofs.Keeping.{suits_from}
@@ -28,11 +27,10 @@ use Rattle.ptpm_codec.specs.Reading.{IsWellFormed, message_at, message_of, ok_un
 use Rattle.ptpm_codec.specs.Refusal.{refusal}
 use Rattle.ptpm_agent.proofs.Turns.{message_of-reading, reading-message_of}
 use Rattle.ptpm_codec.specs.Spelling.{Spells, SpellsBody}
-use Rattle.ptpm_codec.proofs.OctetLaws.{number-take}
 use Rattle.ptpm_codec.proofs.ReadingLaws.{message_of-spells, message_size, spells-message_of}
 use Rattle.ptpm_agent.specs.Addressing.{request_of}
-use Rattle.ptpm_agent.specs.Turn.{Clock, NumberedRequest, State, judged, numbered_from}
-use Rattle.ptpm_device.specs.Asking.{asked, asked_by, is_asked, is_change, is_permitted}
+use Rattle.ptpm_agent.specs.Turn.{Clock, NumberedRequest, State, numbered_from}
+use Rattle.ptpm_device.specs.Asking.{asked, asked_by, is_asked, is_change}
 use Rattle.ptpm_host.specs.UnderWay.{is_change_in, may_be_under_way}
 
 -- a text is of 128 octets at most

@@ -1,37 +1,32 @@
 -- What a clock undertakes, and how it is decided, at a clock that is saved while it goes on.
 use Rattle.std.proofs.Common.{◌≡◌, ◌∙◌, ◌&&◌, ◌||◌, Bool, true, false, not, ap, append-nil, refl, subst, sym, List, [], ◌∷◌, ◌++◌, ℕ, Option, Some, None, if◌then◌else◌}
-use Rattle.std.specs.Prelude.{is_some, take}
+use Rattle.std.specs.Prelude.{is_some}
 use Rattle.std.proofs.lemmas.Bool.{false≢true}
-use Rattle.std.proofs.lemmas.List.{nil_from_length}
 use Rattle.ptpm_codec.specs.declared.message.Message.{Message}
 use Rattle.ptpm_codec.specs.Layout.{message_octets}
 use Rattle.ptpm_codec.specs.Reading.{IsWellFormed, message_of}
 use Rattle.ptpm_codec.proofs.ReadingLaws.{message_of-some}
-use Rattle.ptpm_data.specs.Members.{DataSetsValue}
 use Rattle.ptpm_agent.specs.declared.verdict.Verdict.{Verdict}
 use Rattle.ptpm_agent.specs.declared.verdict.Verdict.TheVariants as verdicts
-use Rattle.ptpm_agent.specs.Agent.{IsTurned}
 use Rattle.ptpm_agent.specs.Turn.{Clock, NumberedRequest, State, Turned, judged, numbered_from, outbox_of}
 use Rattle.ptpm_agent.proofs.Turns.{turn-message}
 use Rattle.ptpm_device.specs.Asking as asking
 use Rattle.ptpm_device.specs.Asking.{asked, asked_by, is_asked, is_permitted}
 use Rattle.ptpm_device.specs.Saying.{Say, turn_said}
-use Rattle.ptpm_saved.specs.Batching.{Handles, answers, calls, holds, is_held, live, shown, waits}
+use Rattle.ptpm_saved.specs.Batching.{Handles, answers, holds, is_held, live, shown, waits}
 use Rattle.ptpm_saved.specs.BatchingClock.{is_of_manager}
 use Rattle.ptpm_saved.specs.Saving.{Came}
 use Rattle.ptpm_saved.specs.SavingClock.{Datagram, is_new}
 use Rattle.ptpm_saved.proofs.BatchingLaws.{holds_changes}
-use Rattle.ptpm_host.specs.declared.clock.HostedClock.{HostedClock}
 use Rattle.ptpm_host.specs.declared.saving_clock.Acting.TheVariants as actings
 use Rattle.ptpm_host.specs.declared.saving_clock.SavingClock.{SavingClock}
-use Rattle.ptpm_host.specs.declared.under_way.UnderWay.{UnderWay}
 use Rattle.ptpm_host.specs.Clock.{clock_in, state_in}
 use Rattle.ptpm_host.specs.Coming.{ClockBatch, ClockState, Coming, Decides, Undertakes, after_coming, coming_process, is_change_of, is_held_by, messages_for, undertakes}
-use Rattle.ptpm_host.specs.KeptBatch.{IsKept, KeptBatch, LeadsTo, all_given, kept_held}
+use Rattle.ptpm_host.specs.KeptBatch.{IsKept, LeadsTo, kept_held}
 use Rattle.ptpm_host.specs.Queue.{queued}
 use Rattle.ptpm_host.specs.SavingClock as saving
 use Rattle.ptpm_host.specs.SavingClock.{IsAsBatch, called_at, clock_state_in, is_for_live, kept_of, request_under_way, shown_sets, shown_state, state_asked}
-use Rattle.ptpm_host.proofs.AskedCalls.{AsksAsBefore, IsAskedOf, asks_decided, asks_held, asks_new, asks_waiting, is_batch, led_to, under_way_of}
+use Rattle.ptpm_host.proofs.AskedCalls.{IsAskedOf, asks_decided, asks_held, asks_new, asks_waiting, is_batch, led_to, under_way_of}
 use Rattle.ptpm_host.proofs.Batches.{quiet_shown, waiting, waiting_silent}
 use Rattle.ptpm_host.proofs.SavingCalls.{Kept}
 

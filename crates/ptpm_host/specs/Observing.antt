@@ -1,5 +1,5 @@
 -- What a host lays out of an observation, and a clock after it.
-use Rattle.std.specs.Prelude.{◌≡◌, ◌==◌, ◌+◌, ◌*◌, zero, suc, ℕ, Bool, true, false, if◌then◌else◌, List, map, Option, Some, unwrap_or}
+use Rattle.std.specs.Prelude.{◌≡◌, ◌==◌, ◌+◌, ◌*◌, zero, suc, ℕ, Bool, if◌then◌else◌, List, map, Option, Some, unwrap_or}
 use Rattle.ptpm_data.specs.declared.observation.AnnouncedGrandmaster.{AnnouncedGrandmaster}
 use Rattle.ptpm_data.specs.declared.observation.ClockObservation.{ClockObservation}
 use Rattle.ptpm_data.specs.declared.observation.ObservationError.{ObservationError}

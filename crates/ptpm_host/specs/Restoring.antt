@@ -10,7 +10,7 @@ use Rattle.ptpm_saved.specs.Restoring.{IsImageOf, IsRefused, IsRestored}
 use Rattle.ptpm_saved.specs.SavingClock.{Datagram}
 use Rattle.ptpm_host.specs.Clock.{clock_in, state_in}
 use Rattle.ptpm_host.specs.SavingClock.{request_under_way}
-use Rattle.ptpm_host.specs.UnderWay.{IsUnderWayImage, has_under_way}
+use Rattle.ptpm_host.specs.UnderWay.{IsUnderWayImage}
 use Rattle.ptpm_host.specs.Settings.{configured, is_zero}
 use Rattle.ptpm_host.specs.declared.clock.HostedClock.{HostedClock}
 use Rattle.ptpm_host.specs.declared.refusal.ClockRestoreRefusal.{ClockRestoreRefusal}

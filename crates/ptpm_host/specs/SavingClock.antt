@@ -1,5 +1,5 @@
 -- A clock that takes datagrams while its host saves it, as the batch that it is.
-use Rattle.std.specs.Prelude.{◌≡◌, ◌<◌, ◌≤◌, ◌-◌, ◌||◌, ◌&&◌, ◌==◌, ℕ, Bool, true, false, not, nat_lt, is_some, List, [], ◌∷◌, length, take, if◌then◌else◌, Option, Some, None}
+use Rattle.std.specs.Prelude.{◌≡◌, ◌<◌, ◌≤◌, ◌-◌, ◌||◌, ◌&&◌, ℕ, Bool, true, false, not, nat_lt, is_some, List, [], ◌∷◌, length, take, if◌then◌else◌, Option, Some, None}
 use Rattle.ptpm_codec.specs.declared.message.Message.{Message}
 use Rattle.ptpm_codec.specs.Identity.{same_identity}
 use Rattle.ptpm_codec.specs.Ordered.{first_of}
@@ -27,7 +27,7 @@ use Rattle.ptpm_host.specs.declared.saving_clock.Acting.TheVariants as actings
 use Rattle.ptpm_host.specs.declared.saving_clock.SavingClock.{SavingClock}
 use Rattle.ptpm_host.specs.declared.under_way.UnderWay.{UnderWay}
 use Rattle.ptpm_host.specs.Changing.{moves_domain_in}
-use Rattle.ptpm_host.specs.Clock.{clock_in, messages_in, state_in}
+use Rattle.ptpm_host.specs.Clock.{clock_in, state_in}
 use Rattle.ptpm_host.specs.Coming.{ClockBatch, ClockState, Coming, coming_process, is_held_by}
 use Rattle.ptpm_host.specs.Device.{said_refusal}
 use Rattle.ptpm_host.specs.KeptBatch.{IsKept, KeptBatch, all_given}

@@ -15,7 +15,7 @@ ghost use Rattle.ptpm_data.specs.Start.{unless};
 
 use crate::device::Question;
 use crate::judged::JudgedStart;
-use crate::observing::{ObservedClock, ObservedPort, port_observations};
+use crate::observing::{ObservedClock, ObservedPort, UNOBSERVED, place_each};
 use crate::outbox::Outbox;
 use crate::refusal::{HandleRefusal, StartRefusal};
 use crate::sent::Sent;
@@ -24,7 +24,7 @@ use crate::taken::Taken;
 use crate::under_way::UnderWay;
 use ptpm_agent::{Agent, Verdict};
 use ptpm_codec::OutOfMemory;
-use ptpm_data::{DataSets, ObservationError, PortsLeftDisabled};
+use ptpm_data::{DataSets, ObservationError, PORTS, PortsLeftDisabled};
 use ptpm_table::{HeapTable, Outgoing, ReplyTable};
 use std::alloc::Global;
 
@@ -72,7 +72,7 @@ impl HostedClock {
             start_refusal settings.now ports.now managers.now ≡ Some e) }
     {
         let judged = JudgedStart::new(alloc, settings, ports, managers)?;
-        match judged.table(alloc) {
+        match judged.table(alloc, managers) {
             Ok(table) => Ok(HostedClock::over(judged.sets, table)),
             Err(_) => Err(StartRefusal::OutOfMemory),
         }
@@ -93,7 +93,7 @@ impl HostedClock {
             start_refusal settings.now ports.now managers.now ≡ Some e) }
     {
         let judged = JudgedStart::new(alloc, settings, ports, managers)?;
-        let Ok(table) = judged.table(alloc) else {
+        let Ok(table) = judged.table(alloc, managers) else {
             return Err(StartRefusal::OutOfMemory);
         };
         match HostedClock::boxed(alloc, judged.sets, table) {
@@ -231,7 +231,9 @@ impl HostedClock {
 
     /// Sets exactly the members that the host observed, of its clock and of its ports from 1 on. Exceptions: a disabled port keeps
     /// its state and is reported; a clock that is its own grandmaster shows its own quality as the grandmaster's. What
-    /// is kept of each manager stays. Refused by the first reason that holds, and then nothing changes. Takes no memory.
+    /// is kept of each manager stays. Refused by the first reason that holds, and then nothing changes. Takes no memory. Never inlined:
+    /// so the stack has the places of one such call.
+    #[inline(never)]
     #[tactic(auto, using(crate::proofs::ObservedPlaces::no_port, crate::proofs::ObservedPlaces::same_clock))]
     pub fn observe(
         &mut self,
@@ -247,7 +249,9 @@ impl HostedClock {
         if ports.len() > self.agent.sets().port_count() as usize {
             return Err(ObservationError::NoPort);
         }
-        let ports = port_observations(ports);
-        self.agent.observe(&clock.observation(), ports.as_slice())
+        let mut places = [UNOBSERVED; PORTS];
+        place_each(ports, &mut places);
+        self.agent
+            .observe(&clock.observation(), &places[..ports.len()])
     }
 }

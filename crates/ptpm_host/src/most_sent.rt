@@ -59,14 +59,22 @@ impl HostedClock {
         places >= self.most_kept() || places >= self.most_sent()
     }
 
-    /// Whether this many places are enough for the answers to a datagram.
-    #[tactic(auto, using(crate::proofs::MostSent::kept_most, std::proofs::lemmas::Bool::Decides::nat_tests))]
+    /// Whether this many places are enough for the answers to a datagram. No entry is looked at if they are enough for as many answers
+    /// as the table keeps.
+    #[tactic(auto, using(crate::proofs::MostSent::replied_few, std::proofs::lemmas::Bool::Decides::nat_tests))]
     pub(crate) fn has_answer_room(&self, places: usize) -> bool
         ensures { result ≡ nat_le (most_replied (state_in self.now)) places }
     {
         self.sent_law();
+        places >= self.replies_kept() || places >= self.most_replied()
+    }
+
+    /// The most answers of a clock with these ports and this table.
+    fn replies_kept(&self) -> usize
+        ensures { result ≡ max (length self.now.agent.sets.ports) self.now.agent.table.answers }
+    {
         let ports = self.agent.sets().port_count() as usize;
-        places >= ports.max(self.agent.table().answers_kept()) || places >= self.most_replied()
+        ports.max(self.agent.table().answers_kept())
     }
 
     /// The most messages that a clock with these ports and this table sends.

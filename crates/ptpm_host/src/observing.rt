@@ -1,11 +1,10 @@
 //! What a host observes of its clock, as a host in C lays it out (clause 8.2). Which members it may observe is this
 //! project's profile.
 
-ghost use Rattle.std.specs.Prelude.{◌≡◌, ◌≤◌, ◌<◌, ◌+◌, ◌^◌, length};
-ghost use Rattle.ptpm_host.specs.Observing.{announced, clock_observation, grandmaster_of, left_from, left_number, port_observation, port_observations};
+ghost use Rattle.std.specs.Prelude.{◌≡◌, ◌≤◌, length, take};
+ghost use Rattle.ptpm_host.specs.Observing.{announced, clock_observation, grandmaster_of, left_number, port_observation, port_observations};
 
 use crate::settings::given;
-use arrayvec::ArrayVec;
 use ptpm_codec::{ClockIdentity, PortIdentity};
 use ptpm_data::{
     AnnouncedGrandmaster, ClockObservation, ClockPrecedence, ObservedGrandmaster, PORTS,
@@ -163,36 +162,31 @@ impl ObservedPort {
     }
 }
 
-/// The observations of ports.
-pub(crate) fn port_observations(ports: &[ObservedPort]) -> ArrayVec<PortObservation, PORTS>
+/// What is in a place that no port has.
+pub(crate) const UNOBSERVED: PortObservation = PortObservation {
+    state: None,
+    peer_delay: None,
+};
+
+/// Puts the observations of ports into the first places.
+pub(crate) fn place_each(ports: &[ObservedPort], places: &mut [PortObservation; PORTS])
     requires { length ports.now ≤ PORTS }
-    ensures { result.items ≡ port_observations ports.now }
+    ensures { take (length ports.now) places.new ≡ port_observations ports.now }
 {
-    let mut observations = ArrayVec::new();
-    for port in ports {
-        observations.push(port.observation());
+    for place in 0..ports.len() {
+        places[place] = ports[place].observation();
     }
-    observations
 }
 
 /// The ports that stayed disabled: 1 for port 1, 2 for port 2, 4 for port 3, and so on, summed up.
-#[tactic(auto, unfolding(crate::specs::Observing::left_number))]
+#[tactic(auto, using(crate::proofs::ObservedPlaces::next_left, crate::proofs::ObservedPlaces::next_fits, crate::proofs::ObservedPlaces::in_word, crate::proofs::ObservedPlaces::bit_small), unfolding(crate::specs::Observing::left_number))]
 pub fn left_number(left: &PortsLeftDisabled) -> u64
     ensures { result ≡ left_number left.now }
 {
-    left_from(left, 1, PORTS)
-}
-
-/// This number of ports from one on, with 1 for the first.
-#[tactic(auto, using(crate::proofs::ObservedPlaces::left_step, crate::proofs::ObservedPlaces::twice_fits, crate::proofs::ObservedPlaces::in_word))]
-fn left_from(left: &PortsLeftDisabled, port: u16, count: usize) -> u64
-    requires first { 1 ≤ port }
-    requires ports { port + count ≤ PORTS + 1 }
-    ensures exact { result ≡ left_from port count left.now }
-    ensures small { result < 2 ^ count }
-{
-    if count == 0 {
-        return 0;
+    let mut number = 0;
+    for above in 0..PORTS {
+        let port = (PORTS - above) as u16;
+        number = left.contains(port) as u64 + 2 * number;
     }
-    left.contains(port) as u64 + 2 * left_from(left, port + 1, count - 1)
+    number
 }

@@ -23,7 +23,7 @@ use crate::sent::Sent;
 use crate::taken::Taken;
 use ptpm_agent::Verdict;
 use ptpm_codec::{ClockIdentity, PortIdentity, View, view};
-use ptpm_data::{ChangedMembers, DataSets, Request, Rights};
+use ptpm_data::{ChangedMembers, DataSets, Request, Rights, Snapshot};
 use ptpm_device::is_change;
 use ptpm_table::{Heard, Outgoing, ReplyTable, Sender};
 
@@ -99,7 +99,9 @@ impl HostedClock {
             && (target.port == PortIdentity::EVERY_PORT || self.agent.sets().has_port(target.port))
     }
 
-    /// Carries out a request of the owner for this clock, and answers it. The table stays.
+    /// Carries out a request of the owner for this clock, and answers it. The table stays. Never inlined: so the stack has other data
+    /// sets for such a request alone.
+    #[inline(never)]
     fn carry_out_owned(&mut self, port: u16, message: &View<'_>, room: &mut [Sent]) -> Taken
         requires action { IsRequestAction (request_of message.now).action }
         requires port { IsTargetPort (request_of message.now).port self.old.agent.sets }
@@ -125,9 +127,7 @@ impl HostedClock {
         let me = self.agent.table().clock();
         let mut sets = DataSets::blank();
         self.agent.swap_sets(&mut sets);
-        let before = sets.snapshot();
-        let count = answer_owned(&me, &mut sets, port, message, room);
-        let changed = sets.changed_since(&before);
+        let (count, changed) = answer_owned(&sets.snapshot(), &me, &mut sets, port, message, room);
         self.agent.swap_sets(&mut sets);
         Taken {
             verdict: if is_change(message.action()) {
@@ -143,30 +143,32 @@ impl HostedClock {
 }
 
 /// Carries out a request of the owner in these data sets of this clock. The reply to it is written into the first places of `room`.
-/// Answers how many of them have a message.
+/// Answers how many of them have a message, and which members have another value than `before`.
 #[tactic(auto, using(crate::specs::OutboxLaws::kept_by_none))]
 fn answer_owned(
+    before: &Snapshot,
     me: &ClockIdentity,
     sets: &mut DataSets,
     port: u16,
     message: &View<'_>,
     room: &mut [Sent],
-) -> usize
+) -> (usize, ChangedMembers)
     requires action { IsRequestAction (request_of message.now).action }
     requires port { IsTargetPort (request_of message.now).port sets.old }
     requires valid { IsValid message.now }
     requires room { length (reply_to (request_of message.now) all_rights sets.old).answers ≤ length room.old }
     ensures changed { sets.new ≡ changed_by (request_of message.now) all_rights sets.old }
-    ensures sent { messages_in (take result room.new)
+    ensures members { result.1 ≡ changed before.now sets.new }
+    ensures sent { messages_in (take result.0 room.new)
         ≡ rendered me.now (heard_of message.now) (reply_to (request_of message.now) all_rights sets.old) port }
-    ensures count { result ≤ length room.new }
-    ensures whole { All IsWhole (take result room.new) }
-    ensures places { drop result room.new ≡ drop result room.old }
+    ensures count { result.0 ≤ length room.new }
+    ensures whole { All IsWhole (take result.0 room.new) }
+    ensures places { drop result.0 room.new ≡ drop result.0 room.old }
     ensures behind { AllZip KeepsBehind room.old room.new }
 {
     let mut outbox = Outbox::new(room);
     decide_owned(me, sets, port, message, &mut outbox);
-    outbox.count()
+    (outbox.count(), sets.changed_since(before))
 }
 
 /// Carries out a request of the owner in these data sets of this clock, and sends the reply to it.

@@ -16,7 +16,8 @@ ghost use Rattle.ptpm_host.specs.UnderWay.{IsUnderWayImage, has_under_way, image
 ghost use Rattle.ptpm_host.specs.Settings.{configured};
 
 use crate::clock::HostedClock;
-use crate::judged::{judge_image, judge_owner, judged_table};
+use crate::judged::{judge_image, judge_owner};
+use crate::managers::judged_table;
 use crate::refusal::ClockRestoreRefusal;
 use crate::settings::ManagerSettings;
 use crate::under_way::{UnderWay, may_be_under_way};

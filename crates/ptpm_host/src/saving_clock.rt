@@ -6,7 +6,7 @@ ghost use Rattle.ptpm_host.specs.Queue.{queued};
 use crate::clock::HostedClock;
 use crate::copying::copied;
 use crate::device::{Asking, Question, Said, Say};
-use crate::observing::{ObservedClock, ObservedPort, port_observations};
+use crate::observing::{ObservedClock, ObservedPort, UNOBSERVED, place_each};
 use crate::owner_change::asks_to_move;
 use crate::queue::Queue;
 use crate::refusal::{
@@ -18,7 +18,9 @@ use crate::taken::Taken;
 use crate::under_way::{UnderWay, first_message};
 use ptpm_agent::Verdict;
 use ptpm_codec::view;
-use ptpm_data::{ChangedMembers, DataSets, INLINE_PORTS, ObservationError, PortsLeftDisabled};
+use ptpm_data::{
+    ChangedMembers, DataSets, INLINE_PORTS, ObservationError, PORTS, PortsLeftDisabled,
+};
 use ptpm_table::ReplyTable;
 use std::alloc::Global;
 use std::mem;
@@ -606,7 +608,8 @@ impl SavingClock {
 
     /// What `HostedClock::observe` does, to the clock as it is. What it shows moves by the same observation, and so does the
     /// latest image of it, each if its own data sets permit that. Nothing is saved for it. If nothing waits, an image that was
-    /// made before is of another state then. Takes no memory.
+    /// made before is of another state then. Takes no memory. Never inlined: see `HostedClock::observe`.
+    #[inline(never)]
     #[tactic(auto, using(crate::proofs::ObservedPlaces::no_port, crate::proofs::ObservedPlaces::same_clock))]
     pub fn observe(
         &mut self,
@@ -636,10 +639,12 @@ impl SavingClock {
             return Err(ObservationError::NoPort);
         }
         let observation = clock.observation();
-        let ports = port_observations(ports);
-        let left = self.clock.agent.observe(&observation, ports.as_slice())?;
-        let _ = self.shown.observe(&observation, ports.as_slice());
-        let _ = self.copied.observe(&observation, ports.as_slice());
+        let mut places = [UNOBSERVED; PORTS];
+        place_each(ports, &mut places);
+        let ports = &places[..ports.len()];
+        let left = self.clock.agent.observe(&observation, ports)?;
+        let _ = self.shown.observe(&observation, ports);
+        let _ = self.copied.observe(&observation, ports);
         self.is_imaged = self.keeps_image();
         Ok(left)
     }
@@ -708,7 +713,7 @@ impl SavingClock {
         ensures waits { self.new.waits ≡ self.old.waits }
         ensures free { free_places self.new ≡ free_places self.old }
         ensures begun { self.new.is_begun ≡ self.old.is_begun }
-        ensures counted { OnOk result (λ r. r.1 ≡ (self.old.images + 1) % 2 ^ 64) }
+        ensures counted { IfOk result (λ r. r.1 ≡ (self.old.images + 1) % 2 ^ 64) }
         ensures unchanged { OnErr result (self.new ≡ self.old) }
         ensures untouched { OnErr result (octets.new ≡ octets.old) }
     {

@@ -13,9 +13,7 @@ ghost use Rattle.ptpm_table.specs.KeptMessages.{renewed};
 ghost use Rattle.ptpm_host.specs.Blanks.{IsBlank};
 ghost use Rattle.ptpm_host.specs.Clock.{IsWhole, KeepsBehind, message_in};
 
-use ptpm_codec::{
-    Envelope, MESSAGE_OCTETS, REFUSAL_OCTETS, copy_message, less_hop_in, message_size,
-};
+use ptpm_codec::{Envelope, MESSAGE_OCTETS, REFUSAL_OCTETS, copy_message, message_size};
 use ptpm_table::{Renewal, renew};
 
 /// A message, and the port that it is to be sent at.
@@ -114,10 +112,7 @@ impl Sent {
         ensures whole { IsWhole self.new }
         ensures behind { KeepsBehind self.old self.new }
     {
-        let size = message_size(datagram);
-        self.port = port;
-        self.size = size as u16;
-        less_hop_in(datagram, &mut self.octets[..size]);
+        self.put_lowered(port, datagram, message_size(datagram));
     }
 
     /// Writes the first octets of a datagram, with octet 45, boundaryHops, less by one, in place of the message that is here.

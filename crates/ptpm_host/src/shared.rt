@@ -1,9 +1,8 @@
 //! A turn that needs little room. What the clock passes on is the datagram itself, and only answers have places.
 
-ghost use Rattle.std.specs.Prelude.{◌≡◌, ◌<◌, ◌≤◌, ◌+◌, ◌^◌, IfOk, IsTrue, MatchResult, None, OnErr, Some, All, length, nat_lt, take};
+ghost use Rattle.std.specs.Prelude.{◌≡◌, ◌<◌, ◌≤◌, IfOk, IsTrue, MatchResult, None, OnErr, Some, All, length, nat_lt, take};
 ghost use Rattle.ptpm_codec.specs.Reading.{IsWellFormed};
 ghost use Rattle.ptpm_data.specs.Members.{has_port};
-ghost use Rattle.ptpm_data.specs.declared.ports.TheConstants.{PORTS};
 ghost use Rattle.ptpm_agent.specs.Forwarding.{with_less_hop};
 ghost use Rattle.ptpm_agent.specs.Turn.{turn};
 ghost use Rattle.ptpm_host.specs.Answers.{IsShared, IsWholeAnswer, answers_in, egress_from, egress_if, most_replied};
@@ -86,7 +85,7 @@ fn pass_on(sets: &DataSets, ingress: u16, datagram: &mut [u8], passed: bool) -> 
         return (0, 0);
     }
     data_sets_law(sets);
-    let ports = egress_from(sets, ingress, 1, sets.port_count() as usize);
+    let ports = egress_number(sets, ingress);
     let size = lower_hop(datagram);
     (ports, size)
 }
@@ -104,15 +103,15 @@ fn lower_hop(datagram: &mut [u8]) -> usize
     size
 }
 
-/// The egress ports among this number of ports from one on, with 1 for the first.
-#[tactic(auto, using(crate::proofs::ObservedPlaces::egress_step, crate::proofs::ObservedPlaces::twice_fits, crate::proofs::ObservedPlaces::in_word))]
-fn egress_from(sets: &DataSets, ingress: u16, port: u16, count: usize) -> u64
-    requires { port + count ≤ PORTS + 1 }
-    ensures exact { result ≡ egress_from port count ingress sets.now }
-    ensures small { result < 2 ^ count }
+/// The egress ports: 1 for port 1, 2 for port 2, 4 for port 3, and so on, summed up.
+#[tactic(auto, using(crate::proofs::ObservedPlaces::next_egress, crate::proofs::ObservedPlaces::next_fits, crate::proofs::ObservedPlaces::in_word, crate::proofs::ObservedPlaces::bit_small))]
+fn egress_number(sets: &DataSets, ingress: u16) -> u64
+    ensures { result ≡ egress_from 1 (length sets.now.ports) ingress sets.now }
 {
-    if count == 0 {
-        return 0;
+    let count = sets.port_count();
+    let mut number = 0;
+    for above in 0..count {
+        number = is_egress(sets, ingress, count - above) as u64 + 2 * number;
     }
-    is_egress(sets, ingress, port) as u64 + 2 * egress_from(sets, ingress, port + 1, count - 1)
+    number
 }

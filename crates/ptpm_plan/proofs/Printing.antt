@@ -1,12 +1,14 @@
 -- The lines of the steps so far, and of one step more.
 use Rattle.std.proofs.Common.{◌≡◌, ◌≢◌, ℕ, ◌+◌, ◌<◌, ◌≤◌, ◌==◌, Bor, false, List, [], ◌∷◌, ◌++◌, length, get_or, take, Option, None, Some, IfNone, IfSome, refl, sym, ap, subst, ◌∙◌, append_assoc, append-nil, arith}
 use Rattle.std.proofs.lemmas.List.{length-take}
+use Rattle.std.specs.Io.KnownBytes.{Appends}
 use Rattle.std.proofs.KnownBytes.{Appends-nil, Appends-trans}
 use Rattle.std.proofs.lemmas.Bool.{ne_eqb}
 use Rattle.std.proofs.lemmas.List.{get_or_default, take_all, take_more}
 use Rattle.std.proofs.lemmas.List.Folds.{list_any_none}
 use Rattle.std.proofs.lemmas.Str.Pattern.{IsSplitOnceResult, split_parts}
-use Rattle.ptpm_plan.specs.Printed.{AreSteps, IsStep, Writes, has_feed}
+use Rattle.ptpm_plan.specs.Printed.{AreSteps, IsNamed, IsStep, IsWithSteps, Writes, has_feed, name_text}
+use Rattle.ptpm_plan.specs.declared.plan.Plan.{Plan}
 use Rattle.ptpm_plan.specs.declared.change.Change.{Change}
 use Rattle.ptpm_plan.specs.declared.surveyed.Surveyed.{Surveyed}
 
@@ -60,3 +62,28 @@ step_written s cs i c old mid new below is h k = record {
 pub all_steps : (s : Surveyed) (cs : List Change) (i : ℕ) (old new : Option (List ℕ))
     → length cs ≤ i → Writes (AreSteps s 1 (take i cs)) old new → Writes (AreSteps s 1 cs) old new
 all_steps s cs i old new past h = subst (λ xs. Writes (AreSteps s 1 xs) old new) (take_all i cs past) h
+
+-- the name, and the words after it
+pub named : (cs : List Change) (name words : List ℕ) (old mid new : Option (List ℕ))
+    → name ≡ name_text cs → Appends old mid name → Appends mid new words → Writes (IsNamed cs) old new
+named cs name words old mid new is first second = record {
+  text = name ++ words;
+  is = record { words = words; is = ap (λ xs. xs ++ words) is };
+  written = Appends-trans old mid new name words first second;
+}
+
+-- the text, an empty line, and the steps
+pub with_steps : (p : Plan) (cs : List Change) (old text line new : Option (List ℕ))
+    → cs ≡ p.changes.items → Writes (IsNamed p.changes.items) old text → Appends text line (10 ∷ [])
+    → Writes (AreSteps p.surveyed 1 cs) line new → Writes (IsWithSteps p) old new
+with_steps p cs old text line new same h feed k = record {
+  text = h.text ++ 10 ∷ k.text;
+  is = record {
+    first = h.text;
+    others = 10 ∷ k.text;
+    is = refl;
+    is_first = h.is;
+    are_others = record { further = k.text; is = refl; are = subst (λ xs. AreSteps p.surveyed 1 xs k.text) same k.is };
+  };
+  written = Appends-trans old text new h.text (10 ∷ k.text) h.written (Appends-trans text line new (10 ∷ []) k.text feed k.written);
+}

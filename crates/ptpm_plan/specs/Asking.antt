@@ -1,10 +1,11 @@
 -- What the tables of a plan file ask for, member by member.
-use Rattle.std.specs.Prelude.{ℕ, ◌==◌, nat_lt, Bool, true, false, not, ◌&&◌, if◌then◌else◌, List, [], ◌∷◌, ◌++◌, flat_map, map, Option, Some, None}
+use Rattle.std.specs.Prelude.{ℕ, ◌==◌, nat_lt, Bool, true, false, not, ◌&&◌, if◌then◌else◌, List, [], ◌∷◌, ◌++◌, flat_map, is_some, map, Option, Some, None}
 use Rattle.std.specs.List.{list_any, range_with_len}
 use Rattle.ptpm_codec.specs.Identity.{same_clock}
 use Rattle.ptpm_codec.specs.declared.identity.ClockIdentity.{ClockIdentity}
 use Rattle.ptpm_plan.specs.Naming.{clock_named}
 use Rattle.ptpm_plan.specs.Rows.{row_of}
+use Rattle.ptpm_plan.specs.Surveyed.{clock_in}
 use Rattle.ptpm_plan.specs.declared.answer.Answer.{Answer}
 use Rattle.ptpm_plan.specs.declared.asking.Of.{Of}
 use Rattle.ptpm_plan.specs.declared.asking.Unnamed.{Unnamed}
@@ -66,6 +67,14 @@ unnamed_of answers clocks c = unnamed_if c (clock_named clocks answers c.domain 
 
 -- ---- a table of every clock
 
+abbrev pub if_answered : List SurveyedClock → ℕ → Named → Named
+if_answered clocks domain (names.One clock) = if is_some (clock_in domain clock clocks) then names.One clock else names.Other 0
+if_answered clocks domain (names.Other count) = names.Other count
+
+-- the clock that a name in `except` is of: an identity too has to be one of a clock that answered in the domain
+abbrev pub clock_excepted : List Answer → List SurveyedClock → ℕ → Target → Named
+clock_excepted answers clocks domain t = if_answered clocks domain (clock_named clocks answers domain t)
+
 -- it is this clock, or may be: what is named is not one clock
 abbrev pub may_be : ClockIdentity → Named → Bool
 may_be clock (names.One other) = same_clock other clock
@@ -73,7 +82,7 @@ may_be clock (names.Other count) = true
 
 -- `except` names a clock, or may name it
 abbrev pub is_left_out : List Answer → List SurveyedClock → EveryWishes → ClockIdentity → Bool
-is_left_out answers clocks e clock = list_any (λ t. may_be clock (clock_named clocks answers e.domain t)) e.except.items
+is_left_out answers clocks e clock = list_any (λ t. may_be clock (clock_excepted answers clocks e.domain t)) e.except.items
 
 -- a clock of the domain that `except` does not name
 abbrev pub is_included : List Answer → List SurveyedClock → EveryWishes → SurveyedClock → Bool
@@ -115,9 +124,9 @@ abbrev pub is_not_one : Named → Bool
 is_not_one (names.One clock) = false
 is_not_one (names.Other count) = true
 
--- what `except` names is not one clock
+-- what `except` names is not one clock that answered
 abbrev pub is_unclear : List Answer → List SurveyedClock → EveryWishes → Target → Bool
-is_unclear answers clocks e t = is_not_one (clock_named clocks answers e.domain t)
+is_unclear answers clocks e t = is_not_one (clock_excepted answers clocks e.domain t)
 
 abbrev pub asks_some : List Wish → Bool
 asks_some [] = false

@@ -112,6 +112,28 @@ after_change c r = if changes_rank r c then record r { rank = rank_with c.id (oc
 abbrev pub ranks_after : List Change → List RankedClock → List RankedClock
 ranks_after changes ranks = fold (λ (rs : List RankedClock) (c : Change). map (after_change c) rs) ranks changes
 
+-- ---- moves to other domains
+
+abbrev pub is_of_domain : PlannedId → Bool
+is_of_domain ids.Domain = true
+is_of_domain _ = false
+
+-- it moves this clock of this domain
+abbrev pub moves : RankedClock → Change → Bool
+moves r c = is_of_domain c.id && is_ranked c.domain c.clock r
+
+abbrev pub moved_by : RankedClock → Option Change → RankedClock
+moved_by r None = r
+moved_by r (Some c) = record r { domain = octet 0 c.after.items }
+
+-- a clock in the domain in which it is after all changes
+abbrev pub moved : List Change → RankedClock → RankedClock
+moved changes r = moved_by r (find (moves r) changes)
+
+-- the ranks after all changes, each in the domain of its clock then
+abbrev pub ranks_at_end : List Change → List RankedClock → List RankedClock
+ranks_at_end changes ranks = map (moved changes) (ranks_after changes ranks)
+
 -- ---- the best clock
 
 abbrev pub better_of : Option Rank → Rank → Option Rank
@@ -138,31 +160,33 @@ alterations domain changes ranks zero = []
 alterations domain changes ranks (suc n) =
     alterations domain changes ranks n ++ option_to_list (altered (n + 1) (best_after domain changes ranks n) (best_after domain changes ranks (n + 1)))
 
--- a change of a rank in a domain
-abbrev pub is_rank_change_in : ℕ → Change → Bool
-is_rank_change_in domain c = is_of_rank c.id && (c.domain == domain)
+abbrev pub is_move_at : ℕ → Change → Bool
+is_move_at domain c = is_of_domain c.id && ((c.domain == domain) || (octet 0 c.after.items == domain))
 
--- what is said of a domain: its best clock now and after all changes, and the alterations
+-- a change of a rank in a domain, or of a clock that leaves it or enters it
+abbrev pub bears_on : ℕ → Change → Bool
+bears_on domain c = (is_of_rank c.id && (c.domain == domain)) || is_move_at domain c
+
+-- what is said of a domain: its best clock now and after all changes, and the alterations by changes of ranks
 pub record BestOfDomain : Type 0 where
   pub domain : ℕ
   pub before : Rank
-  pub after : Rank
+  pub after : Option Rank
   pub alterations : List Alteration
 
 abbrev pub shown : BestClocks → BestOfDomain
 shown b = record { domain = b.domain; before = b.before; after = b.after; alterations = b.alterations.items }
 
 abbrev pub best_of_domain : ℕ → List Alteration → Option Rank → Option Rank → Option BestOfDomain
-best_of_domain domain altered (Some before) (Some after) =
-    Some (record { domain = domain; before = before; after = after; alterations = altered })
-best_of_domain domain altered (Some before) None = None
 best_of_domain domain altered None after = None
+best_of_domain domain altered (Some before) after =
+    Some (record { domain = domain; before = before; after = after; alterations = altered })
 
--- it is said of a domain if a clock in it has a rank, and if there is a change of a rank in it
+-- it is said of a domain if a clock in it has a rank, and if a change bears on it
 unfoldable pub best_clocks_in : List Change → List RankedClock → ℕ → Option BestOfDomain
 best_clocks_in changes ranks domain =
-    if list_any (is_rank_change_in domain) changes
-    then best_of_domain domain (alterations domain changes ranks (length changes)) (best_in domain ranks) (best_in domain (ranks_after changes ranks))
+    if list_any (bears_on domain) changes
+    then best_of_domain domain (alterations domain changes ranks (length changes)) (best_in domain ranks) (best_in domain (ranks_at_end changes ranks))
     else None
 
 -- of the domains below n

@@ -1,11 +1,11 @@
 -- What a plan file asks for, by the tables of its TOML document (this project's profile). `None` is of what is no such table.
-use Rattle.std.specs.Prelude.{◌≡◌, ℕ, ◌+◌, ℤ, pos, negsuc, nat_le, Bool, false, ◌&&◌, if◌then◌else◌, bytes_eq, codes, length, List, [], ◌∷◌, ◌++◌, map, Option, Some, None, option_map, option_and_then, unwrap_or}
+use Rattle.std.specs.Prelude.{◌≡◌, ℕ, ◌+◌, ◌==◌, ℤ, pos, negsuc, nat_le, Bool, false, not, ◌&&◌, ◌||◌, if◌then◌else◌, bytes_eq, codes, length, List, [], ◌∷◌, ◌++◌, map, Option, Some, None, option_map, option_and_then, unwrap_or}
 use Rattle.std.specs.Fmt.{signed_decimal}
-use Rattle.std.specs.List.{filter_map, find}
-use Rattle.toml.specs.Data.{Data, as_array, as_bool, as_integer, as_str, as_table, Items, no_items, item, Members, get_member}
+use Rattle.std.specs.List.{filter_map, find, list_any}
+use Rattle.toml.specs.Data.{Data, as_array, as_bool, as_integer, as_str, as_table, Items, no_items, item, Members, no_members, member, get_member}
 use Rattle.toml.specs.Parse.{parse_document}
 use Rattle.ptpm_codec.specs.declared.identity.ClockIdentity.{ClockIdentity}
-use Rattle.ptpm_data.specs.ManagementId.{row_of}
+use Rattle.ptpm_data.specs.ManagementId.{is_of_port, row_of}
 use Rattle.ptpm_members.specs.Identities.{clock_identity_of}
 use Rattle.ptpm_members.specs.ValueText.{flag_name}
 use Rattle.ptpm_plan.specs.Naming.{is_of_one_clock}
@@ -13,6 +13,8 @@ use Rattle.ptpm_plan.specs.PlannedId.{number_of}
 use Rattle.ptpm_plan.specs.declared.change.PlannedId.{PlannedId}
 use Rattle.ptpm_plan.specs.declared.change.PlannedId.TheVariants as ids
 use Rattle.ptpm_plan.specs.declared.change.TheConstants.PlannedId.{ALL}
+use Rattle.ptpm_plan.specs.declared.table_keys.TableKind.{TableKind}
+use Rattle.ptpm_plan.specs.declared.table_keys.TableKind.TheVariants as kinds
 use Rattle.ptpm_plan.specs.declared.wish.ClockWishes.{ClockWishes}
 use Rattle.ptpm_plan.specs.declared.wish.EveryWishes.{EveryWishes}
 use Rattle.ptpm_plan.specs.declared.wish.PlanFile.{PlanFile}
@@ -77,6 +79,64 @@ number_in least most d = option_and_then (natural_in least most) (as_integer d)
 abbrev pub domain_in : Members → Option ℕ
 domain_in ms = or_absent 0 (number_in 0 255) (get_member (codes "domain") ms)
 
+-- the standard's name of an id
+abbrev pub name_of : PlannedId → List ℕ
+name_of id = unwrap_or (option_map (λ row. row.name) (row_of (number_of id))) []
+
+-- ---- the keys that a table may have: a text with another is no plan
+
+abbrev pub names_of : Members → List (List ℕ)
+names_of no_members = []
+names_of (member key d ms) = key ∷ names_of ms
+
+abbrev pub is_own_key : TableKind → List ℕ → Bool
+is_own_key kinds.File key = bytes_eq key (codes "version") || bytes_eq key (codes "clock") || bytes_eq key (codes "every")
+is_own_key kinds.Clock key =
+    bytes_eq key (codes "identity")
+    || bytes_eq key (codes "description")
+    || bytes_eq key (codes "alias")
+    || bytes_eq key (codes "domain")
+    || bytes_eq key (codes "port")
+is_own_key kinds.EveryClock key =
+    bytes_eq key (codes "domain")
+    || bytes_eq key (codes "clocks")
+    || bytes_eq key (codes "except")
+    || bytes_eq key (codes "port")
+is_own_key kinds.Port key = bytes_eq key (codes "number")
+is_own_key kinds.EveryPort key = false
+is_own_key kinds.UtcProperties key =
+    bytes_eq key (codes "currentUtcOffset")
+    || bytes_eq key (codes "leap61")
+    || bytes_eq key (codes "leap59")
+    || bytes_eq key (codes "currentUtcOffsetValid")
+
+-- an id of a port is in a table of a port. A USER_DESCRIPTION (0002) is one clock's
+abbrev pub has_id : TableKind → PlannedId → Bool
+has_id kinds.File id = false
+has_id kinds.Clock id = not (is_of_port (number_of id))
+has_id kinds.EveryClock id = not (is_of_port (number_of id)) && not (number_of id == 2)
+has_id kinds.Port id = is_of_port (number_of id)
+has_id kinds.EveryPort id = is_of_port (number_of id)
+has_id kinds.UtcProperties id = false
+
+abbrev pub names_id : TableKind → List ℕ → Bool
+names_id kind key = list_any (λ id. has_id kind id && bytes_eq (name_of id) key) ALL
+
+abbrev pub is_key : TableKind → List ℕ → Bool
+is_key kind key = is_own_key kind key || names_id kind key
+
+-- the first key that such a table may not have
+unfoldable pub other_key : TableKind → Members → Option (List ℕ)
+other_key kind ms = find (λ key. not (is_key kind key)) (names_of ms)
+
+abbrev pub unless_other : {A : Type 0} → Option (List ℕ) → Option A → Option A
+unless_other None what = what
+unless_other (Some key) what = None
+
+-- what a table is, if it has no other key
+abbrev pub with_keys : {A : Type 0} → TableKind → Members → Option A → Option A
+with_keys kind ms what = unless_other (other_key kind ms) what
+
 -- ---- what an id is to be
 
 abbrev pub typed_by : Option Bool → Option (List ℕ) → Option ℤ → Option (List ℕ)
@@ -100,16 +160,13 @@ utc_by _ _ _ _ = None
 -- the members of UTC_PROPERTIES that a table names (15.5.3.6.2)
 unfoldable pub utc_in : Members → Option UtcWish
 utc_in ms =
-    utc_by (typed_at (codes "currentUtcOffset") ms) (typed_at (codes "leap61") ms) (typed_at (codes "leap59") ms)
-    (typed_at (codes "currentUtcOffsetValid") ms)
+    with_keys kinds.UtcProperties ms
+    (utc_by (typed_at (codes "currentUtcOffset") ms) (typed_at (codes "leap61") ms) (typed_at (codes "leap59") ms)
+    (typed_at (codes "currentUtcOffsetValid") ms))
 
 abbrev pub wished_of : PlannedId → Data → Option Wished
 wished_of ids.UtcProperties d = option_map wishes.UtcProperties (option_and_then utc_in (as_table d))
 wished_of id d = option_map wishes.Alone (typed d)
-
--- the standard's name of an id
-abbrev pub name_of : PlannedId → List ℕ
-name_of id = unwrap_or (option_map (λ row. row.name) (row_of (number_of id))) []
 
 abbrev pub wish_of : PlannedId → Data → Option Wish
 wish_of id d = option_map (λ w. record { id = id; wished = w }) (wished_of id d)
@@ -121,6 +178,10 @@ wish_in ms id = option_map (wish_of id) (get_member (name_of id) ms)
 -- what it asks of each id that it names
 unfoldable pub wishes_in : Members → Option (List Wish)
 wishes_in ms = all_of (filter_map (wish_in ms) ALL)
+
+-- the same of a table of this kind
+abbrev pub wishes_of : TableKind → Members → Option (List Wish)
+wishes_of kind ms = with_keys kind ms (wishes_in ms)
 
 -- ---- a clock
 
@@ -142,7 +203,7 @@ port_by _ _ = None
 
 -- a port by its portNumber: 0 and 0xFFFF are of no port (7.5.2.3)
 abbrev pub port_of : Members → Option PortValue
-port_of ms = port_by (option_and_then (number_in 1 65534) (get_member (codes "number") ms)) (wishes_in ms)
+port_of ms = port_by (option_and_then (number_in 1 65534) (get_member (codes "number") ms)) (wishes_of kinds.Port ms)
 
 unfoldable pub port_in : Data → Option PortValue
 port_in d = option_and_then port_of (as_table d)
@@ -170,7 +231,7 @@ clock_by place _ _ _ _ _ = None
 
 abbrev pub clock_of : ℕ → Members → Option ClockValue
 clock_of place ms =
-    clock_by place (target_in ms) (text_at (codes "alias") ms) (domain_in ms) (wishes_in ms) (ports_in ms)
+    clock_by place (target_in ms) (text_at (codes "alias") ms) (domain_in ms) (wishes_of kinds.Clock ms) (ports_in ms)
 
 unfoldable pub clock_in : ℕ → Data → Option ClockValue
 clock_in place d = option_and_then (clock_of place) (as_table d)
@@ -213,7 +274,7 @@ abbrev pub expected_in : Members → Option (Option ℕ)
 expected_in ms = if_there (number_in 1 65535) (get_member (codes "clocks") ms)
 
 unfoldable pub port_wishes_in : Members → Option (List Wish)
-port_wishes_in ms = or_absent [] (λ d. option_and_then wishes_in (as_table d)) (get_member (codes "port") ms)
+port_wishes_in ms = or_absent [] (λ d. option_and_then (wishes_of kinds.EveryPort) (as_table d)) (get_member (codes "port") ms)
 
 abbrev pub every_by : ℕ → Option ℕ → Option (Option ℕ) → Option (List Target) → Option (List Wish) → Option (List Wish) → Option EveryValue
 every_by place (Some domain) (Some expected) (Some except) (Some asked) (Some of_ports) = Some (record {
@@ -228,7 +289,7 @@ every_by place _ _ _ _ _ = None
 
 abbrev pub every_of : List ClockValue → ℕ → Members → Option EveryValue
 every_of clocks n ms =
-    every_by (length clocks + n) (domain_in ms) (expected_in ms) (except_in clocks ms) (wishes_in ms) (port_wishes_in ms)
+    every_by (length clocks + n) (domain_in ms) (expected_in ms) (except_in clocks ms) (wishes_of kinds.EveryClock ms) (port_wishes_in ms)
 
 unfoldable pub every_in : List ClockValue → ℕ → Data → Option EveryValue
 every_in clocks n d = option_and_then (every_of clocks n) (as_table d)
@@ -249,8 +310,13 @@ abbrev pub file_with : Members → Option (List ClockValue) → Option FileValue
 file_with ms None = None
 file_with ms (Some clocks) = option_map (λ every. record { clocks = clocks; every = every }) (all_every_in clocks ms)
 
+abbrev pub file_if : Option ℕ → Members → Option FileValue
+file_if None ms = None
+file_if (Some version) ms = file_with ms (clocks_in ms)
+
+-- a file of version 1
 abbrev pub file_in : Members → Option FileValue
-file_in ms = file_with ms (clocks_in ms)
+file_in ms = with_keys kinds.File ms (file_if (option_and_then (number_in 1 1) (get_member (codes "version") ms)) ms)
 
 -- what a text asks for
 unfoldable pub file_of : List ℕ → Option FileValue

@@ -1,6 +1,7 @@
 -- What `ptpm plan` prints and how it ends, by what it reads (this project's profile).
-use Rattle.std.specs.Prelude.{◌≡◌, ℕ, ◌+◌, ◌==◌, Bool, true, false, codes, decimal, List, [], ◌∷◌, ◌++◌, Option, Some, None, IfSome, Result, Ok, Err}
+use Rattle.std.specs.Prelude.{◌≡◌, ℕ, ◌+◌, ◌==◌, Bool, true, false, codes, decimal, List, [], ◌∷◌, ◌++◌, map, Option, Some, None, IfSome, Result, Ok, Err}
 use Rattle.std.specs.List.{filter_map, list_any}
+use Rattle.std.specs.List.Sorted.{IsSortedByKey}
 use Rattle.std.specs.Int.{to_be_bytes, w16}
 use Rattle.std.specs.Option.{option_to_list}
 use Rattle.std.specs.Io.KnownBytes.{Appends}
@@ -10,15 +11,22 @@ use Rattle.ptpm_commands.specs.declared.faults.Fault.{Fault}
 use Rattle.ptpm_commands.specs.Taken.{HasNumbers, line_datagram, taken}
 use Rattle.ptpm_text.specs.Lines.{whole_lines}
 use Rattle.ptpm_plan.specs.Answers.{answer_in}
+use Rattle.ptpm_plan.specs.BestClock.{best_clocks, ranks_of, shown}
+use Rattle.ptpm_plan.specs.Digest.{digest_of}
 use Rattle.ptpm_plan.specs.FileText.{file_of, file_value}
-use Rattle.ptpm_plan.specs.Order.{group_of}
+use Rattle.ptpm_plan.specs.Order.{group_of, order_key}
 use Rattle.ptpm_plan.specs.Outcome.{or_changes, status_of}
-use Rattle.ptpm_plan.specs.Planned.{IsPlanOf}
 use Rattle.ptpm_plan.specs.PlannedId.{number_of}
+use Rattle.ptpm_plan.specs.Planned.{IsPlanOf, change_of}
+use Rattle.ptpm_plan.specs.Warnings.{AreWarnings}
+use Rattle.ptpm_plan.specs.contracts.order.OrderKeyOrd.TheImpl as key_order
 use Rattle.ptpm_plan.specs.declared.answer.Answer.{Answer}
 use Rattle.ptpm_plan.specs.declared.answers.Answers.{Answers}
 use Rattle.ptpm_plan.specs.declared.change.Change.{Change}
 use Rattle.ptpm_plan.specs.declared.plan.Plan.{Plan}
+use Rattle.ptpm_plan.specs.declared.planning.PlanForm.{PlanForm}
+use Rattle.ptpm_plan.specs.declared.planning.PlanForm.TheVariants as forms
+use Rattle.ptpm_plan.specs.declared.planning.PlanOptions.{PlanOptions}
 use Rattle.ptpm_plan.specs.declared.surveyed.Surveyed.{Surveyed}
 use Rattle.ptpm_plan.specs.declared.wish.PlanFile.{PlanFile}
 
@@ -66,6 +74,31 @@ pub record Writes (Is : List ℕ → Type 0) (old new : Option (List ℕ)) : Typ
   pub is : Is text
   pub written : Appends old new text
 
+-- ---- the report
+
+-- it begins with the plan's name, by which `apply --expect` knows it
+unfoldable pub name_text : List Change → List ℕ
+name_text changes = (codes "plan " ++ encode_lower (digest_of changes)) ++ codes ":"
+
+pub record IsNamed (changes : List Change) (text : List ℕ) : Type 0 where
+  pub words : List ℕ
+  pub is : text ≡ name_text changes ++ words
+
+pub record ComeAfterLine (Are : List ℕ → Type 0) (text : List ℕ) : Type 0 where
+  pub further : List ℕ
+  pub is : text ≡ 10 ∷ further
+  pub are : Are further
+
+-- the text, an empty line, and a line for each step of the plan
+abbrev pub IsWithSteps : Plan → List ℕ → Type 0
+IsWithSteps p text = Begins (IsNamed p.changes.items) (ComeAfterLine (AreSteps p.surveyed 1 p.changes.items)) text
+
+-- what is written of a plan; of its object in JSON nothing is said here
+abbrev pub IsReport : PlanForm → Plan → Option (List ℕ) → Option (List ℕ) → Type 0
+IsReport forms.Text p old new = Writes (IsNamed p.changes.items) old new
+IsReport forms.Json p old new = Unit {0}
+IsReport forms.Steps p old new = Writes (IsWithSteps p) old new
+
 -- ---- the answers among lines
 
 -- the answers that the datagrams of lines have
@@ -89,8 +122,8 @@ abbrev pub status_by : Bool → Plan → ℕ
 status_by false p = status_of p.rows.items p.unnamed.items p.found.items p.left_out
 status_by true p = or_changes p.changes.items (status_of p.rows.items p.unnamed.items p.found.items p.left_out)
 
--- the status is that of the plan which a file and answers make
-pub record IsStatus (text : List ℕ) (known : Option (List ℕ)) (tells : Bool) (status : ℕ) : Type 0 where
+-- what is printed, and the status, are of the plan which a file and answers make: its changes in their order, with their warnings
+pub record IsPrinted (text : List ℕ) (known : Option (List ℕ)) (options : PlanOptions) (old new : Option (List ℕ)) (status : ℕ) : Type 0 where
   pub file : PlanFile
   pub answers : Answers
   pub plan : Plan
@@ -98,4 +131,8 @@ pub record IsStatus (text : List ℕ) (known : Option (List ℕ)) (tells : Bool)
   pub answered : AreAnswersOf known answers.list.items
   pub plans : IsPlanOf file answers.list.items plan
   pub left_out : plan.left_out ≡ answers.left_out
-  pub is : status ≡ status_by tells plan
+  pub sorted : IsSortedByKey (order_key plan.surveyed (filter_map change_of plan.rows.items)) (key_order.ghosts).cmp plan.changes.items
+  pub best : map shown plan.best.items ≡ best_clocks plan.changes.items (ranks_of plan.surveyed) 256
+  pub warnings : AreWarnings plan.changes.items plan.best.items plan.surveyed plan.warnings.items
+  pub report : IsReport options.form plan old new
+  pub is : status ≡ status_by options.tells_changes plan

@@ -1,6 +1,6 @@
 -- Of what a plan warns (this project's profile).
-use Rattle.std.specs.Prelude.{◌≡◌, ℕ, ◌+◌, ◌^◌, ◌==◌, nat_lt, ℤ, pos, negsuc, Bool, true, false, length, List, [], ◌∷◌, ◌++◌, flat_map, Option, None, Some, if◌then◌else◌}
-use Rattle.std.specs.List.{filter_map, list_all}
+use Rattle.std.specs.Prelude.{◌≡◌, ℕ, ◌+◌, ◌^◌, ◌==◌, nat_lt, ℤ, pos, negsuc, Bool, true, false, not, ◌&&◌, is_some, length, List, [], ◌∷◌, ◌++◌, flat_map, Option, None, Some, if◌then◌else◌}
+use Rattle.std.specs.List.{filter_map, list_all, list_any}
 use Rattle.std.specs.Option.{option_to_list}
 use Rattle.ptpm_codec.specs.Layout.{octet}
 use Rattle.ptpm_data.specs.ManagementId.{set_of}
@@ -9,17 +9,18 @@ use Rattle.ptpm_data.specs.Ranges.{is_in_range}
 use Rattle.ptpm_data.specs.Refusals.{is_set_value}
 use Rattle.ptpm_data.specs.declared.management_id.Layout.TheVariants as layouts
 use Rattle.ptpm_data.specs.declared.port_setting.PortSetting.{PortSetting}
-use Rattle.ptpm_plan.specs.BestClock.{is_worse_time}
+use Rattle.ptpm_plan.specs.BestClock.{bears_on, is_worse_time}
 use Rattle.ptpm_plan.specs.PlannedId.{setting_of}
-use Rattle.ptpm_plan.specs.Reach.{is_out_of_reach}
+use Rattle.ptpm_plan.specs.Reach.{count_left_past, is_out_of_reach, leaves_some}
 use Rattle.ptpm_plan.specs.declared.best_clock.BestClocks.{BestClocks}
+use Rattle.ptpm_plan.specs.declared.best_clock.Rank.{Rank}
 use Rattle.ptpm_plan.specs.declared.change.Change.{Change}
 use Rattle.ptpm_plan.specs.declared.change.PlannedId.{PlannedId}
 use Rattle.ptpm_plan.specs.declared.change.PlannedId.TheVariants as ids
 use Rattle.ptpm_plan.specs.declared.surveyed.Surveyed.{Surveyed}
 use Rattle.ptpm_plan.specs.declared.surveyed.SurveyedClock.{SurveyedClock}
 use Rattle.ptpm_plan.specs.declared.warning.Warning.{Warning}
-use Rattle.ptpm_plan.specs.declared.warning.Warning.TheVariants.{BestClock, Impatient, Mechanism, OutOfReach, Refused, Twice, WorseTime}
+use Rattle.ptpm_plan.specs.declared.warning.Warning.TheVariants.{BestClock, CutOff, Impatient, Mechanism, NoBestClock, OutOfReach, Refused, Twice, Unjudged, WorseTime}
 
 -- whether a clock with this agent takes a dataField of an id of the clock. It takes each octet of the others, and a text is in
 -- its range once it is read
@@ -42,9 +43,21 @@ refusal c =
 abbrev pub twice : SurveyedClock → Option Warning
 twice c = if c.is_twice then Some (Twice c.domain c.identity) else None
 
--- the warning of a best clock that has worse time than the one before
+-- the warning of a clock whose rank is not known, if a change bears on the best clock of its domain
+abbrev pub unjudged : List Change → SurveyedClock → Option Warning
+unjudged changes c =
+    if not (is_some c.precedence) && list_any (bears_on c.domain) changes then Some (Unjudged c.domain c.identity) else None
+
+abbrev pub of_clock : List Change → SurveyedClock → List Warning
+of_clock changes c = option_to_list (twice c) ++ option_to_list (unjudged changes c)
+
+abbrev pub worse_by : ℕ → Rank → Option Rank → Option Warning
+worse_by domain before None = Some (NoBestClock domain)
+worse_by domain before (Some after) = if is_worse_time before after then Some (WorseTime domain before after) else None
+
+-- the warning of a best clock that has worse time than the one before, or of a domain that no clock can lead any more
 abbrev pub worse_time : BestClocks → Option Warning
-worse_time b = if is_worse_time b.before b.after then Some (WorseTime b.domain b.before b.after) else None
+worse_time b = worse_by b.domain b.before b.after
 
 -- an octet is below a power of 2, whose exponent may be negative
 abbrev pub below_doublings : ℤ → ℕ → Bool
@@ -73,8 +86,14 @@ abbrev pub unreached : List Change → Surveyed → ℕ → Change → Option Wa
 unreached changes s number c =
     if is_out_of_reach changes s c then Some (OutOfReach number c.clock (octet 0 c.after.items)) else None
 
+-- the warning of a boundary clock that moves away from clocks that may follow it
+abbrev pub cut_off : List Change → Surveyed → ℕ → Change → Option Warning
+cut_off changes s number c =
+    if leaves_some changes s c then Some (CutOff number c.clock (count_left_past changes s c)) else None
+
 abbrev pub of_change : List Change → Surveyed → ℕ → Change → List Warning
-of_change changes s number c = option_to_list (mechanism number c) ++ option_to_list (unreached changes s number c)
+of_change changes s number c =
+    (option_to_list (mechanism number c) ++ option_to_list (unreached changes s number c)) ++ option_to_list (cut_off changes s number c)
 
 -- what there is of each change, by its number
 abbrev pub of_changes : (ℕ → Change → List Warning) → ℕ → List Change → List Warning
@@ -91,11 +110,11 @@ pub record AddsImpatient (old new : List Warning) : Type 0 where
   pub is : new ≡ old ++ more
   pub are : list_all is_impatient more ≡ true
 
--- First come those of values that a clock of this project refuses, of two clocks of one identity, and of best clocks. Then come those
--- of ports that may lose their masters, and of single changes.
+-- First come those of values that a clock of this project refuses, of clocks that are two or of unknown rank, and of best clocks.
+-- Then come those of ports that may lose their masters, and of single changes.
 pub record AreWarnings (changes : List Change) (best : List BestClocks) (s : Surveyed) (all : List Warning) : Type 0 where
   pub impatient : List Warning
   pub are : list_all is_impatient impatient ≡ true
   pub is : all
-      ≡ (((filter_map refusal changes ++ filter_map twice s.clocks.items) ++ flat_map of_best best) ++ impatient)
+      ≡ (((filter_map refusal changes ++ flat_map (of_clock changes) s.clocks.items) ++ flat_map of_best best) ++ impatient)
       ++ of_changes (of_change changes s) 1 changes

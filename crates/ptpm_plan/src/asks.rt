@@ -14,7 +14,7 @@ pub(crate) fn print_asks<O: Write>(file: &PlanFile, domains: &[u8], out: &mut O)
         for name in ["DEFAULT_DATA_SET", "USER_DESCRIPTION", "PORT_DATA_SET"] {
             writeln!(out, "{domain} {name}")?;
         }
-        if file.names_rank() {
+        if file.may_change_best() {
             writeln!(out, "{domain} TIME_PROPERTIES_DATA_SET")?;
         }
         for number in &MANAGEMENT_IDS {
@@ -48,11 +48,9 @@ impl PlanFile {
         }
     }
 
-    /// Whether the file names an id of what decides which clock is the best one.
-    fn names_rank(&self) -> bool {
-        PlannedId::ALL
-            .iter()
-            .any(|id| id.is_of_rank() && self.names(*id))
+    /// Whether the file names an id of what decides which clock is the best one of a domain.
+    fn may_change_best(&self) -> bool {
+        PlannedId::ALL.iter().any(|id| (id.is_of_rank() || id.is_of_domain()) && self.names(*id))
     }
 
     /// Whether the file names an id.

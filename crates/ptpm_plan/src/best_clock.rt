@@ -2,9 +2,10 @@
 //! clock that can't lead is none.
 
 ghost use Rattle.std.specs.Prelude.{◌≡◌, IfOk, count_by, length, map, option_map};
-ghost use Rattle.std.specs.List.{list_any};
+ghost use Rattle.std.specs.List.{find, list_any};
+ghost use Rattle.std.specs.Option.{option_copied};
 ghost use Rattle.ptpm_codec.specs.Layout.{octet};
-ghost use Rattle.ptpm_plan.specs.BestClock.{after_change, altered, alterations, best_clocks, best_clocks_in, best_in, can_lead, changes_rank, has_more, is_better, is_down, is_down_port, is_of_rank, is_rank_change_in, precedence_in, rank_of, rank_with, ranked, ranks_after, ranks_of, shown};
+ghost use Rattle.ptpm_plan.specs.BestClock.{after_change, altered, alterations, bears_on, best_clocks, best_clocks_in, best_in, can_lead, changes_rank, has_more, is_better, is_down, is_down_port, is_move_at, is_of_domain, is_of_rank, moved, moves, precedence_in, rank_of, rank_with, ranked, ranks_after, ranks_at_end, ranks_of, shown};
 
 use crate::change::{Change, PlannedId};
 use crate::octets::{octet, pair_at};
@@ -49,17 +50,31 @@ pub struct BestClocks {
     pub domain: u8,
     /// The best one now.
     pub before: Rank,
-    /// The best one after all changes.
-    pub after: Rank,
-    /// Each change after which it is another one.
+    /// The best one after all changes, those of DOMAIN too. `None` if no clock of the domain can lead then.
+    pub after: Option<Rank>,
+    /// Each change of a rank after which it is another one.
     pub alterations: Vec<Alteration>,
 }
 
 impl BestClocks {
-    /// Whether another clock becomes the best one, or it gets another clockAccuracy.
+    /// Whether another clock becomes the best one, or none, or it gets another clockAccuracy.
     pub(crate) fn is_altered(&self) -> bool {
-        let (before, after) = (self.before, self.after);
-        !self.alterations.is_empty() || before.accuracy != after.accuracy
+        match self.after {
+            Some(after) => {
+                !self.alterations.is_empty()
+                    || after.identity != self.before.identity
+                    || after.accuracy != self.before.accuracy
+            }
+            None => true,
+        }
+    }
+
+    /// The best one after all changes of ranks.
+    pub(crate) fn last_identity(&self) -> ClockIdentity {
+        match self.alterations.as_slice() {
+            [.., last] => last.clock,
+            [] => self.before.identity,
+        }
     }
 }
 
@@ -72,6 +87,13 @@ impl PlannedId {
             self,
             PlannedId::Priority1 | PlannedId::Priority2 | PlannedId::ClockAccuracy
         )
+    }
+
+    /// Whether it is the domain of a clock.
+    pub(crate) fn is_of_domain(self) -> bool
+        ensures { result ≡ is_of_domain self }
+    {
+        matches!(self, PlannedId::Domain)
     }
 }
 
@@ -197,6 +219,32 @@ impl RankedClock {
         }
         self
     }
+
+    /// Whether a change moves this clock to another domain.
+    fn is_moved_by(&self, change: &Change) -> bool
+        ensures { result ≡ moves self.now change.now }
+    {
+        change.id.is_of_domain()
+            && self.domain == change.domain
+            && self.rank.identity == change.clock
+    }
+
+    /// The change that moves this clock.
+    fn move_of<'a>(&self, changes: &'a [Change]) -> Option<&'a Change>
+        ensures { option_copied result ≡ find (moves self.now) changes.now }
+    {
+        changes.iter().find(|change| self.is_moved_by(change))
+    }
+
+    /// This clock in the domain in which it is after all changes.
+    fn moved(mut self, changes: &[Change]) -> RankedClock
+        ensures { result ≡ moved changes.now self }
+    {
+        if let Some(change) = self.move_of(changes) {
+            self.domain = first_octet(&change.after);
+        }
+        self
+    }
 }
 
 /// The octet that a dataField begins with; 0 if it has none.
@@ -239,6 +287,20 @@ pub fn ranks_after(
         change_ranks(after.as_mut_slice(), change);
     }
     Ok(after)
+}
+
+/// The ranks after all changes, each in the domain of its clock then.
+fn ranks_at_end(
+    alloc: Global,
+    ranks: &[RankedClock],
+    changes: &[Change],
+) -> Result<Vec<RankedClock>, AllocError>
+    ensures { IfOk result (λ at_end. at_end.items ≡ ranks_at_end changes.now ranks.now) }
+{
+    ranks_after(alloc, ranks, changes)?
+        .iter()
+        .map(|clock| clock.moved(changes))
+        .collect(alloc)
 }
 
 /// The least rank in a domain.
@@ -293,17 +355,27 @@ fn alterations(
     Ok(found)
 }
 
-/// Whether a change of a rank is in a domain.
-fn has_rank_change(domain: u8, changes: &[Change]) -> bool
-    ensures { result ≡ list_any (is_rank_change_in domain) changes.now }
+/// Whether some change bears on which clock of a domain is the best one.
+pub(crate) fn is_at_stake(domain: u8, changes: &[Change]) -> bool
+    ensures { result ≡ list_any (bears_on domain) changes.now }
 {
-    changes
-        .iter()
-        .any(|change| change.id.is_of_rank() && change.domain == domain)
+    changes.iter().any(|change| bears_on(domain, change))
 }
 
-/// The best clock of a domain, now and after each of these changes that alters it. `None` if no clock of the domain has a rank, or
-/// if no change is one of a rank in it.
+/// Whether a change is one of a rank in a domain, or of a clock that leaves it or enters it.
+fn bears_on(domain: u8, change: &Change) -> bool
+    ensures { result ≡ bears_on domain change.now }
+{
+    change.id.is_of_rank() && change.domain == domain || is_move_at(domain, change)
+}
+
+fn is_move_at(domain: u8, change: &Change) -> bool
+    ensures { result ≡ is_move_at domain change.now }
+{
+    change.id.is_of_domain() && (change.domain == domain || first_octet(&change.after) == domain)
+}
+
+/// The best clock of a domain, now and after these changes. `None` if no clock of the domain has a rank, or if no change bears on it.
 #[tactic(auto, unfolding(crate::specs::BestClock::best_clocks_in))]
 fn best_clocks_in(
     alloc: Global,
@@ -313,22 +385,22 @@ fn best_clocks_in(
 ) -> Result<Option<BestClocks>, AllocError>
     ensures { IfOk result (λ best. option_map shown best ≡ best_clocks_in changes.now ranks.now domain) }
 {
-    if !has_rank_change(domain, changes) {
+    if !is_at_stake(domain, changes) {
         return Ok(None);
     }
-    let after = ranks_after(alloc, ranks, changes)?;
-    match (best_in(domain, ranks), best_in(domain, after.as_slice())) {
-        (Some(before), Some(after)) => Ok(Some(BestClocks {
+    let at_end = ranks_at_end(alloc, ranks, changes)?;
+    match best_in(domain, ranks) {
+        Some(before) => Ok(Some(BestClocks {
             domain,
             before,
-            after,
+            after: best_in(domain, at_end.as_slice()),
             alterations: alterations(alloc, domain, ranks, changes)?,
         })),
-        _ => Ok(None),
+        None => Ok(None),
     }
 }
 
-/// The best clock of each domain in which there is a change of a rank, by the domains' numbers.
+/// The best clock of each domain on which a change bears, by the domains' numbers.
 pub fn best_clocks(
     alloc: Global,
     changes: &[Change],

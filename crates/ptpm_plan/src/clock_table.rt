@@ -1,6 +1,6 @@
 //! The table of a clock in a plan file.
 
-ghost use Rattle.std.specs.Prelude.{◌≡◌, IfOk, Some, codes, length, map, option_and_then};
+ghost use Rattle.std.specs.Prelude.{◌≡◌, IfOk, None, OnErr, Some, codes, length, map, option_and_then};
 ghost use Rattle.std.specs.List.{find};
 ghost use Rattle.std.specs.Option.{option_copied};
 ghost use Rattle.toml.specs.Data.{get_member};
@@ -10,17 +10,15 @@ ghost use Rattle.ptpm_plan.specs.FileText.{clock_in, clock_value, has_alias, if_
 ghost use Rattle.ptpm_plan.specs.Naming.{is_of_one_clock};
 
 use crate::file_fault::{FileFault, Place, TableFault};
+use crate::table_keys::TableKind;
 use crate::table_values::{domain_at, number_in, shaped, tables_at, text_at, value_at};
 use crate::text::Text;
 use crate::wish::{ClockWishes, PortWishes, Target};
-use crate::wishes_table::{Owner, read_wishes};
+use crate::wishes_table::read_wishes;
 use ptpm_codec::ClockIdentity;
 use ptpm_members::clock_identity_of;
 use std::alloc::Global;
 use toml::{Table, Value};
-
-/// The keys of a clock that are no managementId.
-const CLOCK_KEYS: [&str; 5] = ["identity", "description", "alias", "domain", "port"];
 
 /// What a clock has until its host gives it an identity.
 const NO_IDENTITY: ClockIdentity = ClockIdentity([0; 8]);
@@ -40,7 +38,7 @@ pub(crate) fn read_clock(
     let target = read_target(alloc, table, place)?;
     let alias = read_alias(alloc, table, place, earlier)?;
     let domain = domain_at(table, place)?;
-    let wishes = read_wishes(alloc, table, Owner::Clock, &CLOCK_KEYS, place)?;
+    let wishes = read_wishes(alloc, table, TableKind::Clock, place)?;
     let ports = read_ports(alloc, table, number)?;
     Ok(ClockWishes {
         place: number,
@@ -153,14 +151,16 @@ fn read_port(
     let table = shaped(value, "port", place)?;
     let number = number_of(table, place)?;
     let place = Place::NumberedPort(clock, number);
-    let wishes = read_wishes(alloc, table, Owner::Port, &["number"], place)?;
+    let wishes = read_wishes(alloc, table, TableKind::Port, place)?;
     Ok(PortWishes { number, wishes })
 }
 
 /// The portNumber of a port's table. 0 and 0xFFFF are of no port (7.5.2.3).
 fn number_of(table: &Table, place: Place) -> Result<u16, FileFault>
-    ensures { IfOk result
+    ensures number { IfOk result
         (λ n. option_and_then (number_in 1 65534) (get_member (codes "number") (table_view table.now)) ≡ Some n) }
+    ensures refused { OnErr result
+        (option_and_then (number_in 1 65534) (get_member (codes "number") (table_view table.now)) ≡ None) }
 {
     match value_at(table, "number").and_then(|value| number_in(value, 1, 0xfffe)) {
         Some(number) => Ok(number),

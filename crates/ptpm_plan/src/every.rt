@@ -1,15 +1,14 @@
 //! What a plan file asks of every clock of a domain.
 
 ghost use Rattle.std.specs.Prelude.{◌≡◌, count_by};
-ghost use Rattle.ptpm_plan.specs.Asking.{asks_some, is_included, is_left_out, is_not_one, is_unclear, lacks_ports, may_be, ports_known, rows_of_all, rows_of_every, rows_of_every_clock};
-ghost use Rattle.ptpm_plan.specs.Naming.{clock_named};
+ghost use Rattle.ptpm_plan.specs.Asking.{asks_some, clock_excepted, if_answered, is_included, is_left_out, is_not_one, is_unclear, lacks_ports, may_be, ports_known, rows_of_all, rows_of_every, rows_of_every_clock};
 ghost use Rattle.ptpm_plan.specs.Outcome.{found_by, is_in, is_not_of, is_short};
 ghost use Rattle.ptpm_plan.specs.Rows.{Adds};
 
 use crate::asking::{Known, Of};
 use crate::naming::{Named, clock_named};
 use crate::rows::{Added, Row};
-use crate::surveyed::SurveyedClock;
+use crate::surveyed::{SurveyedClock, clock_in};
 use crate::wish::{EveryWishes, Target, Wish};
 use ptpm_codec::ClockIdentity;
 
@@ -24,7 +23,8 @@ pub struct FoundClocks {
     pub count: usize,
     /// How many are to answer, if the table says it.
     pub expected: Option<u16>,
-    /// How many names in `except` fit no clock of the domain, or several. If there is one, no clock is asked for anything.
+    /// How many names in `except` fit no clock that answered in the domain, or several. If there is one, no clock is asked for
+    /// anything.
     pub unclear: usize,
     /// How many clocks did not say that they have 1 to 255 ports, if something is asked of ports. Of theirs nothing is asked.
     pub uncounted: usize,
@@ -107,18 +107,18 @@ impl Known<'_> {
         ensures { result ≡ is_left_out self.now.answers.now.list.items self.now.surveyed.now.clocks.items table.now clock }
     {
         let mut except = table.except.iter();
-        except.any(|target| may_be(clock, self.named(table.domain, target)))
+        except.any(|target| may_be(clock, self.excepted(table.domain, target)))
     }
 
-    /// The clock that a target names in a domain.
-    fn named(&self, domain: u8, target: &Target) -> Named
-        ensures { result ≡ clock_named self.now.surveyed.now.clocks.items self.now.answers.now.list.items domain target.now }
+    /// The clock that a name in `except` is of, if it answered in the domain.
+    fn excepted(&self, domain: u8, target: &Target) -> Named
+        ensures { result ≡ clock_excepted self.now.answers.now.list.items self.now.surveyed.now.clocks.items domain target.now }
     {
-        clock_named(
-            self.surveyed.clocks.as_slice(),
-            self.answers,
+        let clocks = self.surveyed.clocks.as_slice();
+        if_answered(
+            clocks,
             domain,
-            target,
+            clock_named(clocks, self.answers, domain, target),
         )
     }
 
@@ -143,7 +143,7 @@ impl Known<'_> {
     {
         let except = table.except.iter();
         except
-            .filter(|target| is_not_one(self.named(table.domain, target)))
+            .filter(|target| is_not_one(self.excepted(table.domain, target)))
             .count()
     }
 
@@ -172,6 +172,16 @@ fn count_in(clocks: &[SurveyedClock], domain: u8) -> usize
     ensures { result ≡ count_by (is_in domain) clocks.now }
 {
     clocks.iter().filter(|clock| clock.domain == domain).count()
+}
+
+/// The clock that is named, if it answered in a domain.
+fn if_answered(clocks: &[SurveyedClock], domain: u8, named: Named) -> Named
+    ensures { result ≡ if_answered clocks.now domain named }
+{
+    match named {
+        Named::One(clock) if clock_in(clocks, domain, clock).is_none() => Named::Other(0),
+        _ => named,
+    }
 }
 
 /// Whether what is named is a clock, or may be it.

@@ -6,16 +6,14 @@ ghost use Rattle.ptpm_plan.specs.FileText.{clock_value, every_in, every_value, e
 
 use crate::clock_table::clock_of_alias;
 use crate::file_fault::{FileFault, Place, TableFault};
+use crate::table_keys::TableKind;
 use crate::table_values::{clocks_at, domain_at, shaped, value_at};
 use crate::text::Text;
 use crate::wish::{ClockWishes, EveryWishes, Target, Wish};
-use crate::wishes_table::{Owner, read_wishes};
+use crate::wishes_table::read_wishes;
 use ptpm_members::clock_identity_of;
 use std::alloc::{AllocError, Global};
 use toml::{Table, Value};
-
-/// The keys of `every` that are no managementId.
-const EVERY_KEYS: [&str; 4] = ["domain", "clocks", "except", "port"];
 
 /// Reads a table of every clock, which comes after these tables of clocks. `except` may name their aliases.
 #[tactic(auto, unfolding(crate::specs::FileText::every_in))]
@@ -33,7 +31,7 @@ pub(crate) fn read_every(
     let domain = domain_at(table, place)?;
     let expected = clocks_at(table, place)?;
     let except = read_except(alloc, table, place, clocks)?;
-    let wishes = read_wishes(alloc, table, Owner::EveryClock, &EVERY_KEYS, place)?;
+    let wishes = read_wishes(alloc, table, TableKind::EveryClock, place)?;
     let port_wishes = read_port_wishes(alloc, table, number)?;
     Ok(EveryWishes {
         place: clocks.len().saturating_add(number),
@@ -53,7 +51,7 @@ fn read_port_wishes(alloc: Global, table: &Table, number: usize) -> Result<Vec<W
         return Ok(Vec::new(alloc));
     };
     let table = shaped(value, "port", Place::Every(number))?;
-    read_wishes(alloc, table, Owner::Port, &[], Place::EveryPort(number))
+    read_wishes(alloc, table, TableKind::EveryPort, Place::EveryPort(number))
 }
 
 #[tactic(auto, unfolding(crate::specs::FileText::except_in))]

@@ -1,15 +1,18 @@
 //! A plan file as a whole: its version, its clocks, and what it asks of every clock.
 
-ghost use Rattle.std.specs.Prelude.{◌≡◌, ◌≤◌, IfOk, Some, length, map, take};
+ghost use Rattle.std.specs.Prelude.{◌≡◌, ◌≤◌, IfOk, None, OnOk, Some, codes, length, map, option_and_then, take};
+ghost use Rattle.toml.specs.Data.{get_member};
 ghost use Rattle.toml.specs.View.{table_view};
-ghost use Rattle.ptpm_plan.specs.FileText.{all_every_in, clock_value, clocks_in, every_value, file_in, file_of, file_value};
+ghost use Rattle.ptpm_plan.specs.FileText.{all_every_in, clock_value, clocks_in, every_value, file_in, file_of, file_value, number_in, other_key};
 ghost use Rattle.ptpm_plan.specs.Octets.{line_after};
+ghost use Rattle.ptpm_plan.specs.declared.table_keys.TableKind.{TableKind};
 
 use crate::clock_table::read_clock;
 use crate::every_table::read_every;
 use crate::file_fault::{FileFault, Place, TableFault};
 use crate::octets::line_after;
-use crate::table_values::{tables_at, value_at};
+use crate::table_keys::{TableKind, other_key};
+use crate::table_values::{number_in, tables_at, value_at};
 use crate::text::Text;
 use crate::wish::{ClockWishes, EveryWishes, PlanFile};
 use std::alloc::Global;
@@ -85,19 +88,18 @@ fn read_all_every(
 }
 
 /// Whether the document has the version of a plan, and just its keys.
-fn check_keys(alloc: Global, table: &Table) -> Result<(), FileFault> {
-    let version = value_at(table, "version").and_then(|value| value.as_integer());
-    if version != Some(1) {
+fn check_keys(alloc: Global, table: &Table) -> Result<(), FileFault>
+    ensures { OnOk result ((other_key TableKind.File (table_view table.now) ≡ None)
+        × (option_and_then (number_in 1 1) (get_member (codes "version") (table_view table.now)) ≡ Some 1)) }
+{
+    if value_at(table, "version").and_then(|value| number_in(value, 1, 1)) != Some(1) {
         return Err(FileFault::At(Place::File, TableFault::Version));
     }
-    for key in table.keys() {
-        match key.as_str() {
-            "version" | "clock" | "every" => {}
-            other => {
-                let key = Text::copy_of(alloc, other)?;
-                return Err(FileFault::At(Place::File, TableFault::NoKey(key)));
-            }
+    match other_key(table, TableKind::File) {
+        Some(key) => {
+            let key = Text::copy_of(alloc, key.as_str())?;
+            Err(FileFault::At(Place::File, TableFault::NoKey(key)))
         }
+        None => Ok(()),
     }
-    Ok(())
 }

@@ -68,7 +68,10 @@ impl Report<'_> {
             let mut map = best_map(alloc, best)?;
             let before = time_value(alloc, self.time_of(best.domain, best.before))?;
             put(&mut map, alloc, "before", before)?;
-            let after = time_value(alloc, self.time_of(best.domain, best.after))?;
+            let after = match best.after {
+                Some(after) => time_value(alloc, self.time_of(best.domain, after))?,
+                None => Value::Null,
+            };
             put(&mut map, alloc, "after", after)?;
             values.push(Value::Object(map))?;
         }

@@ -32,6 +32,7 @@ mod rows;
 mod subject;
 mod surveyed;
 mod surveying;
+mod table_keys;
 mod table_values;
 mod text;
 mod verdict;

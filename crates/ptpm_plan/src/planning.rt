@@ -2,14 +2,14 @@
 
 ghost use Rattle.std.specs.Prelude.{◌≡◌, IfOk, OnOk};
 ghost use Rattle.ptpm_commands.specs.Lines.{datagram_in, latest_line};
-ghost use Rattle.ptpm_plan.specs.Printed.{AreAnswersOf, IsStatus, TakesLine, status_by};
+ghost use Rattle.ptpm_plan.specs.Printed.{AreAnswersOf, IsPrinted, IsReport, TakesLine, status_by};
 
 use crate::answers::Answers;
 use crate::asks::print_asks;
 use crate::file_fault::FileFault;
 use crate::outcome::{status_of, status_telling_changes};
 use crate::plan::Plan;
-use crate::report::{Report, print_steps};
+use crate::report::Report;
 use crate::wish::PlanFile;
 use ptpm_commands::Fault;
 use ptpm_commands::lines::Lines;
@@ -67,7 +67,8 @@ pub fn print_plan<R: Read + Drop, O: Write>(
     reader: R,
     out: &mut O,
 ) -> Result<u8, PlanFault>
-    ensures { IfOk result (IsStatus text.now (R.remaining reader) options.tells_changes) }
+    ensures { IfOk result
+        (IsPrinted text.now (R.remaining reader) options (O.contents out.old) (O.contents out.new)) }
 {
     let file = PlanFile::read(alloc, text)?;
     let answers = read_answers(alloc, reader)?;
@@ -77,25 +78,22 @@ pub fn print_plan<R: Read + Drop, O: Write>(
         file: &file,
         answers: &answers,
     };
-    print_report(alloc, options.form, report, out)?;
+    print_report(alloc, options.form, &report, out)?;
     Ok(status_by(options.tells_changes, &plan))
 }
 
 fn print_report<O: Write>(
     alloc: Global,
     form: PlanForm,
-    report: Report<'_>,
+    report: &Report<'_>,
     out: &mut O,
-) -> Result<(), Fault> {
+) -> Result<(), Fault>
+    ensures { OnOk result (IsReport form report.now.plan.now (O.contents out.old) (O.contents out.new)) }
+{
     match form {
         PlanForm::Text => report.print(alloc, out),
         PlanForm::Json => report.print_json(alloc, out),
-        PlanForm::Steps => {
-            report.print(alloc, out)?;
-            writeln!(out)?;
-            let plan = report.plan;
-            print_steps(alloc, &plan.surveyed, plan.changes.as_slice(), out)
-        }
+        PlanForm::Steps => report.print_with_steps(alloc, out),
     }
 }
 

@@ -1,7 +1,9 @@
 //! A plan as a text.
 
 ghost use Rattle.std.specs.Prelude.{◌≡◌, IfNone, IfOk, IfSome, OnOk, false, string_bytes};
-ghost use Rattle.ptpm_plan.specs.Printed.{AreSteps, IsStep, Writes, has_feed, step_clock, step_fields, step_head, step_member};
+ghost use Rattle.hex.specs.Hex.{encode_lower};
+ghost use Rattle.ptpm_plan.specs.Digest.{digest_of};
+ghost use Rattle.ptpm_plan.specs.Printed.{AreSteps, IsStep, Writes, has_feed, name_text, step_clock, step_fields, step_head, step_member};
 
 use crate::answers::Answers;
 use crate::change::Change;
@@ -27,9 +29,39 @@ pub(crate) struct Report<'a> {
 }
 
 impl Report<'_> {
-    /// Prints the plan.
-    pub(crate) fn print<O: Write>(&self, alloc: Global, out: &mut O) -> Result<(), Fault> {
-        self.print_head(alloc, out)?;
+    ghost use Rattle.ptpm_plan.specs.Printed.{IsNamed, IsWithSteps};
+
+    /// Prints the plan, and after an empty line its steps.
+    pub(crate) fn print_with_steps<O: Write>(&self, alloc: Global, out: &mut O) -> Result<(), Fault>
+        ensures { OnOk result (Writes (IsWithSteps self.now.plan.now) (O.contents out.old) (O.contents out.new)) }
+    {
+        self.print(alloc, out)?;
+        out.write_all(b"\n")?;
+        let plan = self.plan;
+        print_steps(alloc, &plan.surveyed, plan.changes.as_slice(), out)?;
+        Ok(())
+    }
+
+    /// Prints the plan: its name, and what is made in memory after it.
+    #[tactic(auto, using(crate::proofs::Printing::named))]
+    pub(crate) fn print<O: Write>(&self, alloc: Global, out: &mut O) -> Result<(), Fault>
+        ensures { OnOk result
+            (Writes (IsNamed self.now.plan.now.changes.items) (O.contents out.old) (O.contents out.new)) }
+    {
+        let name = name_text(alloc, self.plan.changes.as_slice())?;
+        let mut words: Vec<u8> = Vec::new(alloc);
+        match self.print_words(alloc, &mut words) {
+            Ok(()) => {}
+            Err(_) => return Err(Fault::OutOfMemory),
+        }
+        out.write_all(name.as_bytes())?;
+        out.write_all(words.as_slice())?;
+        Ok(())
+    }
+
+    /// Prints what comes after the name. In memory it is refused only memory.
+    fn print_words<O: Write>(&self, alloc: Global, out: &mut O) -> Result<(), Fault> {
+        self.print_head(out)?;
         self.print_changes(alloc, out)?;
         self.print_staying(alloc, out)?;
         self.print_refused(out)?;
@@ -42,12 +74,11 @@ impl Report<'_> {
         Ok(())
     }
 
-    fn print_head<O: Write>(&self, alloc: Global, out: &mut O) -> Result<(), Fault> {
+    fn print_head<O: Write>(&self, out: &mut O) -> Result<(), Fault> {
         let changes = self.plan.changes.as_slice();
-        let id = id_text(alloc, changes)?;
         let count = Counted(changes.len(), "change");
         let clocks = Counted(clock_count(changes), "clock");
-        writeln!(out, "plan {id}: {count} at {clocks}")?;
+        writeln!(out, " {count} at {clocks}")?;
         Ok(())
     }
 
@@ -112,18 +143,24 @@ impl Report<'_> {
 
     fn print_best<O: Write>(&self, out: &mut O) -> Result<(), Fault> {
         for best in self.plan.best.as_slice() {
-            let (domain, before, after) = (best.domain, best.before, best.after);
+            let (domain, before) = (best.domain, best.before);
             write!(out, "best clock of domain {domain}: {}", before.identity)?;
-            if best.alterations.is_empty() {
-                write!(out, " stays")?;
-            }
             for altered in best.alterations.as_slice() {
                 write!(out, ", after change {} {}", altered.after, altered.clock)?;
             }
-            writeln!(out)?;
+            match best.after {
+                None => writeln!(out, ", after the moves none")?,
+                Some(after) if after.identity != best.last_identity() => {
+                    writeln!(out, ", after the moves {}", after.identity)?
+                }
+                Some(_) if best.alterations.is_empty() => writeln!(out, " stays")?,
+                Some(_) => writeln!(out)?,
+            }
             if best.is_altered() {
                 writeln!(out, "  before: {}", self.time_of(domain, before))?;
-                writeln!(out, "  after: {}", self.time_of(domain, after))?;
+                if let Some(after) = best.after {
+                    writeln!(out, "  after: {}", self.time_of(domain, after))?;
+                }
             }
         }
         Ok(())
@@ -131,7 +168,7 @@ impl Report<'_> {
 }
 
 /// Prints a line for each change with its dataFields.
-pub(crate) fn print_steps<O: Write>(
+fn print_steps<O: Write>(
     alloc: Global,
     surveyed: &Surveyed,
     changes: &[Change],
@@ -248,8 +285,21 @@ fn change_words(alloc: Global, change: &Change) -> Result<String, AllocError> {
     format!(in alloc; "{id} {arrow}")
 }
 
+/// What a plan's text begins with.
+#[tactic(auto, unfolding(crate::specs::Printed::name_text))]
+fn name_text(alloc: Global, changes: &[Change]) -> Result<String, AllocError>
+    ensures { IfOk result (λ t. string_bytes t ≡ name_text changes.now) }
+{
+    let mut text = String::from_str(alloc, "plan ")?;
+    text.push_str(id_text(alloc, changes)?.as_str())?;
+    text.push_str(":")?;
+    Ok(text)
+}
+
 /// The id of a plan.
-pub(crate) fn id_text(alloc: Global, changes: &[Change]) -> Result<String, AllocError> {
+pub(crate) fn id_text(alloc: Global, changes: &[Change]) -> Result<String, AllocError>
+    ensures { IfOk result (λ t. string_bytes t ≡ encode_lower (digest_of changes.now)) }
+{
     let digest = digest_of(alloc, changes)?;
     hex::encode(alloc, digest.as_slice())
 }

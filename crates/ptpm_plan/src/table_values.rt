@@ -1,6 +1,6 @@
 //! Values at the keys of a plan file's tables.
 
-ghost use Rattle.std.specs.Prelude.{◌≡◌, ◌≤◌, IfOk, IfSome, Some, codes, map, option_map};
+ghost use Rattle.std.specs.Prelude.{◌≡◌, ◌≤◌, IfOk, IfSome, None, OnErr, Some, codes, map, option_map};
 ghost use Rattle.toml.specs.Data.{as_table, get_member};
 ghost use Rattle.toml.specs.View.{table_view, view};
 ghost use Rattle.ptpm_plan.specs.FileText.{domain_in, expected_in, items_at, number_in, text_at};
@@ -21,7 +21,8 @@ pub(crate) fn shaped<'a>(
     key: &'static str,
     place: Place,
 ) -> Result<&'a Table, FileFault>
-    ensures { IfOk result (λ t. as_table (view value.now) ≡ Some (table_view t.now)) }
+    ensures table { IfOk result (λ t. as_table (view value.now) ≡ Some (table_view t.now)) }
+    ensures refused { OnErr result (as_table (view value.now) ≡ None) }
 {
     match value.as_table() {
         Some(table) => Ok(table),
@@ -69,7 +70,8 @@ pub(crate) fn tables_at<'a>(
 
 /// The domainNumber at `domain`, 0 if it is absent.
 pub(crate) fn domain_at(table: &Table, place: Place) -> Result<u8, FileFault>
-    ensures { IfOk result (λ domain. domain_in (table_view table.now) ≡ Some domain) }
+    ensures domain { IfOk result (λ domain. domain_in (table_view table.now) ≡ Some domain) }
+    ensures refused { OnErr result (domain_in (table_view table.now) ≡ None) }
 {
     let Some(value) = value_at(table, "domain") else {
         return Ok(0);
@@ -82,7 +84,8 @@ pub(crate) fn domain_at(table: &Table, place: Place) -> Result<u8, FileFault>
 
 /// How many clocks are to answer, at `clocks`, if the key is there.
 pub(crate) fn clocks_at(table: &Table, place: Place) -> Result<Option<u16>, FileFault>
-    ensures { IfOk result (λ expected. expected_in (table_view table.now) ≡ Some expected) }
+    ensures expected { IfOk result (λ expected. expected_in (table_view table.now) ≡ Some expected) }
+    ensures refused { OnErr result (expected_in (table_view table.now) ≡ None) }
 {
     let Some(value) = value_at(table, "clocks") else {
         return Ok(None);

@@ -14,14 +14,20 @@ pub enum Warning {
     BestClock(u8, usize),
     /// The best clock of a domain has worse time after all changes than the one before.
     WorseTime(u8, Rank, Rank),
+    /// After all changes no clock of a domain can lead.
+    NoBestClock(u8),
     /// Two clocks of a domain have this identity.
     Twice(u8, ClockIdentity),
+    /// A clock of this domain gave no DEFAULT_DATA_SET, so its rank is not known, and the best clock may change there.
+    Unjudged(u8, ClockIdentity),
     /// From a change on a port waits for less than two Announces, and may lose its master.
     Impatient(usize, PortIdentity),
     /// A change of how a port measures delay.
     Mechanism(usize),
     /// A change moves a clock to a domain in which no request reaches it.
     OutOfReach(usize, ClockIdentity, u8),
+    /// A change moves a boundary clock away from clocks that may follow it. So many that stay are past it.
+    CutOff(usize, ClockIdentity, usize),
 }
 
 impl fmt::Display for Warning {
@@ -44,9 +50,16 @@ impl fmt::Display for Warning {
                 Quality(*before),
                 Quality(*after)
             ),
+            Warning::NoBestClock(domain) => {
+                write!(f, "domain {domain}: no clock is left that can lead")
+            }
             Warning::Twice(domain, clock) => write!(
                 f,
                 "{clock} in domain {domain}: two answers to one request differ: two clocks have this identity"
+            ),
+            Warning::Unjudged(domain, clock) => write!(
+                f,
+                "{clock} in domain {domain}: it gave no DEFAULT_DATA_SET: whether it can be the best clock is not known"
             ),
             Warning::Impatient(number, port) => write!(
                 f,
@@ -59,6 +72,10 @@ impl fmt::Display for Warning {
             Warning::OutOfReach(number, clock, domain) => write!(
                 f,
                 "change {number}: {clock} is not reached after it: a clock before it is not in domain {domain} then"
+            ),
+            Warning::CutOff(number, clock, count) => write!(
+                f,
+                "change {number}: clocks that follow the boundary clock {clock} may lose their time; known to be past it, and not moved: {count}"
             ),
         }
     }

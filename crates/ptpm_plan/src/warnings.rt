@@ -8,11 +8,11 @@ ghost use Rattle.ptpm_data.specs.declared.management_id.Layout.TheVariants as la
 ghost use Rattle.ptpm_data.specs.ManagementId.{set_of};
 ghost use Rattle.ptpm_data.specs.Refusals.{is_set_value};
 ghost use Rattle.ptpm_plan.specs.PlannedId.{setting_of};
-ghost use Rattle.ptpm_plan.specs.Warnings.{AddsImpatient, AreWarnings, below_doublings, is_taken, is_taken_of_clock, mechanism, of_best, of_change, of_changes, often, refusal, twice, unreached, worse_time};
+ghost use Rattle.ptpm_plan.specs.Warnings.{AddsImpatient, AreWarnings, below_doublings, cut_off, is_taken, is_taken_of_clock, mechanism, of_best, of_change, of_changes, of_clock, often, refusal, twice, unjudged, unreached, worse_time};
 
-use crate::best_clock::{BestClocks, Rank, first_octet};
+use crate::best_clock::{BestClocks, Rank, first_octet, is_at_stake};
 use crate::change::{Change, PlannedId};
-use crate::reach::is_out_of_reach;
+use crate::reach::{count_left_past, is_out_of_reach, leaves_some};
 use crate::surveyed::{Surveyed, SurveyedClock, SurveyedPort};
 use crate::warning::Warning;
 use ptpm_codec::PortIdentity;
@@ -29,7 +29,7 @@ pub fn warnings_of(
     ensures { IfOk result (λ v. AreWarnings changes.now best.now surveyed.now v.items) }
 {
     let mut found = refusals(alloc, changes)?;
-    add_twice(surveyed.clocks.as_slice(), &mut found)?;
+    add_of_clocks(surveyed.clocks.as_slice(), changes, &mut found)?;
     add_of_all(best, &mut found)?;
     add_impatient(alloc, changes, surveyed, &mut found)?;
     add_of_changes(changes, surveyed, &mut found)?;
@@ -45,14 +45,29 @@ fn add(warning: Option<Warning>, found: &mut Vec<Warning>) -> Result<(), AllocEr
     Ok(())
 }
 
-/// Adds the warnings of two clocks of one identity.
-fn add_twice(clocks: &[SurveyedClock], found: &mut Vec<Warning>) -> Result<(), AllocError>
-    ensures { OnOk result (found.new.items ≡ found.old.items ++ filter_map twice clocks.now) }
+/// Adds what there is to warn of in each clock that answered.
+fn add_of_clocks(
+    clocks: &[SurveyedClock],
+    changes: &[Change],
+    found: &mut Vec<Warning>,
+) -> Result<(), AllocError>
+    ensures { OnOk result (found.new.items ≡ found.old.items ++ flat_map (of_clock changes.now) clocks.now) }
 {
     for clock in clocks {
-        add(twice(clock), found)?;
+        add_of_clock(clock, changes, found)?;
     }
     Ok(())
+}
+
+fn add_of_clock(
+    clock: &SurveyedClock,
+    changes: &[Change],
+    found: &mut Vec<Warning>,
+) -> Result<(), AllocError>
+    ensures { OnOk result (found.new.items ≡ found.old.items ++ of_clock changes.now clock.now) }
+{
+    add(twice(clock), found)?;
+    add(unjudged(clock, changes), found)
 }
 
 /// Adds what there is to warn of in the best clocks of each domain.
@@ -74,11 +89,24 @@ fn add_of_changes(
     ensures { OnOk result (found.new.items ≡ found.old.items ++ of_changes (of_change changes.now surveyed.now) 1 changes.now) }
 {
     for place in 0..changes.len() {
-        let change = &changes[place];
-        add(mechanism(place + 1, change), found)?;
-        add(unreached(place + 1, change, changes, surveyed), found)?;
+        add_of_change(place + 1, &changes[place], changes, surveyed, found)?;
     }
     Ok(())
+}
+
+/// Adds what there is to warn of in a change, by its number.
+fn add_of_change(
+    number: usize,
+    change: &Change,
+    changes: &[Change],
+    surveyed: &Surveyed,
+    found: &mut Vec<Warning>,
+) -> Result<(), AllocError>
+    ensures { OnOk result (found.new.items ≡ found.old.items ++ of_change changes.now surveyed.now number change.now) }
+{
+    add(mechanism(number, change), found)?;
+    add(unreached(number, change, changes, surveyed), found)?;
+    add(cut_off(number, change, changes, surveyed), found)
 }
 
 /// A change of how a port measures delay.
@@ -108,12 +136,40 @@ fn unreached(
     }
 }
 
+/// A boundary clock moves away from clocks that may follow it.
+fn cut_off(
+    number: usize,
+    change: &Change,
+    changes: &[Change],
+    surveyed: &Surveyed,
+) -> Option<Warning>
+    ensures { result ≡ cut_off changes.now surveyed.now number change.now }
+{
+    if leaves_some(change, changes, surveyed) {
+        let count = count_left_past(change, changes, surveyed);
+        Some(Warning::CutOff(number, change.clock, count))
+    } else {
+        None
+    }
+}
+
 /// Two clocks have one identity.
 fn twice(clock: &SurveyedClock) -> Option<Warning>
     ensures { result ≡ twice clock.now }
 {
     if clock.is_twice {
         Some(Warning::Twice(clock.domain, clock.identity))
+    } else {
+        None
+    }
+}
+
+/// The rank of a clock is not known, and a change bears on the best clock of its domain.
+fn unjudged(clock: &SurveyedClock, changes: &[Change]) -> Option<Warning>
+    ensures { result ≡ unjudged changes.now clock.now }
+{
+    if clock.precedence.is_none() && is_at_stake(clock.domain, changes) {
+        Some(Warning::Unjudged(clock.domain, clock.identity))
     } else {
         None
     }
@@ -139,12 +195,15 @@ fn often(best: &BestClocks) -> Option<Warning>
     }
 }
 
-/// The best clock gets a worse clockClass, or the same and a worse clockAccuracy.
+/// The best clock gets a worse clockClass, or the same and a worse clockAccuracy; or no clock can lead any more.
 fn worse_time(best: &BestClocks) -> Option<Warning>
     ensures { result ≡ worse_time best.now }
 {
-    if is_worse_time(best.before, best.after) {
-        Some(Warning::WorseTime(best.domain, best.before, best.after))
+    let Some(after) = best.after else {
+        return Some(Warning::NoBestClock(best.domain));
+    };
+    if is_worse_time(best.before, after) {
+        Some(Warning::WorseTime(best.domain, best.before, after))
     } else {
         None
     }

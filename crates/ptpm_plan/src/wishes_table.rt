@@ -2,40 +2,36 @@
 
 ghost use Rattle.std.specs.Prelude.{◌≡◌, IfOk, OnOk, Some};
 ghost use Rattle.toml.specs.View.{table_view, view};
-ghost use Rattle.ptpm_plan.specs.FileText.{Gathers, typed, typed_at, utc_in, wish_in, wished_of, wishes_in};
+ghost use Rattle.ptpm_plan.specs.FileText.{Gathers, typed, typed_at, utc_in, wish_in, wished_of, wishes_in, wishes_of};
 
 use crate::change::PlannedId;
 use crate::file_fault::{FileFault, Place, TableFault};
+use crate::table_keys::{TableKind, other_key};
 use crate::table_values::value_at;
 use crate::text::Text;
 use crate::wish::{UtcWish, Wish, Wished};
 use std::alloc::{AllocError, Global};
 use toml::{Table, Value};
 
-/// What the ids of a table are of.
-#[derive(Clone, Copy)]
-pub(crate) enum Owner {
-    Clock,
-    /// Every clock: of these no plan sets the USER_DESCRIPTION.
-    EveryClock,
-    Port,
-}
-
-/// Reads the ids of a table, in the order of `PlannedId`. Its other keys are given.
+/// Reads the ids of a table, in the order of `PlannedId`.
 pub(crate) fn read_wishes(
     alloc: Global,
     table: &Table,
-    owner: Owner,
-    keys: &[&str],
+    kind: TableKind,
     place: Place,
 ) -> Result<Vec<Wish>, FileFault>
+    ensures { IfOk result (λ v. wishes_of kind (table_view table.now) ≡ Some v.items) }
+{
+    if let Some(key) = other_key(table, kind) {
+        return Err(FileFault::At(place, fault_of(alloc, key.as_str(), kind)?));
+    }
+    read_named(alloc, table, place)
+}
+
+/// The same, whatever other keys the table has.
+fn read_named(alloc: Global, table: &Table, place: Place) -> Result<Vec<Wish>, FileFault>
     ensures { IfOk result (λ v. wishes_in (table_view table.now) ≡ Some v.items) }
 {
-    for key in table.keys() {
-        if let Some(fault) = fault_of(alloc, key.as_str(), owner, keys)? {
-            return Err(FileFault::At(place, fault));
-        }
-    }
     let mut wishes = Vec::new(alloc);
     for id in &PlannedId::ALL {
         add_wish(alloc, table, *id, place, &mut wishes)?;
@@ -61,32 +57,25 @@ fn add_wish(
     Ok(())
 }
 
-/// What is wrong with a key that is to be one of these, or an id that such a table may have.
-fn fault_of(
-    alloc: Global,
-    key: &str,
-    owner: Owner,
-    keys: &[&str],
-) -> Result<Option<TableFault>, AllocError> {
-    if keys.iter().any(|known| *known == key) {
-        return Ok(None);
-    }
+/// What is wrong with a key that is none of such a table.
+fn fault_of(alloc: Global, key: &str, kind: TableKind) -> Result<TableFault, AllocError> {
     let Some(row) = ptpm_data::by_name(key) else {
-        return Ok(Some(TableFault::UnknownKey(Text::copy_of(alloc, key)?)));
+        return Ok(TableFault::UnknownKey(Text::copy_of(alloc, key)?));
     };
     match PlannedId::numbered(row.id) {
-        Some(id) => Ok(misplaced(id, owner)),
-        None => Ok(Some(TableFault::NotPlanned(Text::copy_of(alloc, key)?))),
+        Some(id) => Ok(misplaced(id, kind)),
+        None => Ok(TableFault::NotPlanned(Text::copy_of(alloc, key)?)),
     }
 }
 
-/// What is wrong with an id in such a table.
-fn misplaced(id: PlannedId, owner: Owner) -> Option<TableFault> {
-    match owner {
-        Owner::Port if !id.is_of_port() => Some(TableFault::OfClock(id)),
-        Owner::Clock | Owner::EveryClock if id.is_of_port() => Some(TableFault::OfPort(id)),
-        Owner::EveryClock if id == PlannedId::UserDescription => Some(TableFault::OneClocks),
-        _ => None,
+/// What is wrong with an id that such a table may not have.
+fn misplaced(id: PlannedId, kind: TableKind) -> TableFault {
+    if !id.is_of_port() && matches!(kind, TableKind::Port | TableKind::EveryPort) {
+        TableFault::OfClock(id)
+    } else if id.is_of_port() {
+        TableFault::OfPort(id)
+    } else {
+        TableFault::OneClocks
     }
 }
 
@@ -113,15 +102,10 @@ fn read_wished(
 fn read_utc(alloc: Global, table: &Table, place: Place) -> Result<UtcWish, FileFault>
     ensures { IfOk result (λ w. utc_in (table_view table.now) ≡ Some w) }
 {
-    for key in table.keys() {
-        match key.as_str() {
-            "currentUtcOffset" | "leap61" | "leap59" | "currentUtcOffsetValid" => {}
-            other => {
-                let name = Text::copy_of(alloc, other)?;
-                let fault = TableFault::NoMember(PlannedId::UtcProperties, name);
-                return Err(FileFault::At(place, fault));
-            }
-        }
+    if let Some(key) = other_key(table, TableKind::UtcProperties) {
+        let name = Text::copy_of(alloc, key.as_str())?;
+        let fault = TableFault::NoMember(PlannedId::UtcProperties, name);
+        return Err(FileFault::At(place, fault));
     }
     Ok(UtcWish {
         offset: member_at(alloc, table, "currentUtcOffset", place)?,

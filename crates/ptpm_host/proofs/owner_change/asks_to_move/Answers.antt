@@ -1,4 +1,4 @@
-use Rattle.std.proofs.Common.{◌≡◌, ◌∙◌, arith, ap, sym}
+use Rattle.std.proofs.Common.{◌∙◌, arith, ap, sym}
 use Rattle.ptpm_agent.proofs.Turns.{message_of-reading}
 use Rattle.ptpm_host.specs.Changing.{moves_domain_in}
 use Rattle.ptpm_host.proofs.UnderWay.{unread}

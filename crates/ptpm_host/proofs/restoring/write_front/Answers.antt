@@ -1,4 +1,4 @@
-use Rattle.std.proofs.Common.{◌≡◌, ◌∙◌, ◌++◌, ap, length, List, ℕ}
+use Rattle.std.proofs.Common.{◌∙◌, ◌++◌, ap, length, List, ℕ}
 use Rattle.ptpm_host.specs.UnderWay.{under_way_front}
 use Rattle.ptpm_host.proofs.restoring.write_front.Goals as goal
 

@@ -1,4 +1,3 @@
-use Rattle.std.proofs.Common.{◌≡◌, ◌∙◌, ap, take}
 use Rattle.ptpm_host.proofs.UnderWay.{message_front}
 use Rattle.ptpm_host.proofs.under_way.first_message.Goals as goal
 

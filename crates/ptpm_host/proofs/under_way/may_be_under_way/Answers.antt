@@ -1,4 +1,4 @@
-use Rattle.std.proofs.Common.{◌≡◌, ◌∙◌, arith, ap, false, refl, sym}
+use Rattle.std.proofs.Common.{◌∙◌, arith, ap, false, refl, sym}
 use Rattle.std.proofs.lemmas.Bool.{le-leb}
 use Rattle.std.proofs.lemmas.Bool.Decides.{nat_tests}
 use Rattle.ptpm_agent.proofs.Turns.{message_of-reading}

@@ -448,7 +448,7 @@ module _ (cmp : OrderKey → OrderKey → Ordering) (orders : OrdersRanks cmp) (
       let b = least_of 0 v e in
       by_final b.0 b.1.0 (e ∙ ap Some (sym b.1.1)) (best (length asked + 1)) refl
 
-  pub one_best : length (alterations domain asked ranks (length asked)) ≤ 1
+  one_best : length (alterations domain asked ranks (length asked)) ≤ 1
   one_best = by_present (best 0) refl
 
 -- The order that is derived has what the law takes of it.

@@ -9,5 +9,9 @@ returns g c = record {
   answered = c.in_ok-answers.ensures;
   plans = c.in_ok-plan.ensures.plan;
   left_out = c.in_ok-plan.ensures.left_out;
+  sorted = c.in_ok-plan.ensures.sorted;
+  best = c.in_ok-plan.ensures.best;
+  warnings = c.in_ok-plan.ensures.warnings;
+  report = c.in_ok-print_report.ensures;
   is = c.status_by.ensures;
 }

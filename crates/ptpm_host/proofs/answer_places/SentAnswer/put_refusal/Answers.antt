@@ -1,5 +1,5 @@
-use Rattle.std.proofs.Common.{◌≡◌, ◌∙◌, ◌++◌, ap, arith, drop, length}
-use Rattle.std.proofs.lemmas.List.{drop-append-le, drop_all, take-append-le, take_all}
+use Rattle.std.proofs.Common.{◌≡◌, ◌∙◌, ap, arith, drop, length}
+use Rattle.std.proofs.lemmas.List.{take-append-le, take_all}
 use Rattle.ptpm_host.proofs.answer_places.SentAnswer.put_refusal.Goals as goal
 
 pub returns-clause-message : goal.returns-clause-message

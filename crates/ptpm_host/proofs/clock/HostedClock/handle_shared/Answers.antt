@@ -1,4 +1,4 @@
-use Rattle.std.proofs.Common.{◌≡◌, ◌≤◌, ◌∙◌, ◌++◌, ℕ, Bool, List, ap, arith, length, rules, sym, take}
+use Rattle.std.proofs.Common.{◌≡◌, ◌≤◌, ◌∙◌, ◌++◌, ℕ, Bool, List, ap, arith, length, nat_lt, rules, sym, take}
 use Rattle.std.proofs.lemmas.Bool.Decides.{nat_tests}
 use Rattle.std.proofs.lemmas.List.{length-map, length-take-le}
 use Rattle.ptpm_agent.specs.Forwarding.{copies_if}
@@ -24,6 +24,9 @@ returns-clause-turned c =
     let p = call.new.out in
     let sets = c.args.self.now.agent.sets in
     let sent = c.pass_on-ports.ensures in
+    let here : c.room-1.given.0 ≡ p.room.now = search rules in
+    let told : nat_lt 0 c.pass_on-ports.result.1 ≡ call.result.1 = search rules in
+    let ports : c.pass_on-ports.result.0 ≡ egress_if call.result.1 c.args.port call.new.self.sets = search rules in
     let counted : c.count-count.result ≡ p.count = omega (
       arith,
       c.count-count.ensures,
@@ -32,8 +35,8 @@ returns-clause-turned c =
     ) in
     record {
       verdict_is = call.ensures.turned.verdict_is;
-      messages_are = (λ i. copies_if (sent.told i) c.args.port sets c.args.datagram.now ++ answers_in (take (counted i) p.room.now)) ∙ call.ensures.turned.outbox_is;
-      ports_are = sent.ports ∙ egress_same call.result.1 c.args.port sets call.new.self.sets call.ensures.sets ∙ sym (ap (λ (b : Bool). egress_if b c.args.port sets) sent.told);
+      messages_are = (λ i. copies_if (told i) c.args.port sets c.args.datagram.now ++ answers_in (take (counted i) (here i))) ∙ call.ensures.turned.outbox_is;
+      ports_are = ports ∙ egress_same call.result.1 c.args.port sets call.new.self.sets call.ensures.sets ∙ sym (ap (λ (b : Bool). egress_if b c.args.port sets) told);
       copy_is = sent.copy;
       stays = sent.stays;
       sets_are = call.ensures.turned.sets_are;

@@ -1,4 +1,4 @@
-use Rattle.std.proofs.Common.{arith, ◌≡◌, ◌∙◌, ◌≤◌, ◌+◌, ◌%◌, ap, false, length, refl, sym, take, List, ℕ}
+use Rattle.std.proofs.Common.{arith, ◌+◌, ◌%◌, ap, length, refl, take, List, ℕ}
 use Rattle.std.proofs.lemmas.Bool.{false≢true}
 use Rattle.ptpm_saved.specs.Image.{clock_image}
 use Rattle.ptpm_saved.specs.SavingClock.{Datagram}

@@ -1,6 +1,5 @@
 use Rattle.std.proofs.Common.{◌≡◌, ◌∙◌, ap, false, sym, true, Option}
 use Rattle.std.specs.Prelude.{MatchResult}
-use Rattle.ptpm_codec.specs.declared.identity.ClockIdentity.{ClockIdentity}
 use Rattle.ptpm_saved.specs.Image.{saved_of}
 use Rattle.ptpm_saved.specs.SavingClock.{Datagram}
 use Rattle.ptpm_host.specs.declared.refusal.ClockRestoreRefusal.TheVariants as refusals

@@ -1,4 +1,4 @@
-use Rattle.std.proofs.Common.{◌≤◌, ap, arith, length, rules, subst, sym, take}
+use Rattle.std.proofs.Common.{ap, arith, subst, sym, take}
 use Rattle.ptpm_agent.specs.Agent.{IsTurned}
 use Rattle.ptpm_agent.specs.Turn.{Turned}
 use Rattle.ptpm_device.specs.Saying as says

@@ -1,7 +1,6 @@
-use Rattle.std.proofs.Common.{◌≡◌, ap, subst, sym, take, Option, Some}
+use Rattle.std.proofs.Common.{subst, sym, take, Option, Some}
 use Rattle.std.specs.Option.{option_map}
 use Rattle.ptpm_codec.specs.declared.message.Message.{Message}
-use Rattle.ptpm_codec.specs.Reading.{message_of}
 use Rattle.ptpm_agent.specs.Turn.{numbered_from}
 use Rattle.ptpm_agent.proofs.Turns.{message_of-reading}
 use Rattle.ptpm_host.specs.declared.under_way.UnderWay.{UnderWay}

@@ -1,4 +1,4 @@
-use Rattle.std.proofs.Common.{◌≡◌, ◌∙◌, ap, refl, rules, sym, true, List, ℕ, Option, Some}
+use Rattle.std.proofs.Common.{◌≡◌, ◌∙◌, ap, refl, rules, true, Option, Some}
 use Rattle.ptpm_codec.specs.Layout.{message_octets}
 use Rattle.ptpm_saved.specs.SavingClock.{Datagram}
 use Rattle.ptpm_host.specs.UnderWay.{may_be_under_way}

@@ -1,7 +1,6 @@
 -- A change that the owner makes at the device itself, at a clock that is saved while it goes on.
-use Rattle.std.proofs.Common.{◌≡◌, ◌∙◌, ◌||◌, ◌++◌, Bool, true, false, ap, append-nil, length, refl, sym, subst, List, [], ℕ, if◌then◌else◌, rules}
+use Rattle.std.proofs.Common.{◌≡◌, ◌∙◌, ◌||◌, Bool, true, false, ap, append-nil, length, refl, sym, subst, [], ℕ, if◌then◌else◌, rules}
 use Rattle.ptpm_agent.specs.Turn.{Clock, State}
-use Rattle.ptpm_data.specs.Members.{DataSetsValue}
 use Rattle.ptpm_data.specs.Request.{RequestValue}
 use Rattle.ptpm_device.specs.Changing.{changed_state}
 use Rattle.ptpm_saved.specs.Batching.{Handles, waits}

@@ -1,7 +1,7 @@
 -- What is observed at a clock that is saved while it goes on.
-use Rattle.std.proofs.Common.{◌≡◌, ◌∙◌, ◌&&◌, Bool, true, ap, length, refl, sym, subst, List, ℕ, rules}
+use Rattle.std.proofs.Common.{◌≡◌, ◌∙◌, ◌&&◌, Bool, ap, length, refl, sym, subst, List, ℕ, rules}
 use Rattle.ptpm_agent.specs.Observing.{moved_state}
-use Rattle.ptpm_agent.specs.Turn.{Clock, State}
+use Rattle.ptpm_agent.specs.Turn.{Clock}
 use Rattle.ptpm_data.specs.declared.observation.ClockObservation.{ClockObservation}
 use Rattle.ptpm_data.specs.declared.observation.PortObservation.{PortObservation}
 use Rattle.ptpm_data.specs.Members.{DataSetsValue}

@@ -1,4 +1,4 @@
-use Rattle.std.proofs.Common.{◌≡◌, ◌+◌, ◌∙◌, ℕ, Bool, true, List, [], Ok, ap, arith, drop, rules, subst, sym, take, if◌then◌else◌}
+use Rattle.std.proofs.Common.{◌≡◌, ◌+◌, ◌∙◌, ℕ, Bool, false, true, List, [], Ok, ap, arith, drop, rules, subst, sym, take, if◌then◌else◌}
 use Rattle.std.proofs.lemmas.Grind.{common_steps}
 use Rattle.std.specs.List.{AllZip}
 use Rattle.ptpm_data.specs.Changed.{changed}
@@ -7,11 +7,20 @@ use Rattle.ptpm_device.specs.Saying as says
 use Rattle.ptpm_saved.specs.Batching.{Handles}
 use Rattle.ptpm_host.specs.declared.saving_clock.SavingClock.{SavingClock}
 use Rattle.ptpm_host.specs.Clock.{KeepsBehind, clock_in, messages_in, state_in}
-use Rattle.ptpm_host.specs.Coming.{datagram_in, turn_of}
+use Rattle.ptpm_host.specs.Coming.{Coming, datagram_in, turn_of}
 use Rattle.ptpm_host.specs.Device.{said_value, say_in}
 use Rattle.ptpm_host.specs.OutboxLaws.{kept_by_none}
 use Rattle.ptpm_host.specs.SavingClock.{LeadsTo, called_at, is_for_live, shown_state, state_asked}
 use Rattle.ptpm_host.proofs.saving_clock.SavingClock.take.Goals as goal
+
+pub returns-then-not-is_for_live-clause-called : goal.returns-then-not-is_for_live-clause-called
+returns-then-not-is_for_live-clause-called c = λ o is b count as_batch.
+    let said : say_in c.args.say.now ≡ Ok (said_value c.in-Ok.said) = c.in-Ok.ensures.said in
+    let same : said_value c.in-Ok.said ≡ o = cc in
+    let other : false ≡ c.args.of_owner = first_of (search rules, grind (arith, common_steps)) in
+    subst (λ (e : Coming). LeadsTo (messages_in (take c.take_shown.result.count c.take_shown.new.room)) c.take_shown.new.self
+    (called_at c.args.self.now b (Handles e)) count) (λ i. datagram_in c.args.port c.args.datagram.now (same i) (other i))
+    (c.take_shown.ensures.called b count as_batch)
 
 pub returns-then-not-is_for_live-clause-members : goal.returns-then-not-is_for_live-clause-members
 returns-then-not-is_for_live-clause-members c =

@@ -1,6 +1,5 @@
-use Rattle.std.proofs.Common.{◌≡◌, ◌∙◌, ap, refl, rules, subst, sym, take, true, List, ℕ, None}
+use Rattle.std.proofs.Common.{◌≡◌, ◌∙◌, ap, refl, rules, subst, take, true, List, ℕ, None}
 use Rattle.ptpm_agent.specs.Agent.{IsTurned}
-use Rattle.ptpm_agent.specs.Turn.{State}
 use Rattle.ptpm_data.specs.Changed.{changed}
 use Rattle.ptpm_device.specs.Saying.{turn_said}
 use Rattle.ptpm_saved.specs.SavingClock.{Datagram}

@@ -1,11 +1,10 @@
-use Rattle.std.proofs.Common.{◌≡◌, ◌∙◌, ap, false, refl, rules, sym, take}
+use Rattle.std.proofs.Common.{◌≡◌, ◌∙◌, ap, false, refl, rules, take}
 use Rattle.ptpm_table.specs.Tables.{owner_of_block}
 use Rattle.ptpm_host.specs.declared.clock.HostedClock.{HostedClock}
 use Rattle.ptpm_host.specs.Clock.{messages_in}
 use Rattle.ptpm_host.specs.Device.{said_value}
 use Rattle.ptpm_host.specs.SavingClock.{request_under_way}
 use Rattle.ptpm_host.proofs.AskedCalls.{asks_called, led_to}
-use Rattle.ptpm_host.proofs.ComingLaws.{said_old}
 use Rattle.ptpm_host.proofs.SavingCalls.{shown_not_new, shown_turn}
 use Rattle.ptpm_host.proofs.saving_clock.SavingClock.take_shown.Goals as goal
 

@@ -1,4 +1,4 @@
-use Rattle.std.proofs.Common.{◌≡◌, ◌∙◌, ap, take, sym}
+use Rattle.std.proofs.Common.{◌∙◌, ap, take, sym}
 use Rattle.ptpm_codec.specs.Identity.{same_identity}
 use Rattle.ptpm_codec.specs.Reading.{message_of}
 use Rattle.ptpm_agent.proofs.Turns.{message_of-reading}

@@ -1,6 +1,6 @@
-use Rattle.std.proofs.Common.{◌≡◌, ◌∙◌, ap, subst, sym}
+use Rattle.std.proofs.Common.{◌∙◌, ap, subst, sym}
 use Rattle.ptpm_agent.specs.Turn.{NumberedRequest, numbered_from}
-use Rattle.ptpm_codec.specs.Reading.{message_of, reading}
+use Rattle.ptpm_codec.specs.Reading.{message_of}
 use Rattle.ptpm_host.specs.Device.{IsAsked}
 use Rattle.ptpm_host.proofs.UnderWay.{change_read, same_read}
 use Rattle.ptpm_host.proofs.under_way.UnderWay.question.Goals as goal

@@ -1,7 +1,7 @@
 use Rattle.std.proofs.Common.{◌≡◌, take, length}
 use Rattle.ptpm_table.specs.declared.managers.TheConstants.{MOST_MANAGERS}
 use Rattle.ptpm_host.specs.Settings.{configured}
-use Rattle.ptpm_host.proofs.managers.placed.Given as goal
+use Rattle.ptpm_host.proofs.managers.place_each.Given as goal
 
 abbrev pub invariant-loop-place : goal.invariant-loop-place
 invariant-loop-place l = record {

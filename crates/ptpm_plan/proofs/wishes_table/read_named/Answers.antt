@@ -4,7 +4,7 @@ use Rattle.toml.specs.View.{table_view}
 use Rattle.ptpm_plan.specs.FileText.{all_of, wish_in, wishes_in}
 use Rattle.ptpm_plan.specs.declared.change.TheConstants.PlannedId.{ALL}
 use Rattle.ptpm_plan.proofs.Gathering.{all_found, before_all, gather_found, none_before}
-use Rattle.ptpm_plan.proofs.wishes_table.read_wishes.Goals as goal
+use Rattle.ptpm_plan.proofs.wishes_table.read_named.Goals as goal
 
 pub loop-id-init : goal.loop-id-init
 unfolding wishes_in
