@@ -24,6 +24,10 @@ pub record IsNext (o : RolloutValue) (step : ℕ) : Type 0 where
   pub can : CanBegin o.journal step
   pub free : is_held_at o step ≡ false
 
+-- no earlier step is
+abbrev pub IsFirst : RolloutValue → ℕ → Type 0
+IsFirst o step = (earlier : ℕ) → earlier < step → IsNext o earlier → ⊥
+
 -- no step is next
 abbrev pub HasNoNext : RolloutValue → Type 0
 HasNoNext o = (step : ℕ) → step < length o.steps → IsNext o step → ⊥
@@ -60,28 +64,62 @@ FirstLetGo ms count None = (step : ℕ) → step < count → slice_get ms step �
 FirstLetGo ms count (Some step) = (step < count) × (slice_get ms step ≡ Some marks.LetGo)
     × ((earlier : ℕ) → earlier < step → slice_get ms earlier ≡ Some marks.LetGo → ⊥)
 
+-- A run that gives up, or only settles what an earlier one left, asks no step.
+abbrev pub asks_steps : Choice → Bool
+asks_steps choices.Stop = true
+asks_steps choices.KeepGoing = true
+asks_steps choices.GiveUp = false
+asks_steps choices.Settle = false
+
 -- Why a run ends a change of itself. Of the first step that was refused, or answered by another value, that is the end, unless it keeps
--- going.
+-- going. Then another program's change is the end only once all steps are done.
 abbrev pub EndsBy : RolloutValue → Ending → Option ℕ → Type 0
 EndsBy o endings.Complete step = length o.steps ≡ 0
 EndsBy o endings.Refused None = ⊥
 EndsBy o endings.Refused (Some step) = (o.choice ≡ choices.Stop) × (slice_get o.journal.marks step ≡ Some marks.Refused)
 EndsBy o endings.Answered None = ⊥
 EndsBy o endings.Answered (Some step) = (o.choice ≡ choices.Stop) × (slice_get o.journal.marks step ≡ Some marks.Answered)
-EndsBy o endings.Changed step = (step ≡ None) × (o.is_changed ≡ true)
+EndsBy o endings.Changed step = (step ≡ None) × (o.is_changed ≡ true) × (asks_steps o.choice ≡ true)
+    × (o.choice ≡ choices.KeepGoing → AreDone o.journal)
 EndsBy o endings.GivenUp step = (o.choice ≡ choices.GiveUp) × FirstLetGo o.journal.marks (length o.steps) step
 EndsBy o endings.RolledBack step = ⊥
 EndsBy o endings.Stopped step = ⊥
-EndsBy o endings.InPart step = (step ≡ None) × (o.choice ≡ choices.KeepGoing) × HasNoNext o
+EndsBy o endings.InPart step = (step ≡ None) × (o.choice ≡ choices.KeepGoing) × HasNoNext o × (AreDone o.journal → ⊥)
 
 -- the step of a lane that is begun and has no answer
 abbrev pub BegunIn : RolloutValue → ℕ → Option ℕ → Type 0
 BegunIn o lane None = (step : ℕ) → step < length o.steps → clock_of o step ≡ clock_in o lane → IsBegun o.journal step → ⊥
 BegunIn o lane (Some step) = (step < length o.steps) × (clock_of o step ≡ clock_in o lane) × IsBegun o.journal step
 
--- no lane that was not looked at has such a step
+abbrev pub is_told_mark : Option Mark → Bool
+is_told_mark None = false
+is_told_mark (Some marks.Untouched) = false
+is_told_mark (Some marks.Begun) = false
+is_told_mark (Some marks.Done) = true
+is_told_mark (Some marks.Refused) = true
+is_told_mark (Some marks.Answered) = true
+is_told_mark (Some marks.LetGo) = false
+
+abbrev pub is_told : RolloutValue → ℕ → Bool
+is_told o step = is_told_mark (slice_get o.journal.marks step)
+
+-- a step of a lane whose answer is noted, or is not
+abbrev pub IsIn : RolloutValue → ℕ → Bool → ℕ → Type 0
+IsIn o lane told step = (clock_of o step ≡ clock_in o lane) × (is_told o step ≡ told)
+
+-- the latest one of a lane whose answer is noted
+abbrev pub LatestTold : RolloutValue → ℕ → Option ℕ → Type 0
+LatestTold o lane None = (step : ℕ) → step < length o.steps → IsIn o lane true step → ⊥
+LatestTold o lane (Some step) = (step < length o.steps) × IsIn o lane true step
+    × ((later : ℕ) → step < later → later < length o.steps → IsIn o lane true later → ⊥)
+
+-- no step of it is begun, and none has an answer
+unfoldable pub IsUntouched : RolloutValue → ℕ → Type 0
+IsUntouched o lane = BegunIn o lane None × LatestTold o lane None
+
+-- so it is at each lane that was not looked at
 abbrev pub HasNoneLeft : RolloutValue → Type 0
-HasNoneLeft o = (lane : ℕ) → o.seen ≤ lane → lane < length o.lanes → BegunIn o lane None
+HasNoneLeft o = (lane : ℕ) → o.seen ≤ lane → lane < length o.lanes → IsUntouched o lane
 
 -- it was refused, or answered by another value
 abbrev pub HasFailed : RolloutValue → ℕ → Type 0
@@ -96,13 +134,16 @@ pub record IsFaultless (o : RolloutValue) : Type 0 where
 abbrev pub MayGoOn : RolloutValue → Type 0
 MayGoOn o = o.choice ≡ choices.Stop → IsFaultless o
 
--- First each lane is looked at, in order; then comes the next step, and after the last one its members are read.
+-- First each lane is looked at, in order; then comes the first of the next steps, and after the last one its members are read. A run
+-- that only settles passes over each lane without a step that is begun or has an answer.
 pub data Going (time : ℕ) (o v : RolloutValue) : Type 0 where
   Looks : (lane : ℕ) → v ≡ at o (stages.Looking lane) → o.seen ≤ lane → lane < length o.lanes
-      → (o.choice ≢ choices.Settle → lane ≡ o.seen) → Going time o v
-  Checks : (step : ℕ) → v ≡ at o (stages.Checking step) → AreSeen o → IsNext o step → IsElsewhere o step → MayGoOn o → Going time o v
+      → (o.choice ≢ choices.Settle → lane ≡ o.seen) → ((earlier : ℕ) → o.seen ≤ earlier → earlier < lane → IsUntouched o earlier)
+      → Going time o v
+  Checks : (step : ℕ) → v ≡ at o (stages.Checking step) → AreSeen o → IsNext o step → IsElsewhere o step → MayGoOn o
+      → asks_steps o.choice ≡ true → IsFirst o step → Going time o v
   Reads : (step : ℕ) → v ≡ at o (stages.Reading step) → AreSeen o → IsNext o step → (IsElsewhere o step → ⊥)
-      → MayGoOn o → Going time o v
+      → MayGoOn o → asks_steps o.choice ≡ true → IsFirst o step → Going time o v
   Leaves : (lane : ℕ) → v ≡ left o lane → AreSeen o → o.choice ≡ choices.KeepGoing
       → is_left_lane (slice_get o.lanes lane) ≡ false
       → ((step : ℕ) → step < length o.steps → IsToCome o lane step → ⊥) → Going time o v

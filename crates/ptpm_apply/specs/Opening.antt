@@ -1,5 +1,5 @@
 -- A change begins, or goes on, with the journal of a file.
-use Rattle.std.specs.Prelude.{◌≡◌, ◌<◌, ◌+◌, ◌-◌, nat_lt, ℕ, false, List, [], ◌∷◌, ◌++◌, drop, length, slice_get, slice_set, take, Option, None, Some, if◌then◌else◌}
+use Rattle.std.specs.Prelude.{◌≡◌, ◌<◌, ◌+◌, ◌-◌, nat_lt, ℕ, false, List, [], ◌∷◌, ◌++◌, drop, length, slice_get, slice_set, take, Option, None, Some, Ok, if◌then◌else◌}
 use Rattle.ptpm_journal.specs.declared.reading.Found.{Found}
 use Rattle.ptpm_journal.specs.declared.reading.Next.{Next}
 use Rattle.ptpm_journal.specs.declared.record.Note.{Note}
@@ -8,7 +8,9 @@ use Rattle.ptpm_journal.specs.declared.record.Record.{Record}
 use Rattle.ptpm_journal.specs.declared.record.Record.TheVariants as records
 use Rattle.ptpm_journal.specs.declared.record.Step.{Step}
 use Rattle.ptpm_journal.specs.Journal.{State}
-use Rattle.ptpm_journal.specs.Turns.{IsRead}
+use Rattle.ptpm_journal.specs.Turns.{IsRead, lead_in}
+use Rattle.ptpm_journal.specs.Frames.{frame_at}
+use Rattle.ptpm_journal.specs.declared.framing.Frame.TheVariants as frames
 use Rattle.ptpm_apply.specs.declared.choice.Choice.{Choice}
 use Rattle.ptpm_apply.specs.declared.choice.Choice.TheVariants as choices
 use Rattle.ptpm_apply.specs.Going.{FirstLetGo, is_left_lane}
@@ -62,6 +64,12 @@ pub data AreRead (octets : List ℕ) : ℕ → State → ℕ → List Planned �
       → AreRead octets place s crc steps numbers → IsRead s crc (drop place octets) n t later
       → Takes n.found (drop (n.lead + 2) (drop place octets)) steps more numbers others
       → AreRead octets (place + n.lead + n.size + 6) t later more others
+
+-- no further record was written whole from a place on
+pub record IsReadOut (octets : List ℕ) (place : ℕ) (s : State) (crc : ℕ) : Type 0 where
+  pub lead : ℕ
+  pub is_lead : lead_in s.head (drop place octets) ≡ Ok lead
+  pub torn : frame_at crc (drop lead (drop place octets)) ≡ frames.Torn
 
 -- what is to be done; a change with a step that is given up can only be given up
 abbrev pub chosen : Choice → Option ℕ → Choice

@@ -5,7 +5,6 @@ use Rattle.ptpm_codec.specs.declared.message.Action.{Action}
 use Rattle.ptpm_codec.specs.declared.message.Action.TheVariants as actions
 use Rattle.ptpm_data.specs.Request.{RequestValue}
 use Rattle.ptpm_journal.specs.declared.record.Ending.TheVariants as endings
-use Rattle.ptpm_journal.specs.declared.record.Mark.{Mark}
 use Rattle.ptpm_journal.specs.declared.record.Mark.TheVariants as marks
 use Rattle.ptpm_journal.specs.declared.record.Note.TheVariants as notes
 use Rattle.ptpm_journal.specs.declared.record.Outcome.TheVariants as outcomes
@@ -29,7 +28,7 @@ use Rattle.ptpm_apply.specs.declared.stage.Then.{Then}
 use Rattle.ptpm_apply.specs.declared.stage.Then.TheVariants as thens
 use Rattle.ptpm_apply.specs.declared.standing.Standing.{Standing}
 use Rattle.ptpm_apply.specs.declared.standing.Standing.TheVariants as standings
-use Rattle.ptpm_apply.specs.Going.{BegunIn, ChangingAt, Failing, FailingAt, Going}
+use Rattle.ptpm_apply.specs.Going.{BegunIn, ChangingAt, Failing, FailingAt, Going, IsIn, LatestTold}
 use Rattle.ptpm_apply.specs.InFile.{in_file_of, session_in}
 use Rattle.ptpm_apply.specs.Rollout.{RolloutValue, at, clock_in, clock_of, domain_of, ended, held, is_after, is_before, lane_of, last_domain, moved_by, noted_with}
 use Rattle.ptpm_apply.specs.Standing.{standing_of}
@@ -210,37 +209,15 @@ LetGoIn o lane None = (step : ℕ) → step < length o.steps → clock_of o step
 LetGoIn o lane (Some step) = (step < length o.steps) × (clock_of o step ≡ clock_in o lane)
     × (slice_get o.journal.marks step ≡ Some marks.LetGo)
 
-abbrev pub is_told_mark : Option Mark → Bool
-is_told_mark None = false
-is_told_mark (Some marks.Untouched) = false
-is_told_mark (Some marks.Begun) = false
-is_told_mark (Some marks.Done) = true
-is_told_mark (Some marks.Refused) = true
-is_told_mark (Some marks.Answered) = true
-is_told_mark (Some marks.LetGo) = false
-
-abbrev pub is_told : RolloutValue → ℕ → Bool
-is_told o step = is_told_mark (slice_get o.journal.marks step)
-
 abbrev pub either : Option ℕ → Option ℕ → Option ℕ
 either None other = other
 either (Some step) other = Some step
 
--- a step of a lane whose answer is noted, or is not
-abbrev pub IsIn : RolloutValue → ℕ → Bool → ℕ → Type 0
-IsIn o lane told step = (clock_of o step ≡ clock_in o lane) × (is_told o step ≡ told)
-
--- the first of these
+-- the first step of a lane whose answer is noted, or is not
 abbrev pub FirstIn : RolloutValue → ℕ → Bool → Option ℕ → Type 0
 FirstIn o lane told None = (step : ℕ) → step < length o.steps → IsIn o lane told step → ⊥
 FirstIn o lane told (Some step) = (step < length o.steps) × IsIn o lane told step
     × ((earlier : ℕ) → earlier < step → IsIn o lane told earlier → ⊥)
-
--- the latest one whose answer is noted
-abbrev pub LatestTold : RolloutValue → ℕ → Option ℕ → Type 0
-LatestTold o lane None = (step : ℕ) → step < length o.steps → IsIn o lane true step → ⊥
-LatestTold o lane (Some step) = (step < length o.steps) × IsIn o lane true step
-    × ((later : ℕ) → step < later → later < length o.steps → IsIn o lane true later → ⊥)
 
 abbrev pub number_at : RolloutValue → Option ℕ → Option ℕ
 number_at o None = None
@@ -392,6 +369,11 @@ DoneAt time o _ v = ⊥
 abbrev pub heard_value : Bool → Heard
 heard_value true = hears.Wanted
 heard_value false = hears.Other
+
+-- a value comes, which is compared
+abbrev pub has_value : Event → Bool
+has_value (events.Value octets) = true
+has_value _ = false
 
 -- what an event makes of it
 abbrev pub Turned : ℕ → RolloutValue → Event → RolloutValue → Type 0

@@ -24,8 +24,8 @@ impl Rollout {
     ghost use Rattle.std.specs.Prelude.{◌≡◌, ◌<◌, ◌≤◌, ◌⊎◌, ◌↔◌, ◌+◌, ℕ, [], IfSome, IfNone, IsTrue, Some, None, false, true, length, slice_get};
     ghost use Rattle.ptpm_journal.specs.declared.record.Mark.{Mark};
     ghost use Rattle.ptpm_apply.specs.Rollout.{IsBegun, clock_in, clock_of};
-    ghost use Rattle.ptpm_apply.specs.Going.{BegunIn};
-    ghost use Rattle.ptpm_apply.specs.Turning.{FirstIn, FoundAt, GivesUp, IsDomainIn, IsIn, LatestTold, LetGoIn, SeesTo, Yields, awaits_file, begun_of, either, is_of_step, is_told, number_at, standing_at};
+    ghost use Rattle.ptpm_apply.specs.Going.{BegunIn, IsIn, LatestTold, is_told};
+    ghost use Rattle.ptpm_apply.specs.Turning.{FirstIn, FoundAt, GivesUp, IsDomainIn, LetGoIn, SeesTo, Yields, awaits_file, begun_of, either, is_of_step, number_at, standing_at};
 
     pub(crate) fn find(&mut self, time: u64, image: &[u8])
         requires { awaits_file self.old.stage ≡ true }

@@ -14,7 +14,7 @@ impl Rollout {
     ghost use Rattle.std.specs.Prelude.{◌≡◌, ◌≢◌, ◌<◌, ◌≤◌, ◌⊎◌, ◌↔◌, ℕ, IfSome, IfNone, IsTrue, Some, None, false, true, length, slice_get};
     ghost use Rattle.ptpm_apply.specs.declared.choice.Choice.{Choice};
     ghost use Rattle.ptpm_apply.specs.declared.stage.Stage.{Stage};
-    ghost use Rattle.ptpm_apply.specs.Going.{AreDone, AreSeen, BegunIn, EndsBy, FirstLetGo, Going, HasFailed, HasNoNext, HasNoneLeft, IsElsewhere, IsNext, IsToCome, MayGoOn, is_left_lane, left};
+    ghost use Rattle.ptpm_apply.specs.Going.{AreDone, AreSeen, EndsBy, FirstLetGo, Going, HasFailed, HasNoNext, HasNoneLeft, IsElsewhere, IsFirst, IsNext, IsToCome, IsUntouched, MayGoOn, asks_steps, is_left_lane, left};
     ghost use Rattle.ptpm_apply.specs.Rollout.{CanBegin, is_held_at};
     ghost use Rattle.ptpm_apply.specs.Turning.{BegunAt, CheckedAt, DoneAt, Follows, awaits_check, awaits_done, awaits_number};
 
@@ -103,6 +103,7 @@ impl Rollout {
     fn next_unseen(&self) -> Option<u16>
         ensures later { IfSome result (λ lane. (self.now.seen ≤ lane) × (lane < length self.now.lanes)) }
         ensures next { IfSome result (λ lane. self.now.choice ≢ Choice.Settle → lane ≡ self.now.seen) }
+        ensures passed { IfSome result (λ lane. (earlier : ℕ) → self.now.seen ≤ earlier → earlier < lane → IsUntouched self.now earlier) }
         ensures none { IfNone result (self.now.choice ≢ Choice.Settle → AreSeen self.now) }
         ensures left { IfNone result (HasNoneLeft self.now) }
     {
@@ -114,9 +115,10 @@ impl Rollout {
         None
     }
 
-    /// Whether a step of it was begun.
+    /// Whether a step of it is begun, or has an answer.
+    #[tactic(auto, unfolding(crate::specs::Going::IsUntouched))]
     fn is_touched(&self, lane: u16) -> bool
-        ensures { result ≡ false → BegunIn self.now lane None }
+        ensures { result ≡ false → IsUntouched self.now lane }
     {
         self.begun_in(lane).is_some() || self.latest_told(lane).is_some()
     }
@@ -185,6 +187,7 @@ impl Rollout {
     /// The first step that may be begun now, of a clock that is not held.
     fn next_step(&self) -> Option<u16>
         ensures found { IfSome result (λ step. IsNext self.now step) }
+        ensures first { IfSome result (λ step. IsFirst self.now step) }
         ensures none { IfNone result (HasNoNext self.now) }
     {
         for step in 0..self.step_count() {
@@ -277,6 +280,8 @@ impl Rollout {
         requires seen { AreSeen self.old }
         requires next { IsNext self.old step }
         requires goes_on { MayGoOn self.old }
+        requires asks { asks_steps self.old.choice ≡ true }
+        requires first { IsFirst self.old step }
         ensures { Going time self.old self.new }
     {
         if self.is_elsewhere(step) {

@@ -13,15 +13,16 @@ use std::alloc::AllocError;
 const ANSWER_OCTETS: usize = 258;
 
 impl Rollout {
-    ghost use Rattle.std.specs.Prelude.{◌≡◌, ◌<◌, ◌≢◌, IfOk, Some, false, true, length, slice_get, option_map};
+    ghost use Rattle.std.specs.Prelude.{◌≡◌, ◌<◌, ◌≢◌, IfOk, OnErr, Some, false, true, length, slice_get, option_map};
     ghost use Rattle.ptpm_apply.specs.declared.heard.Heard.{Heard};
     ghost use Rattle.ptpm_apply.specs.Going.{FailingAt};
     ghost use Rattle.ptpm_apply.specs.Rollout.{CanBegin, IsBegun, domain_of, is_after, is_before, moved_by};
-    ghost use Rattle.ptpm_apply.specs.Turning.{HeardAfter, HeardAnswer, HeardAt, HeardBefore, HeardOther, HeardSettled, Seeking, is_heard, is_wanted, told};
+    ghost use Rattle.ptpm_apply.specs.Turning.{HeardAfter, HeardAnswer, HeardAt, HeardBefore, HeardOther, HeardSettled, Seeking, has_value, is_heard, is_wanted, told};
 
     /// Whether a value is the one that is looked for.
     pub(crate) fn is_wanted(&self, event: &Event<'_>) -> Result<bool, AllocError>
-        ensures { IfOk result (λ b. b ≡ is_wanted self.now event.now) }
+        ensures wanted { IfOk result (λ b. b ≡ is_wanted self.now event.now) }
+        ensures memory { OnErr result (has_value event.now ≡ true) }
     {
         let Event::Value { octets } = event else {
             return Ok(false);

@@ -2,7 +2,7 @@
 
 ghost use Rattle.std.specs.Prelude.{◌≡◌, ◌≤◌, ◌+◌, drop, length, take, IfOk, IsTrue, OnOk};
 ghost use Rattle.ptpm_journal.specs.State.{state_of};
-ghost use Rattle.ptpm_apply.specs.Opening.{AreRead, IsBelow, IsPlanned, Takes, chosen, noted_number};
+ghost use Rattle.ptpm_apply.specs.Opening.{AreRead, IsBelow, IsPlanned, IsReadOut, Takes, chosen, noted_number};
 
 use crate::choice::{Choice, OpenError};
 use crate::going::first_let_go;
@@ -33,13 +33,14 @@ impl Rollout {
     ghost use Rattle.std.specs.Prelude.{◌≡◌, ◌<◌, ℕ, false, length, true, IfOk, IsTrue};
     ghost use Rattle.ptpm_journal.specs.Journal.{goes_on};
     ghost use Rattle.ptpm_apply.specs.declared.stage.Stage.{Stage};
-    ghost use Rattle.ptpm_apply.specs.Opening.{AreApart, AreCovered, AreNewLanes, AreRead, IsChosen, IsNewLane};
+    ghost use Rattle.ptpm_apply.specs.Opening.{AreApart, AreCovered, AreNewLanes, AreRead, IsChosen, IsNewLane, IsReadOut};
     ghost use Rattle.ptpm_apply.specs.Rollout.{clock_in, clock_of};
 
     /// A change with the journal that a file has, and how many octets of it were written whole. It is refused for the first reason that holds.
     /// If a step is given up, the change can only be given up.
     pub fn open(alloc: Global, octets: &[u8], choice: Choice) -> Result<(Rollout, usize), OpenError>
         ensures read { IfOk result (λ r. AreRead octets.now r.1 r.0.journal r.0.crc r.0.steps r.0.numbers) }
+        ensures all { IfOk result (λ r. IsReadOut octets.now r.1 r.0.journal r.0.crc) }
         ensures goes_on { IfOk result (λ r. goes_on r.0.journal ≡ true) }
         ensures fresh { IfOk result (λ r. (r.0.stage ≡ Stage.Fresh) × (r.0.seen ≡ 0) × (r.0.is_changed ≡ false)) }
         ensures covered { IfOk result (λ r. AreCovered r.0) }
@@ -162,8 +163,9 @@ fn is_below(one: Option<u64>, other: Option<u64>) -> bool
 
 /// Reads the records of a file.
 fn read(alloc: Global, octets: &[u8]) -> Result<Reading, OpenError>
-    ensures { IfOk result
+    ensures read { IfOk result
         (λ r. AreRead octets.now r.whole (state_of r.journal) r.journal.crc r.steps.items r.numbers.items) }
+    ensures all { IfOk result (λ r. IsReadOut octets.now r.whole (state_of r.journal) r.journal.crc) }
 {
     let mut journal = Journal::new(alloc);
     let mut steps = Vec::new(alloc);

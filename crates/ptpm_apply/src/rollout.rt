@@ -48,7 +48,7 @@ impl Rollout {
     ghost use Rattle.ptpm_apply.specs.declared.choice.TurnError.{TurnError};
     ghost use Rattle.ptpm_apply.specs.Rollout.{clock_in, clock_of, domain_of, lane_of, last_domain};
     ghost use Rattle.ptpm_apply.specs.Moves.{IsMove};
-    ghost use Rattle.ptpm_apply.specs.Turning.{Turned, action_of, answers, is_wanted};
+    ghost use Rattle.ptpm_apply.specs.Turning.{Turned, action_of, answers, has_value, is_wanted};
 
     /// Takes what came of the latest action, at a time in seconds since 1970, and hands out the next one. If it is refused, nothing
     /// changes. Memory is asked for the comparison of values alone.
@@ -56,6 +56,7 @@ impl Rollout {
         ensures turned { IfOk result (λ a. Turned time self.old event.entry self.new) }
         ensures action { IfOk result (λ a. a ≡ action_of self.new self.new.stage) }
         ensures out_of_turn { result ≡ Err TurnError.OutOfTurn ↔ (answers self.old.stage event.entry ≡ false) }
+        ensures memory { result ≡ Err TurnError.OutOfMemory → has_value event.entry ≡ true }
         ensures unchanged { OnErr result (self.new ≡ self.old) }
         ensures moves { OnOk result (IsMove self.old event.entry self.new) }
     {

@@ -7,8 +7,8 @@ ghost use Rattle.ptpm_apply.specs.declared.event.Event.{Event};
 ghost use Rattle.ptpm_apply.specs.declared.stage.Stage.{Stage};
 ghost use Rattle.ptpm_apply.specs.Opening.{AreApart, AreCovered, AreRead, IsChosen};
 ghost use Rattle.ptpm_apply.specs.Rollout.{RolloutValue};
-ghost use Rattle.ptpm_apply.specs.Turning.{Turned, action_of, answers};
-ghost use Rattle.ptpm_host.specs.Numbers.{no_room};
+ghost use Rattle.ptpm_apply.specs.Turning.{Turned, action_of, answers, has_value};
+ghost use Rattle.ptpm_host.specs.Numbers.{no_memory, no_room};
 ghost use Rattle.ptpm_host.specs.Rollout.{choice_of, event_of, no_action, no_choice, no_rollout, out_of_turn, plain_action};
 ghost use Rattle.ptpm_c.specs.declared.kept.Hosted.TheVariants.{Nothing};
 ghost use Rattle.ptpm_c.specs.Held.{held};
@@ -75,6 +75,8 @@ pub extern "C" fn ptpm_rollout_turn(
     ensures out_of_turn { (r : RolloutValue) (e : Event) → rollout_held handle.old.keeping ≡ Some r
         → event_of event.now octets.entry ≡ Some e
         → result ≡ out_of_turn ↔ (answers r.stage e ≡ false) }
+    ensures memory { (r : RolloutValue) (e : Event) → rollout_held handle.old.keeping ≡ Some r
+        → event_of event.now octets.entry ≡ Some e → result ≡ no_memory → has_value e ≡ true }
     ensures no_event { (r : RolloutValue) → rollout_held handle.old.keeping ≡ Some r
         → event_of event.now octets.entry ≡ None → result ≡ out_of_turn }
     ensures unchanged { (r : RolloutValue) → rollout_held handle.old.keeping ≡ Some r → result ≢ 0

@@ -27,6 +27,7 @@ pub record IsAsked (r : NumberedRequest) (a : Question) : Type 0 where
   pub id : a.id ≡ r.request.id
   pub port : a.port ≡ r.request.port
   pub octets : length r.request.octets ≤ 130 → take a.size a.octets ≡ r.request.octets
+  pub size : a.size ≤ 130
 
 -- nothing is asked
 pub record AsksNothing (a : Question) : Type 0 where

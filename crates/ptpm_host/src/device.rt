@@ -98,7 +98,8 @@ pub enum Asking {
 
 /// Leaves a dataField at the head of a place, and answers how many octets it has; 0 if it doesn't fit.
 fn put_field(place: &mut [u8; MOST_ASKED], field: &[u8]) -> u16
-    ensures { length field.now ≤ 130 → take result place.new ≡ field.now }
+    ensures octets { length field.now ≤ 130 → take result place.new ≡ field.now }
+    ensures inside { result ≤ 130 }
 {
     if MOST_ASKED < field.len() {
         return 0;

@@ -134,8 +134,8 @@ pub fn put_back_judged<T: SureTable + Drop>(
     let Some(entries) = find_entries(image) else {
         unreachable!()
     };
-    let room = AnswerRoom::new(alloc, agent.sets().port_count())?;
-    Ok(keep_entries(&entries, room, agent))
+    let mut room = AnswerRoom::new(alloc, agent.sets().port_count())?;
+    Ok(keep_entries(&entries, &mut room, agent))
 }
 
 /// Judges what the head says.
@@ -173,8 +173,8 @@ fn read_body(alloc: Global, image: &[u8], sets: &mut DataSets) -> Result<bool, O
     if !is_begun {
         return Ok(false);
     }
-    let room = AnswerRoom::new(alloc, sets.port_count())?;
-    Ok(judge_entries(&entries, room))
+    let is_whole = are_entries(alloc, &entries, sets.port_count())?;
+    Ok(is_whole)
 }
 
 /// The entries of an image, which begin after the octets that its data sets take by the numbers in them. `None` if the data sets
@@ -225,14 +225,29 @@ fn is_head(front: &[u8], size: usize) -> bool
     front == head(size % 4_294_967_296).as_slice()
 }
 
+/// Whether these are the entries of the image of a clock of this many ports. Never inlined: so the stack has the answers of an
+/// entry only for this call.
+#[inline(never)]
+fn are_entries(alloc: Global, entries: &SavedEntries<'_>, ports: u16) -> Result<bool, OutOfMemory>
+    ensures sound { IfOk result (λ are. IsTrue are
+        → (es : List (PortIdentity × Entry)) × AreEntries (max INLINE_PORTS ports) es
+        × (length es ≡ entries.now.count) × (entries.now.octets.now ≡ entries_image es)) }
+    ensures found { (es : List (PortIdentity × Entry)) → AreEntries (max INLINE_PORTS ports) es
+        → length es ≡ entries.now.count → entries.now.octets.now ≡ entries_image es
+        → IfOk result (λ are. IsTrue are) }
+{
+    let mut room = AnswerRoom::new(alloc, ports)?;
+    Ok(judge_entries(entries, &mut room))
+}
+
 /// Whether there are this many entries in the order of their managers, and nothing else. They are read, and none is kept. Never
 /// inlined.
 #[inline(never)]
-fn judge_entries(entries: &SavedEntries<'_>, room: AnswerRoom) -> bool
+fn judge_entries(entries: &SavedEntries<'_>, room: &mut AnswerRoom) -> bool
     ensures sound { IsTrue result
-        → (es : List (PortIdentity × Entry)) × AreEntries room.most es
+        → (es : List (PortIdentity × Entry)) × AreEntries room.old.most es
         × (length es ≡ entries.now.count) × (entries.now.octets.now ≡ entries_image es) }
-    ensures found { (es : List (PortIdentity × Entry)) → AreEntries room.most es
+    ensures found { (es : List (PortIdentity × Entry)) → AreEntries room.old.most es
         → length es ≡ entries.now.count → entries.now.octets.now ≡ entries_image es
         → IsTrue result }
 {
@@ -240,11 +255,10 @@ fn judge_entries(entries: &SavedEntries<'_>, room: AnswerRoom) -> bool
     if MOST_MANAGERS < count as usize {
         return false;
     }
-    let mut room = room;
     let mut octets = entries.octets;
     let mut after = None;
     for _place in 0..count {
-        let Some((entry, rest)) = read_entry(octets, &mut room) else {
+        let Some((entry, rest)) = read_entry(octets, room) else {
             return false;
         };
         if !comes_after(&entry.manager, after) {
@@ -260,13 +274,13 @@ fn judge_entries(entries: &SavedEntries<'_>, room: AnswerRoom) -> bool
 #[inline(never)]
 fn keep_entries<T: SureTable + Drop>(
     entries: &SavedEntries<'_>,
-    room: AnswerRoom,
+    room: &mut AnswerRoom,
     agent: &mut Agent<T>,
 ) -> u8
-    requires entries { (es : List (PortIdentity × Entry)) × AreEntries room.most es
+    requires entries { (es : List (PortIdentity × Entry)) × AreEntries room.old.most es
         × (length es ≡ entries.now.count) × (entries.now.octets.now ≡ entries_image es) }
-    requires room { room.most ≤ T.most agent.old.table }
-    ensures kept { (es : List (PortIdentity × Entry)) → AreEntries room.most es
+    requires room { room.old.most ≤ T.most agent.old.table }
+    ensures kept { (es : List (PortIdentity × Entry)) → AreEntries room.old.most es
         → length es ≡ entries.now.count → entries.now.octets.now ≡ entries_image es
         → IsRestored (T.owner agent.old.table).managers es (T.entries agent.old.table)
         (T.entries agent.new.table) result }
@@ -274,11 +288,10 @@ fn keep_entries<T: SureTable + Drop>(
     ensures owner { T.owner agent.new.table ≡ T.owner agent.old.table }
     ensures most { T.most agent.new.table ≡ T.most agent.old.table }
 {
-    let mut room = room;
     let mut octets = entries.octets;
     let mut gone = 0;
     for _place in 0..entries.count {
-        let Some((entry, rest)) = read_entry(octets, &mut room) else {
+        let Some((entry, rest)) = read_entry(octets, room) else {
             unreachable!()
         };
         let lost = keep(agent, &entry, room.as_slice());

@@ -28,7 +28,7 @@ unreachable-requires g c =
     let r = c.requires.entries in
     let so_far = c.loop-place.invariant.so_far r.0 r.1 r.2 r.3 in
     let inside : c.loop-place._place < length r.0 = omega (arith, c.loop-place-test.true, r.2) in
-    let f = in_front c.args.room.most r.0 c.loop-place._place c.loop-place.octets.now r.1 inside so_far.rest_is in
+    let f = in_front c.args.room.now.most r.0 c.loop-place._place c.loop-place.octets.now r.1 inside so_far.rest_is in
     c.in_default.ensures.found f.entry _ (subst (λ n. EntryIsSound n f.entry) (sym c.loop-place.invariant.room) f.sound) f.octets_are
 
 pub keep-lost-requires-clause-keepable : goal.keep-lost-requires-clause-keepable
@@ -65,7 +65,7 @@ loop-place-preserved g c =
       small = omega (arith, c.loop-place.invariant.small, lost, c.keep-lost.ensures.gone);
       so_far = λ es entries size is.
           let inside : c.loop-place._place < length es = omega (arith, c.loop-place-test.true, size) in
-          keep_on c.args.room.most (g.T.ReplyTable.owner c.args.agent.now.table).managers es c.loop-place._place c.loop-place.octets.now c.in-Some.rest.now
+          keep_on c.args.room.now.most (g.T.ReplyTable.owner c.args.agent.now.table).managers es c.loop-place._place c.loop-place.octets.now c.in-Some.rest.now
           (g.T.ReplyTable.entries c.args.agent.now.table) (g.T.ReplyTable.entries c.loop-place.agent.table)
           (g.T.ReplyTable.entries c.keep-lost.new.agent.table) c.loop-place.gone _ e (c.loop-place.invariant.so_far es entries size is) entries inside
           (λ d rest sound front. c.in-Some.ensures.found d rest (subst (λ n. EntryIsSound n d) (sym c.loop-place.invariant.room) sound) front)

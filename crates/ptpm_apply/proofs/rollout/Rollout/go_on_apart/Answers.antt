@@ -1,6 +1,6 @@
-use Rattle.std.proofs.Common.{◌∙◌, None, ap, refl, sym}
+use Rattle.std.proofs.Common.{◌∙◌, None, ap, refl, rules, sym}
 use Rattle.ptpm_journal.specs.declared.record.Ending.TheVariants as endings
-use Rattle.ptpm_apply.specs.Going.{Ends, Leaves}
+use Rattle.ptpm_apply.specs.Going.{Ends, Leaves, asks_steps}
 use Rattle.ptpm_apply.specs.Rollout.{RolloutValue}
 use Rattle.ptpm_apply.proofs.rollout.Rollout.go_on_apart.Goals as goal
 
@@ -12,9 +12,9 @@ returns-in-Some c =
 pub returns-then-not-are_done : goal.returns-then-not-are_done
 returns-then-not-are_done c =
     Ends endings.InPart None c.end.ensures
-    (refl, c.requires.keeps_going, (c.in_default-next_step.ensures {u = tt}).none) c.requires.seen
+    (refl, c.requires.keeps_going, (c.in_default-next_step.ensures {u = tt}).none, λ done. cc (c.are_done.ensures.1 done, c.if-not-are_done.true)) c.requires.seen
 
 pub returns-then-self : goal.returns-then-self
 returns-then-self c =
     Ends endings.Changed None c.end-then-self.ensures
-    (refl, sym (ap (λ (o : RolloutValue). o.is_changed) c.self.view_is) ∙ c.if-self.true) c.requires.seen
+    (refl, sym (ap (λ (o : RolloutValue). o.is_changed) c.self.view_is) ∙ c.if-self.true, ap asks_steps c.requires.keeps_going, λ keeps. c.are_done.ensures.0 (search rules)) c.requires.seen

@@ -1,13 +1,13 @@
 use Rattle.std.proofs.Common.{◌∙◌, None, Some, ap, refl, sym}
 use Rattle.ptpm_journal.specs.declared.record.Ending.TheVariants as endings
-use Rattle.ptpm_apply.specs.Going.{Ends}
+use Rattle.ptpm_apply.specs.Going.{Ends, asks_steps}
 use Rattle.ptpm_apply.specs.Rollout.{RolloutValue}
 use Rattle.ptpm_apply.proofs.rollout.Rollout.go_on_in_row.Goals as goal
 
 pub returns-then-self : goal.returns-then-self
 returns-then-self c =
     Ends endings.Changed None c.end.ensures
-    (refl, sym (ap (λ (o : RolloutValue). o.is_changed) c.self.view_is) ∙ c.if-self.true) c.requires.seen
+    (refl, sym (ap (λ (o : RolloutValue). o.is_changed) c.self.view_is) ∙ c.if-self.true, ap asks_steps c.requires.stops, λ keeps. cc (c.requires.stops, keeps)) c.requires.seen
 
 pub returns-in-Some : goal.returns-in-Some
 returns-in-Some c =

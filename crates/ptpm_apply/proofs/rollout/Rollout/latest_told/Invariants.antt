@@ -1,5 +1,5 @@
 use Rattle.std.proofs.Common.{◌<◌, ◌≤◌, ℕ, true, length}
-use Rattle.ptpm_apply.specs.Turning.{IsIn}
+use Rattle.ptpm_apply.specs.Going.{IsIn}
 use Rattle.ptpm_apply.proofs.rollout.Rollout.latest_told.Given as goal
 
 abbrev pub invariant-loop-step : goal.invariant-loop-step
