@@ -18,11 +18,12 @@
      its size. No call is made from a signal handler, or in a forked child of a process with threads.
    - A call has the stack that it needs. As the library is built for x86-64 and aarch64, most calls take 600 octets. The call
      ptpm_clock_take takes 10,200, ptpm_clock_decide 8,800, and the restore of a clock 8,300. The calls ptpm_clock_set and
-     ptpm_clock_saving take 7,700, ptpm_clock_image_of 6,600, and a start of a clock 5,200. The call ptpm_rollout_turn takes 5,200, ptpm_journal_add 4,800,
-     and the restore of an asker 4,600. The call ptpm_clock_image takes 2,800, ptpm_clock_observe 2,600, and ptpm_field_parse
-     2,200. The calls ptpm_clock_ask and ptpm_clock_undertake take 1,700 each, and so does the message of a survey. The call
-     ptpm_rollout_open takes 1,500. The images and the restore of a session take 1,000, and so do ptpm_asker_ask and
-     ptpm_asker_wake. The calls ptpm_clock_handle and ptpm_clock_handle_shared take 800.
+     ptpm_clock_saving take 7,700, ptpm_clock_image_of 6,600, and a start of a clock 5,200. The call ptpm_rollout_turn takes
+     5,200, ptpm_journal_add 4,800, and the restore of an asker 4,600. The call ptpm_clock_image takes 2,800,
+     ptpm_clock_observe 2,600, and ptpm_field_parse 2,200. The calls ptpm_clock_ask and ptpm_clock_undertake take 1,700 each,
+     and so does the message of a survey. The call ptpm_rollout_open takes 1,500. The images and the restore of a session
+     take 1,000, and so do ptpm_asker_ask and ptpm_asker_wake. The calls ptpm_clock_handle and ptpm_clock_handle_shared take
+     800.
      As C it takes more (docs/embedding.md, "On any other processor"). Beyond that a call takes the stack of the host's malloc,
      realloc, free, memcpy, memmove and memset. No call calls itself.
 
