@@ -102,7 +102,7 @@ class Task:
         number = id_of(text)
         is_number = id_name(number) == f"{number:04x}"
         if self.words.verb in ("set", "command") and is_number and not re.fullmatch("(0[xX])?[0-9a-fA-F]{4}", text):
-            raise ValueError(f"{text}: it is only read by its name; {self.words.verb} takes {number:04x}")
+            raise ValueError(f"{text}: by its name it can only be read; to {self.words.verb} it, write {number:04x}")
         return number
 
     def _read_target(self, text: str) -> None:

@@ -197,7 +197,7 @@ static bool tell_found(const struct domains *domains) {
     const char *plural = found->clocks == 1 ? "" : "s";
     if (found->is_sure && found->late == 0) complain("%zu clock%s answered, and two more rounds brought nothing new", found->clocks, plural);
     else if (found->is_sure) {
-        complain("%zu clock%s answered in %zu rounds; %zu answers came only after the first one: messages are lost", found->clocks, plural,
+        complain("%zu clock%s answered in %zu rounds; %zu answers came only after the first round: messages are lost", found->clocks, plural,
                  found->rounds, found->late);
     }
     return name_silent_domains(domains) && found->is_sure && found->left_out == 0;

@@ -547,7 +547,7 @@ static void tell_sureness(void) {
         complain("there is room for %d clocks and %d answers: %lu more answers are left out", MOST_CLOCKS, MOST_KEPT, known->left_out);
     }
     if (!known->is_sure && !stopped && sent > 0) {
-        complain("%zu clocks answered in %zu rounds, and more may be there: %zu answers came only after the first one", known->clocks,
+        complain("%zu clocks answered in %zu rounds, and more may be there: %zu answers came only after the first round", known->clocks,
                  known->rounds, known->late);
     }
 }

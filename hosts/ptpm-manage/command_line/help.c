@@ -70,7 +70,7 @@ static const char site_text[] =
     "      --probe             plan also sends each clock a SET that changes nothing. With apply each\n"
     "                          member first gets a SET of its present value\n"
     "      --status-if-changes plan ends with status 8 if there are changes\n"
-    "      --expect PLAN       apply sends nothing unless its plan has these eight digits\n"
+    "      --expect PLAN       apply sends nothing unless its plan is PLAN, eight digits\n"
     "      --skip-unreached    apply leaves out what is not reached, and names it\n"
     "      --keep-going        apply goes on at other clocks if one fails; so does resume\n"
     "      --limit CLOCK,..    apply changes only these clocks\n"
