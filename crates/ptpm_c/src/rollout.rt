@@ -5,7 +5,7 @@ ghost use Rattle.ptpm_journal.specs.Journal.{goes_on};
 ghost use Rattle.ptpm_apply.specs.declared.choice.Choice.{Choice};
 ghost use Rattle.ptpm_apply.specs.declared.event.Event.{Event};
 ghost use Rattle.ptpm_apply.specs.declared.stage.Stage.{Stage};
-ghost use Rattle.ptpm_apply.specs.Opening.{AreApart, AreCovered, AreRead, IsChosen};
+ghost use Rattle.ptpm_apply.specs.Opening.{AreApart, AreCovered, AreNewLanes, AreRead, IsChosen, IsReadOut};
 ghost use Rattle.ptpm_apply.specs.Rollout.{RolloutValue};
 ghost use Rattle.ptpm_apply.specs.Turning.{Turned, action_of, answers, has_value};
 ghost use Rattle.ptpm_host.specs.Numbers.{no_memory, no_room};
@@ -36,6 +36,9 @@ pub extern "C" fn ptpm_rollout_open(
         (λ r. AreRead journal.now whole.new r.journal r.crc r.steps r.numbers × (goes_on r.journal ≡ true)
         × (r.stage ≡ Stage.Fresh) × (r.seen ≡ 0) × (r.is_changed ≡ false) × AreCovered r × AreApart r
         × IsChosen r c) }
+    ensures all { (c : Choice) → choice_of choice ≡ Some c → result ≡ 0
+        → IsSomeAnd (rollout_held handle.new.keeping)
+        (λ r. IsReadOut journal.now whole.new r.journal r.crc × AreNewLanes r) }
     ensures no_choice { choice_of choice ≡ None → result ≡ no_choice }
     ensures unchanged { result ≢ 0 → (whole.new ≡ 0) × (held handle.new.keeping ≡ held handle.old.keeping) }
 {
