@@ -56,8 +56,8 @@ static const char help[] =
     "  -m MANAGER          IDENTITY/PORT of a manager with every right, 64 at most\n"
     "  -d DOMAIN           domainNumber (0)\n"
     "\n"
-    "  -u PATH             a Unix socket for programs of this host, which counts as port 1\n"
-    "  --unix-group NAME   the group of this socket, which the program then joins\n"
+    "  -u PATH             a Unix socket for this host's programs; it counts as port 1\n"
+    "  --unix-group NAME   this socket's group, which the program then joins\n"
     "  --unix-mode MODE    the mode of this socket (660)\n"
     "  --owner PATH        a Unix socket for the device's owner, whose requests need no manager's rights\n"
     "  -f                  messages from -u for other clocks are forwarded at the other ports\n"
@@ -75,19 +75,19 @@ static const char help[] =
     "  -s, --state FILE    the clock is saved to FILE before it answers, and goes on from FILE at its next start\n"
     "  -o FILE             what the clock observes, from a servo: a file that is read at the start and whenever it is\n"
     "                      written, or a pipe. Lines are for example: offset_from_master 98304, or: port 1 state 9\n"
-    "  --limits FILE       the values that the hardware has: managers can set no others. It is read like -o.\n"
+    "  --limits FILE       the values that the hardware allows: managers can set no others. FILE is read as with -o.\n"
     "                      Lines are for example: LOG_SYNC_INTERVAL -4..1, or: port 2 DELAY_MECHANISM E2E, or: DOMAIN never\n"
     "  --ask PROGRAM       a program of the device, which is run for each change that a manager asks for. Status 0\n"
     "                      agrees. Its arguments are MANAGER NUMBER set|command ID NAME PORT|all OCTETS [MEMBER VALUE]..\n"
-    "  --ask-time SECONDS  how long it may run (10)\n"
+    "  --ask-time SECONDS  how long PROGRAM may run (10)\n"
     "  --give ID FILE      the octets of FILE answer a GET of ID, which the clock itself lacks. ID is for example\n"
     "                      CLOCK_DESCRIPTION, or 2014/2 for port 2. FILE is read at each GET\n"
-    "  --ptp4l PATH        it answers for the ptp4l whose Unix socket is PATH, and asks it for each change once at most\n"
-    "  --diverted PORT     the UDP port to which a firewall diverts management messages from the ptp4l (10320); or 320\n"
+    "  --ptp4l PATH        answers for the ptp4l with Unix socket PATH, and asks that ptp4l at most once for each change\n"
+    "  --diverted PORT     the UDP port to which a firewall diverts management messages for the ptp4l (10320); or 320\n"
     "                      if the ptp4l itself ignores them\n"
     "  --ptp4l-rules       prints the rules of nftables that do that\n"
     "  -n SECONDS          ends by itself after this time\n"
-    "  -v                  a line for each datagram that it hears, and one for what it changed\n"
+    "  -v                  a line for each datagram that it hears, and one for what that changed\n"
     "  --user NAME         the user to which it changes once its sockets are open. Root changes to ptpm if there is\n"
     "                      such a user, else to nobody; --user root keeps root\n"
     "  --no-filter         no system call is refused, for example for a debugger\n"
@@ -357,7 +357,7 @@ void read_options(int argc, char **argv) {
     given.diverted_port = DIVERTED_AT_FIRST;
     given.meeting = (struct meeting){ .mode = MODE_AT_FIRST, .group = (gid_t)-1 };
     for (int option; (option = getopt_long(argc, argv, "26fu:m:d:s:o:n:vh", names, NULL)) != -1;) take_option(option, argv);
-    if (given.is_asked_for_rules && given.diverted_port == GENERAL_PORT) refuse_command_line("--ptp4l-rules: none diverts to UDP port 320");
+    if (given.is_asked_for_rules && given.diverted_port == GENERAL_PORT) refuse_command_line("--ptp4l-rules: no rule diverts to UDP port 320");
     if (given.is_asked_for_rules) exit(!print_rules(given.diverted_port));
     if (optind == argc) refuse_command_line("the clock's identity is missing");
     if (!ptpm_identity_parse(argv[optind], strlen(argv[optind]), given.settings.identity)) {
