@@ -81,7 +81,7 @@ static const char site_text[] =
     "      --give-up           resume ends the apply, whose last step may have been carried out\n"
     "\n"
     "A whole site:\n"
-    "      --listen SECONDS    how long it listens for clocks first (0; 4 with --domain all and --sdo all)\n"
+    "      --listen SECONDS    how long it listens for clocks first (0; 4 with --domain all or --sdo all)\n"
     "      --max-offset NS     offsets above this limit, in nanoseconds, are findings (1000000); none means\n"
     "                          no limit\n"
     "      --max-delay NS      delays above this limit are findings too\n"
