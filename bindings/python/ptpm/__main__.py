@@ -118,7 +118,7 @@ class Task:
         words = self.words
         if not value:
             if self.action == Action.SET and not takes_no_value(self.id):
-                raise ValueError(f"set {words.id}: it takes a value after it")
+                raise ValueError(f"set {words.id}: it takes a value")
             return b""
         if self.action is None:
             raise ValueError(f"survey {words.id}: it takes no value")
@@ -147,7 +147,7 @@ class Task:
         if self.action is None and self.target is not None:
             raise ValueError("survey asks every clock: it takes no --target")
         if self.action is not None and self.target is None:
-            raise ValueError("--target is missing: the clock that is asked; survey asks every clock")
+            raise ValueError("--target is missing: it names the clock to ask; survey asks every clock")
         if words.numbers is not None and is_beyond_session(self.port):
             raise ValueError(f"--numbers: a request to a port above {SESSION_PORTS} has no session")
         if words.give_up and not self.is_numbered:
