@@ -70,7 +70,7 @@ def _parser() -> argparse.ArgumentParser:
     add("-T", "--target", metavar="IDENTITY", help="the clock, such as aabbccfffeddee01 or aabbcc.fffe.ddee01-1 for its port 1")
     add("-p", "--port", type=_number(0, 65535), help="the clock's port, instead of one after IDENTITY")
     add("-d", "--domain", action=_Once, type=_number(0, 255), default=0)
-    add("-b", "--hops", type=_number(0, 255), default=1, help="how many boundary clocks forward the request")
+    add("-b", "--hops", type=_number(0, 255), default=1, help="how many boundary clocks may forward the request")
     add("-m", "--manager", metavar="IDENTITY-PORT", help="the manager's own identity; by default the MAC of the interface with its local bit inverted")
     add("-k", "--numbers", metavar="FILE", help="the file of the manager's session with the clock")
     add("--give-up", action="store_true", help="abandons the unanswered request of an earlier run")
@@ -118,7 +118,7 @@ class Task:
         words = self.words
         if not value:
             if self.action == Action.SET and not takes_no_value(self.id):
-                raise ValueError(f"set {words.id}: it takes a value after it")
+                raise ValueError(f"set {words.id}: it takes a value")
             return b""
         if self.action is None:
             raise ValueError(f"survey {words.id}: it takes no value")
@@ -147,7 +147,7 @@ class Task:
         if self.action is None and self.target is not None:
             raise ValueError("survey asks every clock: it takes no --target")
         if self.action is not None and self.target is None:
-            raise ValueError("--target is missing: the clock that is asked; survey asks every clock")
+            raise ValueError("--target is missing: it names the clock to ask; survey asks every clock")
         if words.numbers is not None and is_beyond_session(self.port):
             raise ValueError(f"--numbers: a request to a port above {SESSION_PORTS} has no session")
         if words.give_up and not self.is_numbered:
@@ -231,8 +231,8 @@ class Task:
         try:
             return session.finish(way, timeout=self.words.timeout / 1000)
         except NoAnswer as error:
-            there = "" if domain == self.words.domain else f", and --domain {domain} asks there"
-            raise NoAnswer(f"{error}; --give-up lets the earlier one go{there}", was_sent=False) from None
+            there = "" if domain == self.words.domain else f", and --domain {domain} sends it there"
+            raise NoAnswer(f"{error}; --give-up abandons the earlier request{there}", was_sent=False) from None
 
     def _ask_in(self, session: Session, way: Transport) -> Report:
         words = self.words
@@ -301,7 +301,7 @@ def _run(given: List[str]) -> int:
         may_be = error.was_sent and words.verb in ("set", "command")
         complain(f"{error}{': the request may have been carried out' if may_be else ''}")
         if error.was_sent and task.is_numbered:
-            complain("the next run sends it again before its own; --give-up gives it up")
+            complain("the next run first sends this request again; --give-up abandons it")
         return NOT_ANSWERED
     except KeyboardInterrupt:
         changes = words.verb in ("set", "command")

@@ -112,7 +112,7 @@ class Clock(Handle):
         return written(self._call, library.ptpm_clock_image, self._image_room)
 
     def ask(self, port: int, octets: bytes) -> Optional[Asked]:
-        """What a datagram would have the device do, if it came in now at this port. The device is asked to carry out a new SET or
+        """What a datagram would ask of the device, if it came in now at this port. The device is asked to carry out a new SET or
         COMMAND of a manager, which the clock itself does not refuse. Or it is asked for the value of an id that the clock lacks,
         by a GET that would be answered. For any other datagram it is asked nothing. The call changes nothing."""
         return self._asked(library.ptpm_clock_ask, *came_in(port, octets))

@@ -407,7 +407,7 @@ static void read_value(struct task *task, const struct words *words) {
     bool is_read_only = is_set && can_only_be_read(task->id);
     if (words->is_text && !is_set) refuse("--text: only set takes it");
     if (is_read_only && (count != 1 || is_member(task->id, value[0]))) refuse("set %s: the id can only be read", id);
-    if (count == 0 && is_set && !has_no_member(task->id)) refuse("set %s: it takes a value after it", id);
+    if (count == 0 && is_set && !has_no_member(task->id)) refuse("set %s: it takes a value", id);
     if (count == 0) return;
     if (task->is_survey) refuse("%s %s%s: it takes no value", words->at[0], id, task->is_of_clock ? " of every port" : "");
     if (words->is_text && !has_text(task->id)) refuse("--text: %s has no text", id);
@@ -437,7 +437,7 @@ static void judge(const struct task *task, const struct words *words) {
     if (task->is_ethernet && (task->address != NULL || task->is_six)) refuse("--ethernet excludes --udp and --ipv6");
     bool asks_one = (!task->is_survey || task->is_of_clock) && task->plan.verb == NO_PLAN;
     if (!asks_one && words->target != NULL) refuse("%s asks every clock: it takes no --target", words->at[0]);
-    if (asks_one && words->target == NULL) refuse("--target is missing: the clock that is asked; survey asks every clock");
+    if (asks_one && words->target == NULL) refuse("--target is missing: it names the clock to ask; survey asks every clock");
     if (words->has_names && !asks_one && !task->site.is_shown) refuse("--names: only status and --target take it");
     if (task->is_survey && task->numbers != NULL) refuse("--numbers: a request to every port has no session");
     if (task->is_survey && task->times > 1) refuse("--times: a request to every port is made once");
