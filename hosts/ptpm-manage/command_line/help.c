@@ -95,7 +95,7 @@ static const char site_text[] =
     "      --draw              status as an SVG file\n"
     "      --html              status as a page in HTML\n"
     "      --openmetrics       status as numbers for Prometheus\n"
-    "      --nagios            status as a line for Nagios or Icinga, with the status of a plugin\n"
+    "      --nagios            status as a line for Nagios or Icinga, with a plugin's exit status\n"
     "      --output FILE       status writes to FILE, which is replaced whole\n"
     "      --lines FILE        status writes the lines of its latest poll to FILE, as collect prints them\n"
     "      --once              status does not poll a second time for findings that may be momentary\n"
