@@ -147,7 +147,7 @@ static void take_user(struct privileges *privileges) {
     if (!find_user(privileges, optarg)) refuse_command_line("--user %s: there is no such user", optarg);
 }
 
-/* Root stays root only if it is named. The Unix socket stays one of root's group, and what root asks there can be answered. */
+/* Root stays root only if it is named. The Unix socket stays in root's group, so that what root asks there can be answered. */
 static void leave_root(void) {
     struct privileges *privileges = &given.privileges;
     if (geteuid() != 0 || privileges->user_name != NULL) return;

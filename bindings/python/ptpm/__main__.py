@@ -231,7 +231,7 @@ class Task:
         try:
             return session.finish(way, timeout=self.words.timeout / 1000)
         except NoAnswer as error:
-            there = "" if domain == self.words.domain else f", and --domain {domain} sends it there"
+            there = "" if domain == self.words.domain else f", or --domain {domain} sends it in that domain"
             raise NoAnswer(f"{error}; --give-up abandons the earlier request{there}", was_sent=False) from None
 
     def _ask_in(self, session: Session, way: Transport) -> Report:

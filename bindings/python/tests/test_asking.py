@@ -317,7 +317,7 @@ class Asking(Folder):
         self.assertRaisesRegex(ptpm.NoAnswer, "request in domain 4: the request itself was not sent", self.goes_on, self.way)
         ran = run_module("-u", self.path, "-m", MANAGER, "-a", "2", "-t", "20", "get", "PRIORITY1", "--target", CLOCK)
         self.assertEqual((ran.returncode, ran.stdout), (3, ""))
-        self.assertRegex(ran.stderr, "in domain 4: .* --give-up abandons the earlier request, and --domain 4 sends it there\n$")
+        self.assertRegex(ran.stderr, "in domain 4: .* --give-up abandons the earlier request, or --domain 4 sends it in that domain\n$")
         self.assertEqual(ptpm.get(self.way, CLOCK, "PRIORITY1").members, {"priority1": 128})
         with ptpm.UnixTransport(self.start_clock("-d", "4", "-m", MANAGER, CLOCK, name="beside")) as beside:
             both = Both(self.way, beside)
