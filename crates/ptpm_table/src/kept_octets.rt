@@ -6,7 +6,7 @@ ghost use Rattle.ptpm_codec.specs.Canonical.{canonical, tlv_octets};
 ghost use Rattle.ptpm_codec.specs.Message.{Fits, IsValid};
 
 use arrayvec::ArrayVec;
-use ptpm_codec::{Draft, OutOfMemory, encode_behind, overwrite_message, put_message};
+use ptpm_codec::{Draft, OutOfMemory, copy_message, encode_behind, overwrite_message, put_message};
 use ptpm_data::INLINE_PORTS;
 use std::alloc::Global;
 use std::marker::Model;
@@ -151,8 +151,7 @@ impl KeptOctets {
             Places::Many(sizes, octets) => {
                 sizes.clear();
                 sizes.push_reserved(message.len() as u8);
-                octets.clear();
-                put_reserved(octets, message);
+                overwrite_reserved(octets, message);
             }
         }
     }
@@ -182,6 +181,22 @@ impl KeptOctets {
                 sizes.push_reserved(size as u8);
             }
         }
+    }
+}
+
+/// Leaves a copy of a message in a block that has room for it, and nothing else. If it has as many octets already, they are written over
+/// in place.
+#[inline(always)]
+fn overwrite_reserved(block: &mut Vec<u8>, message: &[u8])
+    requires { length message.now ≤ vec_capacity block.old }
+    ensures octets { block.new.items ≡ message.now }
+    ensures capacity { vec_capacity block.old ≤ vec_capacity block.new }
+{
+    if block.len() == message.len() {
+        copy_message(block.as_mut_slice(), message);
+    } else {
+        block.clear();
+        put_reserved(block, message);
     }
 }
 
