@@ -34,10 +34,6 @@ or_none : (a : Bool) → (a || false) ≡ a
 or_none true = refl
 or_none false = refl
 
-or_all : (a : Bool) → (a || true) ≡ true
-or_all true = refl
-or_all false = refl
-
 or_more : (a b e : Bool) → (a || (b || e)) ≡ ((a || b) || e)
 or_more true b e = refl
 or_more false b e = refl

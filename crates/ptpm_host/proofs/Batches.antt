@@ -4,7 +4,7 @@ use Rattle.std.specs.Prelude.{if◌then◌else◌}
 use Rattle.std.proofs.lemmas.Bool.{false≢true}
 use Rattle.std.proofs.lemmas.List.{drop-append-le, take-append-drop, take-append-le, take_all, drop_all, length-append, nil_from_length}
 use Rattle.ptpm_saved.specs.Saving.{Came, Happening, Noted, Process, after_all, after_one, all_messages, messages_of}
-use Rattle.ptpm_saved.specs.Batching.{Batch, Confirms, GivesOut, Handles, Observes, answers, begun, calls, calls_each, changes_in, gives_out, goes_on, holds, is_held, live, observes, shown, shown_from, waits}
+use Rattle.ptpm_saved.specs.Batching.{Batch, Confirms, GivesOut, Handles, Observes, answers, calls, calls_each, changes_in, gives_out, goes_on, holds, is_held, live, observes, shown, shown_from, waits}
 use Rattle.ptpm_host.specs.KeptBatch.{IsGivenOut, IsImage, IsImageIf, IsKept, KeptBatch, LeadsTo, kept_confirmed, kept_held, kept_imaged, kept_observed}
 
 module _ {S A N M : Type 0} (p : Process S A N M) where
@@ -417,22 +417,3 @@ module _ {S V A N M : Type 0} (p : Process S A N M) (look : S → V) where
 
     pub given_all : (b : Batch S A N M) → IsGivenOut p held b
     given_all b = given_each b.ready b
-
-  -- ---- at first
-
-  pub kept_begun : (k : KeptBatch S V M) (s : S) (count : ℕ)
-      → k.live ≡ s
-      → k.shown ≡ look s
-      → k.messages ≡ []
-      → k.ready ≡ 0
-      → k.is_imaged ≡ false
-      → k.waits ≡ false
-      → IsKept p look k (begun s) count
-  kept_begun k s count live shown messages ready imaged waits = record {
-    live = sym live;
-    shown = sym shown;
-    waits = sym waits;
-    messages = messages;
-    ready = sym ready;
-    image = subst (λ i. IsImageIf i p look k (begun s) count) (sym imaged) tt;
-  }

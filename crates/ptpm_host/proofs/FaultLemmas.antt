@@ -1,6 +1,6 @@
 -- A fault of words is of one of the members that they are for.
-use Rattle.std.proofs.Common.{arith, ◌≡◌, ◌≢◌, refl, sym, subst, ℕ, zero, suc, ◌*◌, ◌<◌, ◌==◌, List, [], ◌∷◌, length, get_or, drop, replicate, Bool, true, false, Option, Some, None, Result, Ok, Err, inl, inr, ◌⊎◌}
-use Rattle.std.specs.Prelude.{Any, IsSomeAnd, if◌then◌else◌, slice_get}
+use Rattle.std.proofs.Common.{arith, ◌≡◌, ◌≢◌, refl, sym, subst, ℕ, suc, ◌*◌, ◌<◌, ◌==◌, List, [], ◌∷◌, length, get_or, drop, replicate, Bool, true, false, Option, Some, None, Result, Ok, Err, inl, inr, ◌⊎◌}
+use Rattle.std.specs.Prelude.{Any, if◌then◌else◌}
 use Rattle.std.specs.Str.{str_eq_ignore_ascii_case}
 use Rattle.ptpm_data.specs.ManagementId.{RowValue, row_of}
 use Rattle.ptpm_members.specs.declared.forms.Field.{Field}
@@ -86,9 +86,3 @@ pub never_met : (member : Member) (fields all : List Field) → fields ≡ all �
     → ((k : ℕ) (d : Field) → k < length fields → (get_or fields k d).0 ≢ member) → ⊥
 never_met member fields all is any none =
     none any.0 any.1 (rw is any.2) (rw (is, any.3) any.4)
-
-pub met_at : (member : Member) (fields : List Field) (place : ℕ) (d : Field) → place < length fields → (get_or fields place d).0 ≡ member
-    → IsSomeAnd (slice_get fields place) (λ f. f.0 ≡ member)
-met_at member [] place d inside is = absurd (omega arith)
-met_at member (f ∷ fs) zero d inside is = is
-met_at member (f ∷ fs) (suc n) d inside is = met_at member fs n d (omega arith) is

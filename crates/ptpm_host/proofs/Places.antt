@@ -1,6 +1,6 @@
 -- Messages in places: what follows them stays, whole ones stay whole, and what waits in the places of a queue.
 use Rattle.std.proofs.Common.{◌+◌, ◌<◌, ℕ, All, List, length, slice_set, take, subst, sym, ◌≡◌, zero, suc, [], ◌∷◌, drop, slice_index_or, refl, ap, ◌∙◌, arith, ◌≤◌, ◌-◌, ◌++◌, drop-cons, get_or, length-take-le}
-use Rattle.std.proofs.lemmas.List.{get_or-set_same, length-set, take-set, drop-set-lt, drop-map, drop-take, get_or-take, length-drop, length-map, map-append, take_more, take_more_set}
+use Rattle.std.proofs.lemmas.List.{get_or-set_same, length-set, take-set, drop-set-lt, drop-map, drop-take, get_or-take, length-drop, length-map, map-append, take_more}
 use Rattle.std.proofs.lemmas.List.Elements.{All-more}
 use Rattle.ptpm_host.specs.declared.sent.Sent.{Sent}
 use Rattle.ptpm_host.specs.Clock.{IsWhole, KeepsBehind, message_in, messages_in}
@@ -95,13 +95,6 @@ closed_at taken end xs ordered inside =
     ∙ sym (drop-take taken (end - taken) xs)
     ∙ ap (λ n. drop taken (take n xs)) whole)
     ∙ sym (drop-map message_in taken (take end xs))
-
--- one more
-pub added_at : (end : ℕ) (xs : List Sent) (s : Sent)
-    → end < length xs
-    → messages_in (take (end + 1) (slice_set xs end s)) ≡ messages_in (take end xs) ++ message_in s ∷ []
-added_at end xs s inside =
-    ap messages_in (take_more_set xs end s inside) ∙ map-append message_in (take end xs) (s ∷ [])
 
 -- the first is taken out
 pub first_at : (taken end : ℕ) (xs : List Sent) (d : Sent)

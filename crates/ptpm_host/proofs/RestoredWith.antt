@@ -16,9 +16,9 @@ use Rattle.ptpm_saved.proofs.EntryOrder.{kept_all, none_gone}
 use Rattle.ptpm_host.specs.declared.clock.HostedClock.{HostedClock}
 use Rattle.ptpm_host.specs.declared.settings.ManagerSettings.{ManagerSettings}
 use Rattle.ptpm_host.specs.Clock.{state_in}
-use Rattle.ptpm_host.specs.Restoring.{IsBack, CanRestore, CanRestoreWith, IsBackWith, IsOwnerRefused, IsRestoreRefused, IsUnderWayRefused, inside}
+use Rattle.ptpm_host.specs.Restoring.{IsBack, CanRestore, CanRestoreWith, IsBackWith, IsRestoreRefused, IsUnderWayRefused, inside}
 use Rattle.ptpm_host.specs.Settings.{configured}
-use Rattle.std.specs.Prelude.{IfErr, IfOk, MatchResult, bytes_eq, nat_le}
+use Rattle.std.specs.Prelude.{IfOk, MatchResult, bytes_eq, nat_le}
 use Rattle.std.proofs.lemmas.Bool.{false≢true, le-leb}
 use Rattle.ptpm_codec.specs.declared.identity.ClockIdentity.{ClockIdentity}
 use Rattle.ptpm_saved.specs.Restoring.{IsImageOf, IsRefused}
@@ -164,12 +164,6 @@ something_there ports x image octets is =
 -- ---- refusals
 
 module _ (identity : ClockIdentity) (ports : ℕ) (managers : List ManagerSettings) (octets : List ℕ) where
-  pub owner_refused : (e : ClockRestoreRefusal) → IsOwnerRefused identity managers e → IsUnderWayRefused identity ports managers octets e
-  owner_refused (refusals.Managers fault) is = is
-  owner_refused refusals.IdentityIsZero is = is
-  owner_refused (refusals.Image fault) is = absurd is
-  owner_refused refusals.OutOfMemory is = absurd is
-
   module _ (x : Datagram) (image : List ℕ) (there : IsUnderWayImage ports x image octets)
       (alone : (y : Datagram) (other : List ℕ) → IsUnderWayImage ports y other octets → image ≡ other) where
     pub refused_inside : (e : ClockRestoreRefusal) → IsRestoreRefused identity ports managers image e → IsUnderWayRefused identity ports managers octets (inside e)
@@ -197,14 +191,6 @@ module _ (identity : ClockIdentity) (ports : ℕ) (managers : List ManagerSettin
 
 -- ---- results
 
-pub ok_maps : {A E : Type 0} (r : Result A E) (P Q : A → Type 0) → ((a : A) → P a → Q a) → IfOk r P → IfOk r Q
-ok_maps (Ok a) P Q maps is = maps a is
-ok_maps (Err e) P Q maps is = tt
-
-pub err_maps : {A E : Type 0} (r : Result A E) (P Q : E → Type 0) → ((e : E) → P e → Q e) → IfErr r P → IfErr r Q
-err_maps (Ok a) P Q maps is = tt
-err_maps (Err e) P Q maps is = maps e is
-
 pub back_with : {T : Type 0} (r : Result (T × ℕ) ClockRestoreRefusal) (clock_of : T → HostedClock) (s : ClockState) (managers : List ManagerSettings)
     → MatchResult r (λ p. IsBackWith (saved_of s.state) s.under_way managers (clock_of p.0) p.1) (λ e. e ≡ refusals.OutOfMemory)
     → All (λ e. is_known e.0 (identities (configured managers)) ≡ true) (entries s.state.entries)
@@ -213,10 +199,6 @@ back_with (Ok p) clock_of s managers back known =
     let as_it_was = goes_on s.state managers (clock_of p.0) p.1 back.clock known in
     ((λ i. record { state = as_it_was.0 i; under_way = back.under_way_is i }), as_it_was.1)
 back_with (Err e) clock_of s managers back known = tt
-
-pub ok_both : {A E : Type 0} (r : Result A E) (P N Q : A → Type 0) → ((a : A) → P a → N a → Q a) → IfOk r P → IfOk r N → IfOk r Q
-ok_both (Ok a) P N Q maps is none = maps a is none
-ok_both (Err e) P N Q maps is none = tt
 
 pub match_both : {A E : Type 0} (r : Result A E) (P N Q : A → Type 0) (F : E → Type 0)
     → ((a : A) → P a → N a → Q a)

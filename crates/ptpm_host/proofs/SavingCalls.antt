@@ -286,12 +286,6 @@ module _ (old : SavingClock) (here turned : HostedClock) (port : ℕ) (datagram 
         more_call old (clock_in turned) (record (kept_of old) { live = clock_state_in turned; messages = messages; waits = waits; is_changed = changed })
         port datagram say of_owner (clock ∙ ap clock_in same) kept_now none unsaved held b count as_batch
 
--- while nothing waits, the clock as it is is shown
-pub shown_live : (old : SavingClock) (b : ClockBatch) (count : ℕ) → IsKeptOf old b count → old.waits ≡ false → old.shown ≡ old.clock.value.agent.sets
-shown_live old b count as_batch quiet =
-    sym as_batch.shown
-    ∙ ap shown_sets (sym (quiet_shown (coming_process (clock_in old.clock.value)) b.base b.since (as_batch.waits ∙ quiet)) ∙ as_batch.live)
-
 pub or_new : (b : Bool) (verdict : Verdict) → verdict ≡ verdicts.AnsweredNew → true ≡ (b || is_new verdict)
 or_new true verdict is = refl
 or_new false verdict is = sym (ap is_new is)

@@ -6,18 +6,14 @@ use Rattle.ptpm_codec.specs.declared.message.Message.{Message}
 use Rattle.ptpm_codec.specs.Layout.{message_octets}
 use Rattle.ptpm_codec.specs.Reading.{IsWellFormed, message_of}
 use Rattle.ptpm_codec.proofs.ReadingLaws.{message_of-some}
-use Rattle.ptpm_agent.specs.declared.verdict.Verdict.{Verdict}
 use Rattle.ptpm_agent.specs.declared.verdict.Verdict.TheVariants as verdicts
-use Rattle.ptpm_agent.specs.Turn.{Clock, NumberedRequest, State, Turned, judged, numbered_from, outbox_of}
-use Rattle.ptpm_agent.proofs.Turns.{turn-message}
+use Rattle.ptpm_agent.specs.Turn.{Clock, NumberedRequest, State, outbox_of}
 use Rattle.ptpm_device.specs.Asking as asking
-use Rattle.ptpm_device.specs.Asking.{asked, asked_by, is_asked, is_permitted}
+use Rattle.ptpm_device.specs.Asking.{asked, asked_by}
 use Rattle.ptpm_device.specs.Saying.{Say, turn_said}
 use Rattle.ptpm_saved.specs.Batching.{Handles, answers, holds, is_held, live, shown, waits}
-use Rattle.ptpm_saved.specs.BatchingClock.{is_of_manager}
 use Rattle.ptpm_saved.specs.Saving.{Came}
-use Rattle.ptpm_saved.specs.SavingClock.{Datagram, is_new}
-use Rattle.ptpm_saved.proofs.BatchingLaws.{holds_changes}
+use Rattle.ptpm_saved.specs.SavingClock.{Datagram}
 use Rattle.ptpm_host.specs.declared.saving_clock.Acting.TheVariants as actings
 use Rattle.ptpm_host.specs.declared.saving_clock.SavingClock.{SavingClock}
 use Rattle.ptpm_host.specs.Clock.{clock_in, state_in}
@@ -25,40 +21,12 @@ use Rattle.ptpm_host.specs.Coming.{ClockBatch, ClockState, Coming, Decides, Unde
 use Rattle.ptpm_host.specs.KeptBatch.{IsKept, LeadsTo, kept_held}
 use Rattle.ptpm_host.specs.Queue.{queued}
 use Rattle.ptpm_host.specs.SavingClock as saving
-use Rattle.ptpm_host.specs.SavingClock.{IsAsBatch, called_at, clock_state_in, is_for_live, kept_of, request_under_way, shown_sets, shown_state, state_asked}
+use Rattle.ptpm_host.specs.SavingClock.{IsAsBatch, called_at, clock_state_in, kept_of, shown_sets}
 use Rattle.ptpm_host.proofs.AskedCalls.{IsAskedOf, asks_decided, asks_held, asks_new, asks_waiting, is_batch, led_to, under_way_of}
 use Rattle.ptpm_host.proofs.Batches.{quiet_shown, waiting, waiting_silent}
 use Rattle.ptpm_host.proofs.SavingCalls.{Kept}
 
 -- ---- what is asked
-
-not_asked : (w : Verdict) (b : Bool) → is_new w ≡ false → (asking.is_new w && b) ≡ false
-not_asked verdicts.AnsweredNew b none = absurd (false≢true (sym none))
-not_asked _ b none = refl
-
-asked_not : (c : Clock) (s : State) (port : ℕ) (datagram : List ℕ) (v : Message)
-    → message_of datagram ≡ Some v
-    → is_of_manager c (port, datagram) ≡ false
-    → is_asked c s v ≡ false
-unfolding is_asked
-asked_not c s port datagram v read other =
-    not_asked (judged c s v) _
-    (sym (ap (λ (t : Turned). is_new t.verdict) (turn-message c s port datagram v read)) ∙ holds_changes c s (port, datagram) other)
-
-none_if : (b : Bool) (r : NumberedRequest) → b ≡ false → ◌≡◌ {A = Option NumberedRequest} (if b then Some r else None) None
-none_if true r none = absurd (false≢true (sym none))
-none_if false r none = refl
-
--- nothing is asked of a device but of a manager's request to this clock alone
-pub others_ask_nothing : (c : Clock) (s : State) (port : ℕ) (datagram : List ℕ)
-    → is_of_manager c (port, datagram) ≡ false
-    → asked c s datagram ≡ None
-unfolding asked
-others_ask_nothing c s port datagram other = by_message (message_of datagram) refl
-  where
-    by_message : (o : Option Message) → message_of datagram ≡ o → asked_by c s o ≡ None
-    by_message None read = refl
-    by_message (Some v) read = none_if (is_asked c s v) (numbered_from v) (asked_not c s port datagram v read other)
 
 pub asked_well_formed : (c : Clock) (s : State) (datagram : List ℕ)
     → is_some (asked c s datagram) ≡ true
@@ -71,9 +39,6 @@ asked_well_formed c s datagram is = by_message (message_of datagram) refl is
     by_message (Some v) read is = (message_of-some datagram v read).0
 
 -- ---- what changes nothing, and sends nothing
-
-held_if : (waiting changes w h : Bool) → waiting ≡ w → changes ≡ h → (true && (if waiting then true else changes)) ≡ (if w then true else h)
-held_if waiting changes w h one other = λ i. true && (if one i then true else other i)
 
 or_none : (b : Bool) → (b || false) ≡ b
 or_none true = refl

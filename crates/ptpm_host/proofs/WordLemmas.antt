@@ -92,12 +92,6 @@ pub record Front (words : List (List ℕ)) (rest octets : List ℕ) : Type 0 whe
   pub onto : (more : List (List ℕ)) → AreWords more rest → AreWords (words ++ more) octets
   pub of : (all : List (List ℕ)) → AreWords all octets → (more : List (List ℕ)) × (all ≡ words ++ more) × AreWords more rest
 
-pub front_start : (octets : List ℕ) → Front [] octets octets
-front_start octets = record {
-  onto = λ more are. are;
-  of = λ all are. (all, refl, are);
-}
-
 -- what begins with a word is no end
 some_left : (word more rest : List ℕ) → rest ≡ word ++ 0 ∷ more → 0 < length rest
 some_left word more rest is = grind (arith, is, length-append word (0 ∷ more))
@@ -137,10 +131,3 @@ module _ (words : List (List ℕ)) (rest octets : List ℕ) (front : Front words
       by : (more : List (List ℕ)) → AreWords more rest → ⊥
       by [] of_rest = absurd (omega (arith, ap length of_rest.whole))
       by (w ∷ ws) of_rest = none w _ (first_of_words rest w ws of_rest)
-
-  pub front_full : 0 < length rest → (all : List (List ℕ)) → AreWords all octets → length words < length all
-  front_full some all are = by (front.of all are).0 (front.of all are).1 (front.of all are).2
-    where
-      by : (more : List (List ℕ)) → all ≡ words ++ more → AreWords more rest → length words < length all
-      by [] is of_rest = absurd (omega (arith, ap length of_rest.whole))
-      by (w ∷ ws) is of_rest = grind (arith, is, length-append words (w ∷ ws))

@@ -28,11 +28,6 @@ lt_less Less h = refl
 lt_less Equal h = absurd (cc)
 lt_less Greater h = absurd (cc)
 
--- what comes before comes not after
-not_both : (p q : PortIdentity) → identity_cmp p q ≡ Less → identity_cmp q p ≡ Less → ⊥
-not_both p q a b =
-    let back : identity_cmp p q ≡ Greater = identities_total.antisymm p q ∙ ap ordering_reverse b in absurd (cc)
-
 true_of : (b : Bool) → T b → b ≡ true
 true_of true h = refl
 true_of false h = absurd h

@@ -295,14 +295,6 @@ not_fitting q r n b count octets tail rest next answers fit port keep fits front
     (λ i. (sym port i, sym (ap (λ (x : ReplyValue). x.answers) got.reply) i)) keep.fits.answers in
     false≢true (sym failed ∙ test suits)
 
--- a count that has no room is not that of a reply that has room
-pub count_there : (r : ReplyValue) (count : ℕ) (octets tail rest : List ℕ)
-    → octets ≡ count ∷ tail
-    → octets ≡ length r.answers ∷ (answers_image r.answers ++ rest)
-    → length r.answers ≡ count
-count_there r count octets tail rest front is =
-    sym (same_heads count (length r.answers) tail (answers_image r.answers ++ rest) (sym front ∙ is))
-
 pub keepable_reply : (q : RequestValue) (n : ℕ) (b : Bool) (answers : List Answer) (count : ℕ)
     → IsRequestAction q.action
     → b ≡ is_of_port q.id

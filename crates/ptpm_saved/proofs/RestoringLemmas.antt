@@ -327,10 +327,6 @@ empty_of (x ∷ xs) b is holds = absurd (false≢true (sym (not_zero (length xs)
     not_zero : (n : ℕ) → (suc n == 0) ≡ false
     not_zero n = grind (arith, nat_tests)
 
-pub not_empty : (xs : List ℕ) (b : Bool) → b ≡ (length xs == 0) → b ≡ false → xs ≡ [] → ⊥
-not_empty [] b is failed none = false≢true (sym failed ∙ is)
-not_empty (x ∷ xs) b is failed none = cc
-
 pub one_small : (known : Bool) → one_of known ≤ 1
 one_small true = omega arith
 one_small false = omega arith

@@ -34,12 +34,9 @@ pub(crate) fn fits_count(of_port: bool, count: usize) -> bool
 pub(crate) fn fit_answers(of_port: bool, action: Action, answers: &[PortAnswer]) -> bool
     ensures { IsTrue result ↔ All (λ a. FitsAnswer of_port action (answer_of a)) answers.now }
 {
-    match answers {
-        [] => true,
-        [first, rest @ ..] => {
-            fits_answer(of_port, action, first) && fit_answers(of_port, action, rest)
-        }
-    }
+    answers
+        .iter()
+        .all(|answer| fits_answer(of_port, action, answer))
 }
 
 fn fits_answer(of_port: bool, action: Action, answer: &PortAnswer) -> bool
