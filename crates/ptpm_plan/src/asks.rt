@@ -1,16 +1,20 @@
 //! What is asked of the clocks before a plan can be made.
 
 use crate::change::PlannedId;
-use crate::wish::{ClockWishes, EveryWishes, PlanFile, Wish};
+use crate::wish::{ClockWishes, EveryWishes, PlanFile, Target, Wish};
 use ptpm_data::MANAGEMENT_IDS;
 use std::alloc::{AllocError, Global};
 use std::io;
 use std::io::Write;
 
 /// Prints a line for each GET: the domain, and the id. Each id of the file is asked in each domain of the file, in the order of their
-/// numbers. If the best clock may change, its time properties are asked too.
+/// numbers. If the best clock may change, its time properties are asked too. If the file says how many clocks a domain has, a line
+/// before has that number.
 pub(crate) fn print_asks<O: Write>(file: &PlanFile, domains: &[u8], out: &mut O) -> io::Result<()> {
     for domain in domains {
+        if let Some(count) = file.clock_count(*domain) {
+            writeln!(out, "{domain} clocks={count}")?;
+        }
         for name in ["DEFAULT_DATA_SET", "USER_DESCRIPTION", "PORT_DATA_SET"] {
             writeln!(out, "{domain} {name}")?;
         }
@@ -39,6 +43,20 @@ impl PlanFile {
             || self.every.iter().any(|every| every.domain == domain)
     }
 
+    /// How many clocks a domain has, if the file says that. A description may be that of a clock that nobody counted. So there is no
+    /// number if one names a clock of the domain.
+    fn clock_count(&self, domain: u8) -> Option<u16> {
+        let every = self
+            .every
+            .iter()
+            .find(|every| every.domain == domain && every.clocks.is_some())?;
+        let is_described = self
+            .clocks
+            .iter()
+            .any(|clock| clock.domain == domain && is_described(clock));
+        if is_described { None } else { every.clocks }
+    }
+
     /// The name of an id, if the file names it. `None` of USER_DESCRIPTION, which is asked anyhow.
     fn asked_name(&self, number: u16) -> Option<&'static str> {
         match PlannedId::numbered(number)? {
@@ -57,6 +75,13 @@ impl PlanFile {
     fn names(&self, id: PlannedId) -> bool {
         self.clocks.iter().any(|clock| clock_names(clock, id))
             || self.every.iter().any(|every| every_names(every, id))
+    }
+}
+
+fn is_described(clock: &ClockWishes) -> bool {
+    match clock.target {
+        Target::Identity(_) => false,
+        Target::Description(_) => true,
     }
 }
 
