@@ -1,6 +1,6 @@
 //! Room for the answers of an entry that is read, in the value or in a block of memory.
 
-ghost use Rattle.std.specs.Prelude.{◌≡◌, ◌≤◌, ◌<◌, ◌++◌, ◌∷◌, [], IfOk, length, map, max};
+ghost use Rattle.std.specs.Prelude.{◌≡◌, ◌≤◌, ◌<◌, ◌++◌, ◌∷◌, [], OnOk, length, map, max};
 ghost use Rattle.ptpm_data.specs.Reply.{answer_of};
 
 use arrayvec::ArrayVec;
@@ -32,21 +32,28 @@ impl Model for AnswerRoom {
 }
 
 impl AnswerRoom {
-    /// Room for the answers of a clock of this many ports, or for `INLINE_PORTS`. Takes memory for more alone.
-    pub(crate) fn new(alloc: Global, ports: u16) -> Result<AnswerRoom, OutOfMemory>
-        ensures { IfOk result (λ room. room ≡ record { answers = []; most = max INLINE_PORTS ports }) }
+    /// Room for `INLINE_PORTS` answers, in the value.
+    #[inline(always)]
+    pub(crate) fn new() -> AnswerRoom
+        ensures { result ≡ record { answers = []; most = INLINE_PORTS } }
     {
-        if ports as usize <= INLINE_PORTS {
-            return Ok(AnswerRoom {
-                places: Places::Few(ArrayVec::new()),
-            });
+        AnswerRoom {
+            places: Places::Few(ArrayVec::new()),
         }
-        match Vec::with_capacity(alloc, ports as usize) {
-            Ok(answers) => Ok(AnswerRoom {
-                places: Places::Many(answers),
-            }),
-            Err(_) => Err(OutOfMemory),
+    }
+
+    /// Makes it that of a clock of this many ports. Takes memory for more than `INLINE_PORTS` alone.
+    pub(crate) fn fit(&mut self, alloc: Global, ports: u16) -> Result<(), OutOfMemory>
+        requires { self.old ≡ record { answers = []; most = INLINE_PORTS } }
+        ensures { OnOk result (self.new ≡ record { answers = []; most = max INLINE_PORTS ports }) }
+    {
+        if INLINE_PORTS < ports as usize {
+            let Ok(answers) = Vec::with_capacity(alloc, ports as usize) else {
+                return Err(OutOfMemory);
+            };
+            self.places = Places::Many(answers);
         }
+        Ok(())
     }
 
     /// How many answers have room.

@@ -134,7 +134,8 @@ pub fn put_back_judged<T: SureTable + Drop>(
     let Some(entries) = find_entries(image) else {
         unreachable!()
     };
-    let mut room = AnswerRoom::new(alloc, agent.sets().port_count())?;
+    let mut room = AnswerRoom::new();
+    room.fit(alloc, agent.sets().port_count())?;
     Ok(keep_entries(&entries, &mut room, agent))
 }
 
@@ -236,7 +237,8 @@ fn are_entries(alloc: Global, entries: &SavedEntries<'_>, ports: u16) -> Result<
         → length es ≡ entries.now.count → entries.now.octets.now ≡ entries_image es
         → IfOk result (λ are. IsTrue are) }
 {
-    let mut room = AnswerRoom::new(alloc, ports)?;
+    let mut room = AnswerRoom::new();
+    room.fit(alloc, ports)?;
     Ok(judge_entries(entries, &mut room))
 }
 

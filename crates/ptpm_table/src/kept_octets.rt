@@ -1,7 +1,6 @@
 //! The messages of a kept reply, in the value or in blocks of memory.
 
-ghost use Rattle.std.specs.Prelude.{◌≡◌, ◌≤◌, ◌<◌, ◌+◌, ◌*◌, ◌++◌, ◌∷◌, [], IfOk, length};
-ghost use Rattle.std.specs.Vec.{vec_capacity};
+ghost use Rattle.std.specs.Prelude.{◌≡◌, ◌≤◌, ◌<◌, ◌+◌, ◌*◌, ◌++◌, ◌∷◌, [], IfOk, length, take};
 ghost use Rattle.ptpm_codec.specs.Canonical.{canonical, tlv_octets};
 ghost use Rattle.ptpm_codec.specs.Message.{Fits, IsValid};
 
@@ -20,11 +19,12 @@ pub(crate) const PORT_MESSAGE_OCTETS: usize = 80;
 /// For how many octets of messages there is room in the value.
 const INLINE_OCTETS: usize = PORT_MESSAGE_OCTETS * INLINE_PORTS;
 
-/// The size of each message, and the messages, one after the other: in the value, or each in a block of memory.
+/// The size of each message, and the messages, one after the other: in the value, or each in a block of memory, of which the messages
+/// have so many octets.
 #[derive(Drop)]
 enum Places {
     Few(ArrayVec<u8, INLINE_PORTS>, ArrayVec<u8, INLINE_OCTETS>),
-    Many(Vec<u8>, Vec<u8>),
+    Many(Vec<u8>, Vec<u8>, usize),
 }
 
 /// The messages of a reply, and room for those of another. Once it is made, it takes no memory. Contracts see the size of each
@@ -64,11 +64,11 @@ impl KeptOctets {
         let Ok(sizes) = Vec::with_capacity(alloc, most) else {
             return Err(OutOfMemory);
         };
-        let Ok(octets) = Vec::with_capacity(alloc, PORT_MESSAGE_OCTETS * most) else {
+        let Ok(octets) = Vec::from_elem(alloc, 0, PORT_MESSAGE_OCTETS * most) else {
             return Err(OutOfMemory);
         };
         Ok(KeptOctets {
-            places: Places::Many(sizes, octets),
+            places: Places::Many(sizes, octets, 0),
         })
     }
 
@@ -80,7 +80,7 @@ impl KeptOctets {
     {
         match &self.places {
             Places::Few(sizes, _) => sizes.as_slice(),
-            Places::Many(sizes, _) => sizes.as_slice(),
+            Places::Many(sizes, _, _) => sizes.as_slice(),
         }
     }
 
@@ -91,7 +91,7 @@ impl KeptOctets {
     {
         match &self.places {
             Places::Few(_, octets) => octets.as_slice(),
-            Places::Many(_, octets) => octets.as_slice(),
+            Places::Many(_, octets, used) => &octets.as_slice()[..*used],
         }
     }
 
@@ -105,9 +105,9 @@ impl KeptOctets {
                 sizes.clear();
                 octets.clear();
             }
-            Places::Many(sizes, octets) => {
+            Places::Many(sizes, _, used) => {
                 sizes.clear();
-                octets.clear();
+                *used = 0;
             }
         }
     }
@@ -129,9 +129,10 @@ impl KeptOctets {
                 sizes.push(message.len() as u8);
                 put_message(octets, message);
             }
-            Places::Many(sizes, octets) => {
+            Places::Many(sizes, octets, used) => {
                 sizes.push_reserved(message.len() as u8);
-                put_reserved(octets, message);
+                put_behind(octets.as_mut_slice(), *used, message);
+                *used += message.len();
             }
         }
     }
@@ -148,10 +149,11 @@ impl KeptOctets {
                 sizes.push(message.len() as u8);
                 overwrite_message(octets, message);
             }
-            Places::Many(sizes, octets) => {
+            Places::Many(sizes, octets, used) => {
                 sizes.clear();
                 sizes.push_reserved(message.len() as u8);
-                overwrite_reserved(octets, message);
+                put_behind(octets.as_mut_slice(), 0, message);
+                *used = message.len();
             }
         }
     }
@@ -176,87 +178,41 @@ impl KeptOctets {
                 let size = encode_behind(draft, octets);
                 sizes.push(size as u8);
             }
-            Places::Many(sizes, octets) => {
-                let size = encode_reserved(draft, octets);
+            Places::Many(sizes, octets, used) => {
+                let size = encode_at(draft, octets.as_mut_slice(), *used);
                 sizes.push_reserved(size as u8);
+                *used += size;
             }
         }
     }
 }
 
-/// Leaves a copy of a message in a block that has room for it, and nothing else. If it has as many octets already, they are written over
-/// in place.
+/// Writes a message over the octets of a block behind the first of them, of which there are this many.
 #[inline(always)]
-fn overwrite_reserved(block: &mut Vec<u8>, message: &[u8])
-    requires { length message.now ≤ vec_capacity block.old }
-    ensures octets { block.new.items ≡ message.now }
-    ensures capacity { vec_capacity block.old ≤ vec_capacity block.new }
+fn put_behind(block: &mut [u8], used: usize, message: &[u8])
+    requires { used + length message.now ≤ length block.old }
+    ensures octets { take (used + length message.now) block.new ≡ take used block.old ++ message.now }
+    ensures size { length block.new ≡ length block.old }
 {
-    if block.len() == message.len() {
-        copy_message(block.as_mut_slice(), message);
-    } else {
-        block.clear();
-        put_reserved(block, message);
-    }
+    copy_message(&mut block[used..used + message.len()], message);
 }
 
-/// Appends a message to a block that has room for it. Most messages have one of a few sizes, at which LLVM makes a few moves of the
-/// copy.
-#[inline(never)]
-fn put_reserved(block: &mut Vec<u8>, message: &[u8])
-    requires { length block.old.items + length message.now ≤ vec_capacity block.old }
-    ensures octets { block.new.items ≡ block.old.items ++ message.now }
-    ensures capacity { vec_capacity block.old ≤ vec_capacity block.new }
-{
-    match message.len() {
-        54 => put_array::<54>(block, message),
-        56 => put_array::<56>(block, message),
-        80 => put_array::<80>(block, message),
-        _ => extend_reserved(block, message),
-    }
-}
-
-/// The same for a size given as a constant.
-#[inline(always)]
-fn put_array<const M: usize>(block: &mut Vec<u8>, message: &[u8])
-    requires size { length message.now ≡ M }
-    requires room { length block.old.items + M ≤ vec_capacity block.old }
-    ensures octets { block.new.items ≡ block.old.items ++ message.now }
-    ensures capacity { vec_capacity block.old ≤ vec_capacity block.new }
-{
-    let Some(octets) = message.as_array::<M>() else {
-        unreachable!()
-    };
-    extend_reserved(block, octets);
-}
-
-/// The same of any size.
-#[inline(always)]
-fn extend_reserved(block: &mut Vec<u8>, octets: &[u8])
-    requires { length block.old.items + length octets.now ≤ vec_capacity block.old }
-    ensures octets { block.new.items ≡ block.old.items ++ octets.now }
-    ensures capacity { vec_capacity block.old ≤ vec_capacity block.new }
-{
-    if block.extend_from_slice(octets).is_err() {
-        unreachable!();
-    }
-}
-
-/// Appends the canonical spelling of a draft to a block that has room for it; how many octets that is. Never inlined: so the stack
+/// Writes the canonical spelling of a draft behind the first octets of a block; how many octets that is. Never inlined: so the stack
 /// has room for the message only if blocks are used.
 #[inline(never)]
 #[tactic(auto, using(crate::proofs::KeptMessageLaws::canonical_length))]
-fn encode_reserved(draft: &Draft<'_>, block: &mut Vec<u8>) -> usize
+fn encode_at(draft: &Draft<'_>, block: &mut [u8], used: usize) -> usize
     requires valid { IsValid draft.now }
     requires small { 48 + length (tlv_octets draft.now.body) ≤ MESSAGE_OCTETS }
-    requires room { length block.old.items + 48 + length (tlv_octets draft.now.body) ≤ vec_capacity block.old }
-    ensures octets { block.new.items ≡ block.old.items ++ canonical draft.now }
-    ensures size { result ≡ length (canonical draft.now) }
+    requires room { used + 48 + length (tlv_octets draft.now.body) ≤ length block.old }
+    ensures octets { take (used + result) block.new ≡ take used block.old ++ canonical draft.now }
+    ensures length { result ≡ length (canonical draft.now) }
+    ensures within { used + result ≤ length block.old }
     ensures fits { Fits draft.now }
-    ensures capacity { vec_capacity block.old ≤ vec_capacity block.new }
+    ensures size { length block.new ≡ length block.old }
 {
     let mut message: ArrayVec<u8, MESSAGE_OCTETS> = ArrayVec::new();
     let size = encode_behind(draft, &mut message);
-    put_reserved(block, message.as_slice());
+    put_behind(block, used, message.as_slice());
     size
 }
