@@ -45,6 +45,9 @@ pub record IsToCome (o : RolloutValue) (lane step : ℕ) : Type 0 where
   pub here : clock_of o step ≡ clock_in o lane
   pub open_yet : (slice_get o.journal.marks step ≡ Some marks.Untouched) ⊎ (slice_get o.journal.marks step ≡ Some marks.Begun)
 
+abbrev pub HasToCome : RolloutValue → ℕ → Type 0
+HasToCome o lane = (step : ℕ) × (step < length o.steps) × IsToCome o lane step
+
 abbrev pub left_lane : List Lane → ℕ → Option Lane → List Lane
 left_lane lanes lane None = lanes
 left_lane lanes lane (Some l) = slice_set lanes lane (record l { is_left = true })
@@ -53,6 +56,14 @@ left_lane lanes lane (Some l) = slice_set lanes lane (record l { is_left = true 
 abbrev pub is_left_lane : Option Lane → Bool
 is_left_lane None = true
 is_left_lane (Some l) = l.is_left
+
+-- each clock whose mark is there yet has a step to come
+abbrev pub AreLeft : RolloutValue → Type 0
+AreLeft o = (lane : ℕ) → lane < length o.lanes → is_left_lane (slice_get o.lanes lane) ≡ false → HasToCome o lane
+
+-- a run that keeps going has no other mark
+abbrev pub MayPass : RolloutValue → Type 0
+MayPass o = o.choice ≡ choices.KeepGoing → AreLeft o
 
 -- its mark is gone
 abbrev pub left : RolloutValue → ℕ → RolloutValue
@@ -141,14 +152,15 @@ pub data Going (time : ℕ) (o v : RolloutValue) : Type 0 where
       → (o.choice ≢ choices.Settle → lane ≡ o.seen) → ((earlier : ℕ) → o.seen ≤ earlier → earlier < lane → IsUntouched o earlier)
       → Going time o v
   Checks : (step : ℕ) → v ≡ at o (stages.Checking step) → AreSeen o → IsNext o step → IsElsewhere o step → MayGoOn o
-      → asks_steps o.choice ≡ true → IsFirst o step → Going time o v
+      → asks_steps o.choice ≡ true → IsFirst o step → MayPass o → Going time o v
   Reads : (step : ℕ) → v ≡ at o (stages.Reading step) → AreSeen o → IsNext o step → (IsElsewhere o step → ⊥)
-      → MayGoOn o → asks_steps o.choice ≡ true → IsFirst o step → Going time o v
+      → MayGoOn o → asks_steps o.choice ≡ true → IsFirst o step → MayPass o → Going time o v
   Leaves : (lane : ℕ) → v ≡ left o lane → AreSeen o → o.choice ≡ choices.KeepGoing
       → is_left_lane (slice_get o.lanes lane) ≡ false
       → ((step : ℕ) → step < length o.steps → IsToCome o lane step → ⊥) → Going time o v
-  Verifies : v ≡ at o (stages.Verifying 0) → AreSeen o → AreDone o.journal → o.is_changed ≡ false → 0 < length o.steps → Going time o v
-  Ends : (ending : Ending) (step : Option ℕ) → v ≡ ended time o ending step → EndsBy o ending step → AreSeen o → Going time o v
+  Verifies : v ≡ at o (stages.Verifying 0) → AreSeen o → AreDone o.journal → o.is_changed ≡ false → 0 < length o.steps
+      → MayPass o → Going time o v
+  Ends : (ending : Ending) (step : Option ℕ) → v ≡ ended time o ending step → EndsBy o ending step → AreSeen o → MayPass o → Going time o v
   Waits : v ≡ at o (stages.Over (overs.Open whys.Silent None)) → AreSeen o → o.choice ≡ choices.Stop → HasNoNext o
       → (AreDone o.journal → ⊥) → IsFaultless o → Going time o v
   Settles : v ≡ at o (stages.Over overs.Settled) → o.choice ≡ choices.Settle → HasNoneLeft o → Going time o v

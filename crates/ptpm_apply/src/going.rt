@@ -14,7 +14,7 @@ impl Rollout {
     ghost use Rattle.std.specs.Prelude.{◌≡◌, ◌≢◌, ◌<◌, ◌≤◌, ◌⊎◌, ◌↔◌, ℕ, IfSome, IfNone, IsTrue, Some, None, false, true, length, slice_get};
     ghost use Rattle.ptpm_apply.specs.declared.choice.Choice.{Choice};
     ghost use Rattle.ptpm_apply.specs.declared.stage.Stage.{Stage};
-    ghost use Rattle.ptpm_apply.specs.Going.{AreDone, AreSeen, EndsBy, FirstLetGo, Going, HasFailed, HasNoNext, HasNoneLeft, IsElsewhere, IsFirst, IsNext, IsToCome, IsUntouched, MayGoOn, asks_steps, is_left_lane, left};
+    ghost use Rattle.ptpm_apply.specs.Going.{AreDone, AreLeft, AreSeen, EndsBy, FirstLetGo, Going, HasFailed, HasNoNext, HasNoneLeft, HasToCome, IsElsewhere, IsFirst, IsNext, IsToCome, IsUntouched, MayGoOn, MayPass, asks_steps, is_left_lane, left};
     ghost use Rattle.ptpm_apply.specs.Rollout.{CanBegin, is_held_at};
     ghost use Rattle.ptpm_apply.specs.Turning.{BegunAt, CheckedAt, DoneAt, Follows, awaits_check, awaits_done, awaits_number};
 
@@ -231,6 +231,7 @@ impl Rollout {
     fn next_to_leave(&self) -> Option<u16>
         ensures marked { IfSome result (λ lane. is_left_lane (slice_get self.now.lanes lane) ≡ false) }
         ensures over { IfSome result (λ lane. (step : ℕ) → step < length self.now.steps → IsToCome self.now lane step → ⊥) }
+        ensures none { IfNone result (AreLeft self.now) }
     {
         for lane in 0..self.lane_count() {
             if !self.is_left(lane) && !self.has_to_come(lane) {
@@ -251,7 +252,8 @@ impl Rollout {
 
     /// Whether a step of it is untouched, or has no answer.
     fn has_to_come(&self, lane: u16) -> bool
-        ensures { result ≡ false → (step : ℕ) → step < length self.now.steps → IsToCome self.now lane step → ⊥ }
+        ensures none { result ≡ false → (step : ℕ) → step < length self.now.steps → IsToCome self.now lane step → ⊥ }
+        ensures some { result ≡ true → HasToCome self.now lane }
     {
         for step in 0..self.step_count() {
             if self.is_of(step, lane)
@@ -282,6 +284,7 @@ impl Rollout {
         requires goes_on { MayGoOn self.old }
         requires asks { asks_steps self.old.choice ≡ true }
         requires first { IsFirst self.old step }
+        requires passes { MayPass self.old }
         ensures { Going time self.old self.new }
     {
         if self.is_elsewhere(step) {
@@ -302,6 +305,7 @@ impl Rollout {
         requires seen { AreSeen self.old }
         requires done { AreDone self.old.journal }
         requires unchanged { self.old.is_changed ≡ false }
+        requires passes { MayPass self.old }
         ensures { Going time self.old self.new }
     {
         if self.step_count() == 0 {

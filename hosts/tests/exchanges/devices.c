@@ -9,6 +9,11 @@ enum { MOST_LIMITS = 8 };
 /* What the device was asked last. */
 static struct ptpm_question asked;
 
+static bool are_zeros(const uint8_t *octets, size_t size) {
+    for (size_t i = 0; i < size; i++) if (octets[i] != 0) return false;
+    return true;
+}
+
 /* What the device is asked is said as the fields of its request. */
 static void say_asked(uint32_t answer) {
     static const struct ptpm_question nothing;
@@ -21,6 +26,7 @@ static void say_asked(uint32_t answer) {
     say(" %04x %04x %02x %04x %04x ", asked.manager_port, asked.number, asked.action, asked.port, asked.id);
     say_octets(asked.octets, asked.size);
     say("\n");
+    if (!are_zeros(asked.octets + asked.size, sizeof asked.octets - asked.size)) say("it leaves what was there after the dataField\n");
 }
 
 static void run_question(char *words, enum ptpm_asking (*call)(struct ptpm_clock *, uint16_t, const uint8_t *, size_t, struct ptpm_question *)) {

@@ -13,6 +13,7 @@ pub returns-in-GiveUp : goal.returns-in-GiveUp
 returns-in-GiveUp c =
     let gives : c.args.self.now.choice ≡ choices.GiveUp = sym (ap (λ (o : RolloutValue). o.choice) c.self.view_is) ∙ c.in-GiveUp.is in
     Ends endings.GivenUp c.first_let_go.result c.end.ensures (gives, c.first_let_go.ensures) ((c.in_default.ensures {u = tt}).none (λ h. cc (gives, h)))
+    (λ keeps. cc (gives, keeps))
 
 pub returns-in-Settle : goal.returns-in-Settle
 returns-in-Settle c =

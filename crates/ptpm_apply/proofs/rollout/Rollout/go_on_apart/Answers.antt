@@ -13,8 +13,10 @@ pub returns-then-not-are_done : goal.returns-then-not-are_done
 returns-then-not-are_done c =
     Ends endings.InPart None c.end.ensures
     (refl, c.requires.keeps_going, (c.in_default-next_step.ensures {u = tt}).none, λ done. cc (c.are_done.ensures.1 done, c.if-not-are_done.true)) c.requires.seen
+    (λ keeps. (c.in_default.ensures {u = tt}).none)
 
 pub returns-then-self : goal.returns-then-self
 returns-then-self c =
     Ends endings.Changed None c.end-then-self.ensures
     (refl, sym (ap (λ (o : RolloutValue). o.is_changed) c.self.view_is) ∙ c.if-self.true, ap asks_steps c.requires.keeps_going, λ keeps. c.are_done.ensures.0 (search rules)) c.requires.seen
+    (λ keeps. (c.in_default.ensures {u = tt}).none)

@@ -8,7 +8,9 @@ pub returns-then-self : goal.returns-then-self
 returns-then-self c =
     Ends endings.Changed None c.end.ensures
     (refl, sym (ap (λ (o : RolloutValue). o.is_changed) c.self.view_is) ∙ c.if-self.true, ap asks_steps c.requires.stops, λ keeps. cc (c.requires.stops, keeps)) c.requires.seen
+    (λ keeps. cc (c.requires.stops, keeps))
 
 pub returns-in-Some : goal.returns-in-Some
 returns-in-Some c =
     Ends c.in-Some.ending (Some c.in-Some.step) c.end-in-Some.ensures ((c.in-Some.ensures {u = tt}).found c.requires.stops) c.requires.seen
+    (λ keeps. cc (c.requires.stops, keeps))

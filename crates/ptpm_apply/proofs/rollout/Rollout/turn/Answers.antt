@@ -78,12 +78,12 @@ read_all o x e endings.InPart step like h = tt
 
 going_moves : (o x v : RolloutValue) (e : Event) (time : ℕ) → IsAlike o x → Going time x v → IsMove o e v
 going_moves o x v e time like (Looks lane h a b c d) = moved o x v e (stages.Looking lane) h like.journal
-going_moves o x v e time like (Checks step h a b c d f g) = moved o x v e (stages.Checking step) h like.journal
-going_moves o x v e time like (Reads step h a b c d f g) = moved o x v e (stages.Reading step) h like.journal
+going_moves o x v e time like (Checks step h a b c d f g i) = moved o x v e (stages.Checking step) h like.journal
+going_moves o x v e time like (Reads step h a b c d f g i) = moved o x v e (stages.Reading step) h like.journal
 going_moves o x v e time like (Leaves lane h a b c d) = subst (λ (y : RolloutValue). IsMove o e y) (sym h) like.journal
-going_moves o x v e time like (Verifies h a done c d) =
+going_moves o x v e time like (Verifies h a done c d i) =
     moved o x v e (stages.Verifying 0) h (like.journal, inl (refl, subst (λ (s : State). AreDone s) like.journal done))
-going_moves o x v e time like (Ends ending step h by a) = ending_moves o x v e time ending step like (read_all o x e ending step like by) h
+going_moves o x v e time like (Ends ending step h by a i) = ending_moves o x v e time ending step like (read_all o x e ending step like by) h
 going_moves o x v e time like (Waits h a b c d f) = moved o x v e (stages.Over (overs.Open whys.Silent None)) h (like.journal, tt)
 going_moves o x v e time like (Settles h a n) = moved o x v e (stages.Over overs.Settled) h (like.journal, tt)
 
