@@ -26,12 +26,9 @@ enum { SLOW = 2000 };
 
 /* Every clock is asked again whether it is there. That ends if QUIET_ROUNDS brought nothing new, and a clock is missed less than once in
    MOST_MISSED collections. Round N of one census does not end before N times 300 ms. So a clock is found that was silent for half a second.
-   For a plan it is 500 ms. There a later round ends as soon as no answer is lacking, and the first one too if all clocks are there that the
+   For a plan it is 500 ms. There a later round ends as soon as no answer is lacking. So does the first one if it has all clocks that the
    file counts. If answers are lost a round has several censuses, and what is lacking is asked again between them. */
 enum { QUIET_ROUNDS = 2, MOST_MISSED = 1000, ROUND = 300, ROUND_OF_PLAN = 500, MOST_ROUNDS = 10, CENSUSES_OF_LOSSY = 3 };
-
-/* Whether a plan still lacks an answer is looked at this many milliseconds apart. */
-enum { LOOK = 5 };
 
 /* A socket without room is tried again this often, this many milliseconds apart. A silence that never comes is waited for this
    many time-outs at most. */
@@ -394,23 +391,17 @@ static void wait_for_slow(const struct task *task) {
 
 /* Whether this is for a plan, and no answer is lacking that is known of. */
 static bool is_whole(void) {
-    bool is_of_plan = !is_site() && collected != &first_alone;
-    return is_of_plan && seen_count() > 0 && count_lacking() == 0 && are_all_present() && !is_one_slow();
+    if (is_site() || collected == &first_alone) return false;
+    return seen_count() > 0 && count_lacking() == 0 && are_all_present() && !is_one_slow();
 }
 
-/* How long answers are still waited for where none is lacking. */
-static int64_t patience(const struct task *task) {
-    int64_t most = 2 * slowest > STEP ? 2 * slowest : STEP;
-    return most < task->timeout ? most : task->timeout;
-}
-
-/* Hears answers until none came for one time-out. Where none is lacking that is shorter. */
+/* Hears answers until none came for one time-out. If a plan lacks none, twice the time of the slowest answer so far is enough. */
 static void hear_until_quiet(const struct task *task) {
     int64_t now = milliseconds(), end = now + MOST_TIMEOUTS * task->timeout;
     for (latest = now; now < end && now < latest + task->timeout && !stopped; now = milliseconds()) {
-        int64_t enough = latest_sent + patience(task);
+        int64_t enough = latest_sent + (2 * slowest > STEP ? 2 * slowest : STEP);
         if (now >= enough && is_whole()) return;
-        hear_until(now < enough ? enough : now + LOOK);
+        hear_until(now < enough ? enough : now + STEP);
     }
 }
 
@@ -427,15 +418,28 @@ struct rounds {
 /* When the latest round may end. */
 static int64_t least_end(const struct rounds *rounds) { return rounds->begun + (rounds->round + 1) * (is_site() ? ROUND : ROUND_OF_PLAN); }
 
+/* How many clocks of a domain have answered more than a census. */
+static size_t found_in(struct domain domain) {
+    size_t found = 0;
+    for (size_t place = 0; place < seen_count(); place++) {
+        found += is_same_domain(seen_clock(place)->domain, domain) && seen_clock(place)->answered != 0;
+    }
+    return found;
+}
+
+/* Whether fewer clocks have answered in one of these domains than the file says. */
+static bool is_short(const struct rounds *rounds) {
+    for (size_t i = 0; i < rounds->count; i++) {
+        if (found_in(rounds->domains[i]) < collected->clocks[rounds->domains[i].number]) return true;
+    }
+    return false;
+}
+
 /* Whether in each of these domains as many clocks as the file says have answered all that is asked. Each id that was asked after the first then
    brought no other clock. */
 static bool is_counted(const struct rounds *rounds) {
     for (size_t i = 0; i < rounds->count; i++) {
-        size_t found = 0;
-        for (size_t place = 0; place < seen_count(); place++) {
-            const struct seen_clock *clock = seen_clock(place);
-            found += is_same_domain(clock->domain, rounds->domains[i]) && clock->answered != 0;
-        }
+        size_t found = found_in(rounds->domains[i]);
         if (found == 0 || found != collected->clocks[rounds->domains[i].number]) return false;
     }
     return is_whole();
@@ -450,10 +454,11 @@ static bool is_sure(const struct rounds *rounds) {
     return rounds->quiet >= QUIET_ROUNDS && missed < 1;
 }
 
-/* Hears what still comes in a later round, until it may end. */
+/* Hears what still comes in a later round, until it may end. A clock that the file counts is waited for once. */
 static void hear_rest(const struct rounds *rounds) {
     int64_t end = least_end(rounds);
-    while (!stopped && milliseconds() < end && !is_whole()) hear_until(milliseconds() + STEP < end ? milliseconds() + STEP : end);
+    bool waits = rounds->round < QUIET_ROUNDS && is_short(rounds);
+    while (!stopped && milliseconds() < end && (waits || !is_whole())) hear_until(milliseconds() + STEP < end ? milliseconds() + STEP : end);
 }
 
 /* Starts the requests of this many censuses; whether the library would ask them. */

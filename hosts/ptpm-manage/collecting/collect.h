@@ -7,7 +7,7 @@
 #include "task.h"
 #include <stdio.h>
 
-/* The ids that are collected, in the order in which they are asked. And how many clocks each domain is said to have: 0 where nothing says so. */
+/* The ids that are collected, in the order in which they are asked. And how many clocks each domain is said to have, or 0. */
 struct collected { size_t count; uint16_t ids[MOST_COLLECTED], clocks[DOMAINS]; };
 
 /* The six of a site. */
