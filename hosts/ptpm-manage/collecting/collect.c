@@ -200,13 +200,12 @@ static uint32_t judge(struct request *request, const uint8_t *datagram, size_t s
 
 static void hear(struct request *request, const uint8_t *datagram, size_t size) {
     uint32_t became = judge(request, datagram, size);
-    int64_t took = milliseconds() - request->asked_at;
     switch (became) {
     case PTPM_TAKEN:
     case PTPM_AGAIN:                                    /* which may be of another port, or of another clock with that identity */
     case PTPM_FULL:
     case PTPM_NO_MEMORY:
-        if (took > slowest) slowest = took;
+        if (milliseconds() - request->asked_at > slowest) slowest = milliseconds() - request->asked_at;
         (request->is_census ? take_present : take_answer)(request, datagram);
         break;
     default:
@@ -399,9 +398,10 @@ static bool is_whole(void) {
 static void hear_until_quiet(const struct task *task) {
     int64_t now = milliseconds(), end = now + MOST_TIMEOUTS * task->timeout;
     for (latest = now; now < end && now < latest + task->timeout && !stopped; now = milliseconds()) {
-        int64_t enough = latest_sent + (2 * slowest > STEP ? 2 * slowest : STEP);
+        int64_t enough = latest_sent + (2 * slowest > STEP ? 2 * slowest : STEP), most = latest + task->timeout < end ? latest + task->timeout : end;
         if (now >= enough && is_whole()) return;
-        hear_until(now < enough ? enough : now + STEP);
+        if (now >= enough) enough = now + STEP;
+        hear_until(enough < most ? enough : most);
     }
 }
 
