@@ -86,6 +86,21 @@ static int find_asks(const struct task *task, struct collected *what, struct dom
     return status;
 }
 
+/* How many clocks the file says that each domain has: a plan of no answers has these numbers. If a text of it begins with a quote, it names a
+   clock by its description. Another clock that nobody counted may have that one too, so then nothing counts. */
+static void find_counts(const struct task *task, struct collected *what) {
+    static const char lead[] = "\"domainNumber\":";
+    struct printed plan;
+    unsigned domain, clocks;
+    run_plan(task, "--json", NULL, &plan);
+    const char *at = plan.text == NULL || strstr(plan.text, "\"\\\"") != NULL ? NULL : strstr(plan.text, "\"every\":[");
+    while (at != NULL && (at = strstr(at + 1, lead)) != NULL) {
+        bool is_count = sscanf(at + strlen(lead), "%u,\"expected\":%u", &domain, &clocks) == 2 && domain < DOMAINS && clocks <= UINT16_MAX;
+        if (is_count) what->clocks[domain] = (uint16_t)clocks;
+    }
+    free(plan.text);
+}
+
 /* Asks the clocks, by nobody. The answers as lines, which the caller frees; the status. */
 static int ask_clocks(const struct task *task, const struct collected *what, const struct domains *domains, struct printed *lines) {
     static struct task survey;
@@ -195,7 +210,8 @@ static bool name_silent_domains(const struct domains *domains) {
 static bool tell_found(const struct domains *domains) {
     const struct sureness *found = sureness_of_collection();
     const char *plural = found->clocks == 1 ? "" : "s";
-    if (found->is_sure && found->late == 0) complain("%zu clock%s answered, and two more rounds brought nothing new", found->clocks, plural);
+    if (found->is_sure && found->rounds < 3) complain("%zu clock%s answered, as many as the file says", found->clocks, plural);
+    else if (found->is_sure && found->late == 0) complain("%zu clock%s answered, and two more rounds brought nothing new", found->clocks, plural);
     else if (found->is_sure) {
         complain("%zu clock%s answered in %zu rounds; %zu answers came only after the first round: messages are lost", found->clocks, plural,
                  found->rounds, found->late);
@@ -212,6 +228,7 @@ int make_plan(struct plan *plan, const struct task *task) {
     find_ptpm_program();
     int status = find_asks(task, &what, &domains);
     if (status != 0) return stopped ? BY_SIGNAL + stopped : status;
+    find_counts(task, &what);
     open_transport(task);
     widen_transport();
     int asked = status = ask_clocks(task, &what, &domains, &answers);

@@ -26,8 +26,8 @@ enum { SLOW = 2000 };
 
 /* Every clock is asked again whether it is there. That ends if QUIET_ROUNDS brought nothing new, and a clock is missed less than once in
    MOST_MISSED collections. Round N of one census does not end before N times 300 ms. So a clock is found that was silent for half a second.
-   For a plan it is 500 ms, unless the round is the last one and every clock has answered its census. If answers are lost a round has several
-   censuses, and what is lacking is asked again between them. */
+   For a plan it is 500 ms. There a later round ends as soon as no answer is lacking. So does the first one if it has all clocks that the
+   file counts. If answers are lost a round has several censuses, and what is lacking is asked again between them. */
 enum { QUIET_ROUNDS = 2, MOST_MISSED = 1000, ROUND = 300, ROUND_OF_PLAN = 500, MOST_ROUNDS = 10, CENSUSES_OF_LOSSY = 3 };
 
 /* A socket without room is tried again this often, this many milliseconds apart. A silence that never comes is waited for this
@@ -40,10 +40,13 @@ enum { HOPS_OF_CLOCKS = 8 };
 /* In the answers: how many octets two data sets have, and the places of their members (IEEE 1588-2019, 15.5.3). */
 enum { DEFAULT_SIZE = 20, PORT_SIZE = 26, PORT_COUNT_AT = FIELD_AT + 2, FIELD_PORT_AT = FIELD_AT + 8 };
 
-const struct collected of_site = { 6, {
+const struct collected of_site = { .count = 6, .ids = {
     PTPM_ID_DEFAULT_DATA_SET, PTPM_ID_CURRENT_DATA_SET, PTPM_ID_PARENT_DATA_SET, PTPM_ID_TIME_PROPERTIES_DATA_SET,
     PTPM_ID_PORT_DATA_SET, PTPM_ID_USER_DESCRIPTION,
 } };
+
+/* What is asked in each domain to find those in which a clock answers. */
+static const struct collected first_alone = { .count = 1, .ids = { PTPM_ID_DEFAULT_DATA_SET } };
 
 /* The ids that each port of a clock answers for itself. */
 static const uint16_t of_ports[] = {
@@ -57,6 +60,7 @@ struct request {
     struct ptpm_survey survey;
     uint16_t number;
     struct domain domain;
+    int64_t asked_at;                   /* when it went to every clock */
     bool is_census;
     unsigned id;                        /* its place among what is collected, or among the censuses of a round */
     size_t size;
@@ -70,6 +74,7 @@ static FILE *output;
 static long sent;                       /* messages that went out */
 static int64_t latest;                  /* when an answer came that is not a copy */
 static size_t news;                     /* how many of these came */
+static int64_t slowest;                 /* how long the slowest answer took, in milliseconds */
 static size_t let_go;                   /* clocks that are asked no more */
 static struct sureness sureness;
 static bool has_no_transport;
@@ -105,6 +110,7 @@ static bool start_request(const struct task *task, struct domain domain, unsigne
     ask_as(request->message + SOURCE_AT);
     request->number = settings.number;
     request->domain = domain;
+    request->asked_at = milliseconds();
     request->is_census = is_census;
     request->id = id;
     request_count++;
@@ -198,7 +204,10 @@ static void hear(struct request *request, const uint8_t *datagram, size_t size) 
     case PTPM_TAKEN:
     case PTPM_AGAIN:                                    /* which may be of another port, or of another clock with that identity */
     case PTPM_FULL:
-    case PTPM_NO_MEMORY: (request->is_census ? take_present : take_answer)(request, datagram); break;
+    case PTPM_NO_MEMORY:
+        if (milliseconds() - request->asked_at > slowest) slowest = milliseconds() - request->asked_at;
+        (request->is_census ? take_present : take_answer)(request, datagram);
+        break;
     default:
         if (tell_unreadable(became, request->message + SOURCE_AT, datagram, size)) note_untaken(UNREADABLE, datagram, size);
     }
@@ -214,14 +223,6 @@ static void hear_until(int64_t end) {
         }
         keep_heard(datagram, size);
         note_untaken(size < LEAST_MESSAGE ? UNREADABLE : LATE, datagram, size);
-    }
-}
-
-/* Hears answers until none came for one time-out. */
-static void hear_until_quiet(const struct task *task) {
-    int64_t now = milliseconds(), end = now + MOST_TIMEOUTS * task->timeout;
-    for (latest = now; now < end && now < latest + task->timeout && !stopped; now = milliseconds()) {
-        hear_until(latest + task->timeout < end ? latest + task->timeout : end);
     }
 }
 
@@ -258,7 +259,9 @@ static bool send_when_room(const uint8_t *message, size_t size, bool is_written)
 static int64_t ask_every(size_t first, unsigned id) {
     int64_t end = milliseconds() + STEP;
     for (size_t i = first; i < request_count; i++) {
-        if (requests[i].id == id) send_when_room(requests[i].message, requests[i].size, !requests[i].is_census);
+        if (requests[i].id != id) continue;
+        send_when_room(requests[i].message, requests[i].size, !requests[i].is_census);
+        requests[i].asked_at = milliseconds();
     }
     return end;
 }
@@ -385,6 +388,23 @@ static void wait_for_slow(const struct task *task) {
     while (!stopped && milliseconds() < end && is_one_slow()) hear_until(milliseconds() + STEP < end ? milliseconds() + STEP : end);
 }
 
+/* Whether this is for a plan, and no answer is lacking that is known of. */
+static bool is_whole(void) {
+    if (is_site() || collected == &first_alone) return false;
+    return seen_count() > 0 && count_lacking() == 0 && are_all_present() && !is_one_slow();
+}
+
+/* Hears answers until none came for one time-out. If a plan lacks none, twice the time of the slowest answer so far is enough. */
+static void hear_until_quiet(const struct task *task) {
+    int64_t now = milliseconds(), end = now + MOST_TIMEOUTS * task->timeout;
+    for (latest = now; now < end && now < latest + task->timeout && !stopped; now = milliseconds()) {
+        int64_t enough = latest_sent + (2 * slowest > STEP ? 2 * slowest : STEP), most = latest + task->timeout < end ? latest + task->timeout : end;
+        if (now >= enough && is_whole()) return;
+        if (now >= enough) enough = now + STEP;
+        hear_until(enough < most ? enough : most);
+    }
+}
+
 /* The rounds in which some domains are asked. */
 struct rounds {
     const struct domain *domains;
@@ -398,24 +418,47 @@ struct rounds {
 /* When the latest round may end. */
 static int64_t least_end(const struct rounds *rounds) { return rounds->begun + (rounds->round + 1) * (is_site() ? ROUND : ROUND_OF_PLAN); }
 
+/* How many clocks of a domain have answered more than a census. */
+static size_t found_in(struct domain domain) {
+    size_t found = 0;
+    for (size_t place = 0; place < seen_count(); place++) {
+        found += is_same_domain(seen_clock(place)->domain, domain) && seen_clock(place)->answered != 0;
+    }
+    return found;
+}
+
+/* Whether fewer clocks have answered in one of these domains than the file says. */
+static bool is_short(const struct rounds *rounds) {
+    for (size_t i = 0; i < rounds->count; i++) {
+        if (found_in(rounds->domains[i]) < collected->clocks[rounds->domains[i].number]) return true;
+    }
+    return false;
+}
+
+/* Whether in each of these domains as many clocks as the file says have answered all that is asked. Each id that was asked after the first then
+   brought no other clock. */
+static bool is_counted(const struct rounds *rounds) {
+    for (size_t i = 0; i < rounds->count; i++) {
+        size_t found = found_in(rounds->domains[i]);
+        if (found == 0 || found != collected->clocks[rounds->domains[i].number]) return false;
+    }
+    return is_whole();
+}
+
 /* Whether no clock is missing, as far as the rounds show. Of what every clock is asked a part has no answer. A clock that is asked N times is
    missed by this part to the power N. */
 static bool is_sure(const struct rounds *rounds) {
+    if (is_counted(rounds)) return true;
     double missed = (double)(seen_count() + 1) * MOST_MISSED, lost = lost_share();
     for (unsigned i = 0; i < rounds->asked; i++) missed *= lost;
     return rounds->quiet >= QUIET_ROUNDS && missed < 1;
 }
 
-/* Whether this round of a plan is the last one, since it brought nothing new, and no answer to its census is lacking. What clocks send by
-   themselves is heard for a whole round. */
-static bool is_last(const struct rounds *rounds, bool has_news) {
-    return !is_site() && seen_count() > 0 && !has_news && rounds->quiet + 1 >= QUIET_ROUNDS && lost_share() <= 0 && are_all_present();
-}
-
-/* Hears what still comes in a round, until it may end. `before` is the news before it. */
-static void hear_rest(const struct rounds *rounds, size_t before) {
+/* Hears what still comes in a later round, until it may end. A clock that the file counts is waited for once. */
+static void hear_rest(const struct rounds *rounds) {
     int64_t end = least_end(rounds);
-    while (!stopped && milliseconds() < end && !is_last(rounds, news > before)) hear_until(milliseconds() + STEP < end ? milliseconds() + STEP : end);
+    bool waits = rounds->round < QUIET_ROUNDS && is_short(rounds);
+    while (!stopped && milliseconds() < end && (waits || !is_whole())) hear_until(milliseconds() + STEP < end ? milliseconds() + STEP : end);
 }
 
 /* Starts the requests of this many censuses; whether the library would ask them. */
@@ -460,7 +503,7 @@ static bool ask_again(const struct task *task, struct rounds *rounds) {
     if (lacks > 0 && !is_found) hear_until(milliseconds() + STEP);
     unsigned censuses = is_found ? 0 : take_census(task, rounds);
     hear_until_quiet(task);
-    if (censuses == 1) hear_rest(rounds, before);
+    if (censuses == 1) hear_rest(rounds);
     end_round(censuses);
     stop_requests(base);
     let_go += let_go_of_silent(MOST_SILENT);
@@ -498,7 +541,7 @@ static bool ask_in(const struct task *task, const struct domain *domains, size_t
         next = ask_every(0, id);
     }
     hear_until_quiet(task);
-    hear_until(least_end(&rounds));
+    if (!is_counted(&rounds)) hear_until(least_end(&rounds));
     do rounds.round++;
     while (!stopped && !has_no_transport && ask_again(task, &rounds));
     wait_for_slow(task);
@@ -625,6 +668,7 @@ static void begin(const struct collected *what, FILE *to) {
     output = to;
     sent = 0;
     let_go = 0;
+    slowest = 0;
     sureness = (struct sureness){ .is_sure = true };
     has_no_transport = false;
     farthest = farthest_switch = 0;
@@ -644,7 +688,6 @@ static void ask_each_domain(const struct task *task, uint16_t sdo) {
 }
 
 void add_answering_domains(struct domains *domains, const struct task *task) {
-    static const struct collected first_alone = { 1, { PTPM_ID_DEFAULT_DATA_SET } };
     begin(&first_alone, NULL);
     for (size_t i = 0; i < domains->sdo_count; i++) ask_each_domain(task, domains->sdos[i]);
     for (size_t i = 0; i < seen_count(); i++) add_domain(domains, seen_clock(i)->domain);

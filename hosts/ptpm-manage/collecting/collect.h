@@ -7,8 +7,8 @@
 #include "task.h"
 #include <stdio.h>
 
-/* The ids that are collected, in the order in which they are asked. */
-struct collected { size_t count; uint16_t ids[MOST_COLLECTED]; };
+/* The ids that are collected, in the order in which they are asked. And how many clocks each domain is said to have, or 0. */
+struct collected { size_t count; uint16_t ids[MOST_COLLECTED], clocks[DOMAINS]; };
 
 /* The six of a site. */
 extern const struct collected of_site;
