@@ -171,7 +171,7 @@ static bool is_judged_as_owner(const struct heard *heard, const struct ptpm_say 
 }
 
 static void tell_not_made(enum ptpm_handled answer) {
-    if (answer != PTPM_ANSWERED_NEW) say_at_times("a change that the device has decided is not made: %s", answer_name(answer));
+    if (answer != PTPM_ANSWERED_NEW) say_at_times("the device has answered for a change that is not made: %s", answer_name(answer));
 }
 
 /* What becomes of a datagram, with what the device says of it, or NULL. How many messages were not taken. */

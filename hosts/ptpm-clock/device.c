@@ -184,8 +184,8 @@ static void take_look(int found) {
     if (found == HAS_CHANGE) agree();
     else refuse(PTPM_ERROR_GENERAL_ERROR);
     say_at_times("a change was under way: the device %s", found == HAS_CHANGE ? "has it"
-                 : found == LACKS_CHANGE ? "lacks it, and it is answered with GENERAL_ERROR"
-                                         : "does not know, and it is answered with GENERAL_ERROR");
+                 : found == LACKS_CHANGE ? "lacks it, and the answer is GENERAL_ERROR"
+                                         : "does not know, and the answer is GENERAL_ERROR");
 }
 
 static void look(void) {

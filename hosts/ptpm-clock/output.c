@@ -123,7 +123,7 @@ void say_at_times(const char *format, ...) {
         beyond++;
         return;
     }
-    if (beyond > 0) say("%lu more lines were not printed: there are ten a second", beyond);
+    if (beyond > 0) say("%lu more lines were not printed: the limit is ten a second", beyond);
     beyond = 0;
     va_start(values, format);
     print(&standard_error, "ptpm-clock: ", format, values);

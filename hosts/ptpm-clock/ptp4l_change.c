@@ -100,12 +100,12 @@ void watch_change(int64_t now) {
     if (ptp4l_life() == under_way.life && !is_ptp4l_gone()) return;
     take_answers();
     if (!under_way.is_there) return;
-    say_at_times("%s: the ptp4l has ended, and a change that it was asked for is answered with GENERAL_ERROR", options->ptp4l);
+    say_at_times("%s: the ptp4l has ended before it answered for a change, and the answer is GENERAL_ERROR", options->ptp4l);
     decide(PTPM_ERROR_GENERAL_ERROR);
 }
 
 _Noreturn static void refuse_to_look(void) {
-    say("%s: the outcome of an earlier run's change can't be found out there", options->ptp4l);
+    say("%s: an earlier run left a change under way, and whether it was made can't be read there", options->ptp4l);
     exit(2);
 }
 

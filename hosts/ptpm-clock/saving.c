@@ -108,7 +108,7 @@ static const char *reason(enum ptpm_restored refusal) {
     case PTPM_OTHER_VERSION: return "it has a state in the form of another version of this program";
     case PTPM_OTHER_KIND: return "it has the session of a manager, and not the state of a clock";
     case PTPM_OTHER_PORTS: return "it has the state of a clock with another number of ports";
-    default: return "the clock is not restored from it";
+    default: return "the clock can't be restored from it";
     }
 }
 

@@ -104,7 +104,7 @@ static int status_of(pid_t process) {
         if (errno != EINTR) return FAULT;
     }
     if (WIFEXITED(status)) return WEXITSTATUS(status);
-    if (!stopped) complain("a program was ended by signal %d", WTERMSIG(status));
+    if (!stopped) complain("a program that this run started was ended by signal %d", WTERMSIG(status));
     return FAULT;
 }
 

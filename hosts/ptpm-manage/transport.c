@@ -645,7 +645,7 @@ static bool is_of_namesake(const struct arrival *arrival, const uint8_t *message
                       && (message[ACTION_AT] & LOWER_HALF) != RESPONSE && (message[ACTION_AT] & LOWER_HALF) != ACKNOWLEDGE;
     if (arrival->end == &own_clock || size < SOURCE_PORT_AT || is_request || memcmp(asker, nobody, sizeof asker) == 0) return false;
     if (memcmp(message + SOURCE_AT, asker, sizeof asker) != 0) return false;
-    if (!is_told) complain("a clock has this manager's identity %s: what it sends is ignored, and -m names another manager", identity_text(asker));
+    if (!is_told) complain("a clock has this manager's identity %s: what it sends is ignored; -m gives the manager another identity", identity_text(asker));
     return is_told = true;
 }
 

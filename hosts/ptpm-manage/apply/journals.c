@@ -87,7 +87,7 @@ static void read_it(struct journal *journal, const char *path) {
     case NO_JOURNAL: refuse_usage("nothing was sent: %s: there is no such journal", path);
     case DAMAGED_JOURNAL:
         refuse_storage("nothing was sent: DAMAGED: %s: octets of the journal were lost or changed; without it no apply is open", path);
-    case OTHER_JOURNAL: refuse_storage("nothing was sent: OTHER_VERSION: %s: another version of this program wrote it, and goes on with it", path);
+    case OTHER_JOURNAL: refuse_storage("nothing was sent: OTHER_VERSION: %s: another version of this program wrote it, and only that version goes on with it", path);
     case UNREADABLE_JOURNAL: refuse_folder(path);
     }
 }

@@ -165,8 +165,8 @@ static void say_value_of_refused(const struct run *run, size_t place) {
     static struct answer answer;
     const struct step *step = &run->journal->steps[place];
     if (read_member(run->task, step, step->domain, &answer) != ANSWERED || !has(&answer, step, &step->after)) return;
-    complain("step %zu is refused, and yet the clock has what it asks: an earlier message of it was carried out, or somebody else set it",
-             place + 1);
+    complain("step %zu is refused, and yet the clock has what it asks: an earlier copy was carried out, or somebody else set "
+             "the value", place + 1);
     complain("a rollback leaves it out");
 }
 

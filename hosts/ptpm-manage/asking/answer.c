@@ -203,7 +203,7 @@ void say_other(const struct task *task, const struct answer *answer) {
     while (next_other(&asked, &answered, &member)) {
         complain("the answer is not what was asked: %s %s", member.name, member.value);
     }
-    complain("a get shows what the clock has%s", task->is_kept ? ": a run with a copy of the session's file may have asked under the "
+    complain("a get shows what the clock has%s", task->is_kept ? "; a run with a copy of the session's file may have used the "
              "same number" : "");
 }
 
@@ -221,7 +221,7 @@ void say_of_ptp4l(uint16_t error) {
     static bool is_said;
     if (error != NOT_SUPPORTED || is_said) return;
     is_said = true;
-    complain("a ptp4l takes some changes only at its Unix socket: with ptpm-clock --ptp4l beside it, it takes them over the network");
+    complain("a ptp4l takes some changes only at its Unix socket; ptpm-clock --ptp4l beside it takes them over the network");
 }
 
 /* Without a file the port of the manager is another one in each run. */

@@ -200,7 +200,7 @@ static void read_manager(struct task *task, const char *text) {
 
 /* Of two the earlier one would be asked by nobody. */
 static void take_domain(struct words *words, const char *text) {
-    if (words->domain != NULL) refuse("--domain %s: --domain %s is there already; several are two as 0-7, or all", text, words->domain);
+    if (words->domain != NULL) refuse("--domain %s: --domain %s is there already; for several write a range such as 0-7, or all", text, words->domain);
     words->domain = text;
 }
 

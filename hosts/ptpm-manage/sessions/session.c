@@ -187,6 +187,6 @@ void say_let_go(const struct earlier *earlier, const struct task *task) {
 
 /* The clock might treat a number further ahead as an old one. */
 _Noreturn void refuse_to_let_go(uint32_t refusal, const struct earlier *earlier, const struct task *task) {
-    refuse("nothing was sent: %s: %s, is not given up: too many before it had no answer. Without --give-up it is sent again",
+    refuse("nothing was sent: %s: %s, is not given up: too many requests before it had no answer. Without --give-up it is sent again",
            answer_name(refusal), earlier_words(earlier, task));
 }
