@@ -57,14 +57,18 @@ static bool is_collected(const struct collected *what, uint16_t id) {
     return false;
 }
 
-/* A line of `ptpm plan --asks`: a domainNumber, a space and a managementId's name. Whether it is one. */
+/* A line of `ptpm plan --asks`: a domainNumber, a space and a managementId's name, or how many clocks the domain has. Whether it is one. */
 static bool take_ask(struct collected *what, struct domains *domains, char *line) {
+    static const char clocks[] = "clocks=";
     char *space = strchrnul(line, ' ');
     const char *name = *space == '\0' ? "" : space + 1;
     *space = '\0';
     long domain = decimal(line, DOMAINS - 1), id = id_named(name);
-    if (domain < 0 || id < 0) return false;
+    long count = strncmp(name, clocks, strlen(clocks)) == 0 ? decimal(name + strlen(clocks), UINT16_MAX) : -1;
+    if (domain < 0 || (id < 0 && count < 0)) return false;
     add_domain(domains, (struct domain){ (uint8_t)domain, 0 });
+    if (count >= 0) what->clocks[domain] = (uint16_t)count;
+    if (count >= 0) return true;
     if (is_collected(what, (uint16_t)id)) return true;
     if (what->count == MOST_COLLECTED) return false;
     what->ids[what->count++] = (uint16_t)id;
@@ -84,21 +88,6 @@ static int find_asks(const struct task *task, struct collected *what, struct dom
     }
     free(asks.text);
     return status;
-}
-
-/* How many clocks the file says that each domain has: a plan of no answers has these numbers. If a text of it begins with a quote, it names a
-   clock by its description. Another clock that nobody counted may have that one too, so then nothing counts. */
-static void find_counts(const struct task *task, struct collected *what) {
-    static const char lead[] = "\"domainNumber\":";
-    struct printed plan;
-    unsigned domain, clocks;
-    run_plan(task, "--json", NULL, &plan);
-    const char *at = plan.text == NULL || strstr(plan.text, "\"\\\"") != NULL ? NULL : strstr(plan.text, "\"every\":[");
-    while (at != NULL && (at = strstr(at + 1, lead)) != NULL) {
-        bool is_count = sscanf(at + strlen(lead), "%u,\"expected\":%u", &domain, &clocks) == 2 && domain < DOMAINS && clocks <= UINT16_MAX;
-        if (is_count) what->clocks[domain] = (uint16_t)clocks;
-    }
-    free(plan.text);
 }
 
 /* Asks the clocks, by nobody. The answers as lines, which the caller frees; the status. */
@@ -228,7 +217,6 @@ int make_plan(struct plan *plan, const struct task *task) {
     find_ptpm_program();
     int status = find_asks(task, &what, &domains);
     if (status != 0) return stopped ? BY_SIGNAL + stopped : status;
-    find_counts(task, &what);
     open_transport(task);
     widen_transport();
     int asked = status = ask_clocks(task, &what, &domains, &answers);
