@@ -1,5 +1,5 @@
 -- What a clock's device is asked, and what it says, as a host in C has them.
-use Rattle.std.specs.Prelude.{◌≡◌, ◌≤◌, ◌==◌, ◌&&◌, ◌%◌, ℕ, Bool, true, false, not, nat_le, nat_lt, if◌then◌else◌, List, [], ◌∷◌, length, take, Option, Some, None, Result, Ok, Err}
+use Rattle.std.specs.Prelude.{◌≡◌, ◌≤◌, ◌==◌, ◌&&◌, ◌%◌, ℕ, Bool, true, false, not, nat_le, nat_lt, if◌then◌else◌, List, [], ◌∷◌, drop, length, replicate, take, Option, Some, None, Result, Ok, Err}
 use Rattle.ptpm_codec.specs.declared.error.ErrorId.{ErrorId}
 use Rattle.ptpm_codec.specs.declared.error.ErrorId.TheVariants.{GeneralError, NotSetable, NotSupported, WrongValue}
 use Rattle.ptpm_codec.specs.Message.{IsDataField, action_code}
@@ -18,7 +18,7 @@ use Rattle.ptpm_host.specs.declared.refusal.SaidRefusal.TheVariants as refusals
 
 -- ---- what it is asked
 
--- this request, of whose dataField there is room for 130 octets
+-- this request, of whose dataField there is room for 130 octets; zeros after it
 pub record IsAsked (r : NumberedRequest) (a : Question) : Type 0 where
   pub manager : a.manager ≡ r.manager.clock.0
   pub manager_port : a.manager_port ≡ r.manager.port
@@ -28,13 +28,22 @@ pub record IsAsked (r : NumberedRequest) (a : Question) : Type 0 where
   pub port : a.port ≡ r.request.port
   pub octets : length r.request.octets ≤ 130 → take a.size a.octets ≡ r.request.octets
   pub size : a.size ≤ 130
+  pub zeros : drop a.size a.octets ≡ drop a.size (replicate 130 0)
 
--- nothing is asked
-pub record AsksNothing (a : Question) : Type 0 where
-  pub action : a.action ≡ 0
-  pub size : a.size ≡ 0
+-- nothing is asked: all is zero
+abbrev pub AsksNothing : Question → Type 0
+AsksNothing a = a ≡ record {
+  manager = replicate 8 0;
+  manager_port = 0;
+  number = 0;
+  id = 0;
+  port = 0;
+  size = 0;
+  action = 0;
+  octets = replicate 130 0;
+}
 
--- this GET; its dataField says nothing
+-- this GET, without a dataField
 pub record IsWanted (r : NumberedRequest) (a : Question) : Type 0 where
   pub manager : a.manager ≡ r.manager.clock.0
   pub manager_port : a.manager_port ≡ r.manager.port
@@ -43,6 +52,7 @@ pub record IsWanted (r : NumberedRequest) (a : Question) : Type 0 where
   pub id : a.id ≡ r.request.id
   pub port : a.port ≡ r.request.port
   pub size : a.size ≡ 0
+  pub octets : a.octets ≡ replicate 130 0
 
 -- the device is asked to carry out the first, if there is one, and else for the value of the second
 abbrev pub Answers : Option NumberedRequest → Option NumberedRequest → Asking → Type 0

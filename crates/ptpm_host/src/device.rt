@@ -1,6 +1,6 @@
 //! What a clock's device is asked, and what it says, as a host in C has them.
 
-ghost use Rattle.std.specs.Prelude.{◌≡◌, ◌≤◌, Err, IfOk, MatchResult, Ok, length, take};
+ghost use Rattle.std.specs.Prelude.{◌≡◌, ◌≤◌, Err, IfOk, MatchResult, Ok, drop, length, take};
 ghost use Rattle.ptpm_codec.specs.Message.{IsDataField};
 ghost use Rattle.ptpm_host.specs.Device.{AsksNothing, IsAsked, IsGiven, IsWanted, error_in, said_value, say_in};
 
@@ -100,6 +100,7 @@ pub enum Asking {
 fn put_field(place: &mut [u8; MOST_ASKED], field: &[u8]) -> u16
     ensures octets { length field.now ≤ 130 → take result place.new ≡ field.now }
     ensures inside { result ≤ 130 }
+    ensures behind { drop result place.new ≡ drop result place.old }
 {
     if MOST_ASKED < field.len() {
         return 0;
