@@ -87,7 +87,7 @@ static const char help[] =
     "                      320 if nothing is diverted, since the ptp4l itself ignores these messages\n"
     "  --ptp4l-rules       prints rules of nftables that divert management messages to PORT\n"
     "  -n SECONDS          ends by itself after this time\n"
-    "  -v                  a line for each datagram that it hears, and one for what the datagram changed\n"
+    "  -v                  a line for each datagram that comes in, and one for what the datagram changed\n"
     "  --user NAME         the user to which the program changes once its sockets are open. Without it root becomes\n"
     "                      ptpm if there is such a user, else nobody; --user root keeps root\n"
     "  --no-filter         no system call is refused, for example for a debugger\n"
