@@ -114,7 +114,7 @@ static const char asking_text[] =
     "  -k, --numbers FILE      keeps the session of this manager with this clock from run to run.\n"
     "                          Without -k, each set or command over UDP or Ethernet keeps it in\n"
     "                          $XDG_STATE_HOME/ptpm, /var/lib/ptpm or ~/.local/state/ptpm. With -m,\n"
-    "                          so does everything except a survey\n"
+    "                          so does each get, set and command\n"
     "      --give-up           abandons the unanswered request of an earlier run, which is otherwise\n"
     "                          sent again first\n"
     "  -w, --wait MILLIS       how many milliseconds a session without a file waits before it asks (3000)\n"
