@@ -1,4 +1,4 @@
-"""python -m ptpm: asks clocks, with the words of ptpm-manage, and prints like it."""
+"""python -m ptpm: asks clocks by the command line of ptpm-manage, and prints what ptpm-manage does."""
 
 from __future__ import annotations
 
@@ -29,7 +29,7 @@ BY_SIGNAL = 128
 
 
 def _number(least: int, most: int) -> Callable[[str], int]:
-    """A number of the command line in its range."""
+    """Reads a number of the command line, from `least` to `most`."""
 
     def read(text: str) -> int:
         number = int(text) if re.fullmatch("[0-9]+", text) else -1
@@ -41,8 +41,8 @@ def _number(least: int, most: int) -> Callable[[str], int]:
 
 
 class _Once(argparse.Action):
-    """An option that may be given only once. Of two values the earlier one would silently be
-    ignored."""
+    """An option that may be given only once: argparse would silently ignore the earlier of two
+    values."""
 
     def __call__(self, parser: argparse.ArgumentParser, words: argparse.Namespace, value: Any, option: Optional[str] = None) -> None:
         if getattr(words, f"has_{self.dest}", False):
@@ -55,7 +55,7 @@ def _parser() -> argparse.ArgumentParser:
     parser = argparse.ArgumentParser(
         prog="python -m ptpm",
         description="Reads and changes the settings of PTP clocks (IEEE 1588-2019, clause 15).",
-        epilog="ptpm-manage has the same options, and more of them. Its status shows a whole site.",
+        epilog="ptpm-manage has the same options, and more of them. Its verb status shows a whole site.",
     )
     add = parser.add_argument
     add("verb", choices=["get", "set", "command", "survey"])
@@ -69,14 +69,14 @@ def _parser() -> argparse.ArgumentParser:
     add("-u", "--unix", metavar="PATH", help="on a Unix socket of this machine, such as /var/run/ptp4l")
     add("-T", "--target", metavar="IDENTITY", help="the clock, such as aabbccfffeddee01 or aabbcc.fffe.ddee01-1 for its port 1")
     add("-p", "--port", type=_number(0, 65535), help="the clock's port, instead of one after IDENTITY")
-    add("-d", "--domain", action=_Once, type=_number(0, 255), default=0)
+    add("-d", "--domain", action=_Once, type=_number(0, 255), default=0, help="domainNumber, 0 by default")
     add("-b", "--hops", type=_number(0, 255), default=1, help="how many boundary clocks may forward the request")
     add("-m", "--manager", metavar="IDENTITY-PORT", help="the manager's own identity; by default the MAC of the interface with its local bit inverted")
     add("-k", "--numbers", metavar="FILE", help="the file of the manager's session with the clock")
     add("--give-up", action="store_true", help="abandons the unanswered request of an earlier run")
-    add("-w", "--wait", type=_number(0, 100000), default=3000, help="milliseconds before a new session asks")
-    add("-a", "--attempts", type=_number(1, 255), default=30)
-    add("-t", "--timeout", type=_number(1, 100000), default=200, help="milliseconds for each answer")
+    add("-w", "--wait", type=_number(0, 100000), default=3000, help="milliseconds that a new session waits before it asks")
+    add("-a", "--attempts", type=_number(1, 255), default=30, help="how often a request is sent at most, 30 by default")
+    add("-t", "--timeout", type=_number(1, 100000), default=200, help="milliseconds to wait for each answer")
     add("-x", "--hexadecimal", action="store_true", help="values are dataFields in hexadecimal")
     add("--text", action="store_true", help="VALUE is a text, for USER_DESCRIPTION")
     add("--version", action="version", version=f"ptpm {__version__}")
@@ -98,7 +98,7 @@ class Task:
         self._judge()
 
     def _read_id(self, text: str) -> int:
-        """An id that only other clocks have can be named only to read it."""
+        """The managementId. By its name, an id that ptpm-clock lacks can only be read."""
         number = id_of(text)
         is_number = id_name(number) == f"{number:04x}"
         if self.words.verb in ("set", "command") and is_number and not re.fullmatch("(0[xX])?[0-9a-fA-F]{4}", text):
@@ -154,7 +154,7 @@ class Task:
             raise ValueError("--give-up: this request has no session")
 
     def way(self) -> Transport:
-        """The socket that it uses."""
+        """Opens the socket for the request."""
         words = self.words
         if words.unix is not None:
             return UnixTransport(words.unix)
@@ -162,15 +162,15 @@ class Task:
 
     @property
     def is_numbered(self) -> bool:
-        """Whether each run asks as the same manager, so that a clock may have cached an answer to it. No session has a port above
-        255."""
+        """Whether the request is in a session. Then each run asks as the same manager, and the clock may have cached an answer for
+        that manager. Requests to a port above 255 are in no session."""
         words = self.words
         by_one_manager = words.manager is not None or words.numbers is not None
         may_be_kept = self.action is not None and not is_beyond_session(self.port)
         return may_be_kept and (by_one_manager or (words.unix is None and self.action != Action.GET))
 
     def _manager(self) -> PortIdentity:
-        """The identity of who asks, without a socket."""
+        """The portIdentity of the manager. Finding it opens no socket."""
         words = self.words
         if words.manager is not None:
             manager = PortIdentity.of(words.manager)
@@ -181,7 +181,7 @@ class Task:
         return PortIdentity(UdpTransport.identity_at(words.interface, words.udp, ipv6=words.ipv6), 1)
 
     def ask(self) -> int:
-        """Asks, and prints what was answered; returns the status."""
+        """Asks, and prints what was answered; returns the exit status."""
         words = self.words
         seconds = words.timeout / 1000
         asked = {"domain": words.domain, "hops": words.hops, "attempts": words.attempts}
@@ -190,9 +190,9 @@ class Task:
             with self.way() as way:
                 return _print(list(survey(way, self.id, manager=who, timeout=seconds, **asked)), words.hexadecimal)
         settings = SessionSettings(self._manager(), self.target, **asked)
-        begin_request(Requests(settings), self.action, self.id, self.data, self.port)  # what is refused makes no file
+        begin_request(Requests(settings), self.action, self.id, self.data, self.port)  # a refused request makes no file
         if self.is_numbered:
-            # An answer to this host alone comes in at the latest socket, so who waits for its turn has none yet.
+            # A unicast answer comes in at the socket that was opened last. So a run opens none while it waits for the file.
             with SessionFile(settings.manager, self.target, words.numbers) as file, self.way() as way:
                 return self._ask_by(file, settings, way)
         is_managers = words.manager is not None and self.action != Action.GET
@@ -202,7 +202,7 @@ class Task:
 
     @property
     def _is_unnamed(self) -> bool:
-        """Whether the manager has the name of its interface."""
+        """Whether the manager's identity is that of its interface, since no option names one."""
         return self.words.manager is None and self.words.numbers is None and self.words.unix is None
 
     def _ask_by(self, file: SessionFile, settings: SessionSettings, way: Transport) -> int:
@@ -217,7 +217,7 @@ class Task:
                     if self._is_unnamed:
                         who = settings.manager
                         complain(f"this manager is {who}, from the MAC of the interface: ptpm-clock accepts its changes with -m {who}")
-                status = _print([report], words.hexadecimal)  # and then it is kept without the request
+                status = _print([report], words.hexadecimal)  # then the session is saved without its request
         except OSError as error:
             if status is None:
                 raise
@@ -225,8 +225,8 @@ class Task:
         return status
 
     def _finish_in(self, session: Session, way: Transport) -> Report:
-        """Finishes the request of an earlier run, and reports its answer. If it has none, says what
-        can be done."""
+        """Finishes the request of an earlier run, and reports its answer. If there is no answer, says
+        what the user can do."""
         domain = session.earlier_domain
         try:
             return session.finish(way, timeout=self.words.timeout / 1000)
@@ -246,7 +246,7 @@ class Task:
         if session.is_under_way:
             earlier = self._finish_in(session, way)
             said = complain(f"a request of an earlier run{where} had no answer yet, and was sent again:") and complain(earlier)
-            if not said:  # and then it stays in the file
+            if not said:  # the request then stays in the file
                 raise NotWritten("standard error could not be written")
             if not earlier.is_as_asked:
                 _complain_of(earlier)
@@ -316,7 +316,7 @@ def _run(given: List[str]) -> int:
 
 
 def main(arguments: Optional[List[str]] = None) -> int:
-    """Asks what a command line says, and returns the exit status."""
+    """Carries out a command line, and returns the exit status."""
     hold_streams()
     try:
         return _run(sys.argv[1:] if arguments is None else arguments)

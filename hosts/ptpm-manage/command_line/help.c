@@ -27,8 +27,8 @@ static const char help_text[] =
     "\n"
     "Reads a data set of a PTP clock, sets a value, or sends a command, and prints the answer. The\n"
     "request is sent again until it is answered. survey asks every clock and port. NAME is a member's\n"
-    "name, as the answer prints it: set PRIORITY1 100, or set UTC_PROPERTIES currentUtcOffset 37\n"
-    "leap61 false leap59 false currentUtcOffsetValid true.\n"
+    "name, as the answer prints it. An id with one member needs no NAME: set PRIORITY1 100. Others do:\n"
+    "set UTC_PROPERTIES currentUtcOffset 37 leap61 false leap59 false currentUtcOffsetValid true.\n"
     "\n"
     "collect asks every clock of a site, and prints the answers in hexadecimal.\n"
     "The verb status shows, by ptpm site, who is grandmaster, who follows whom, and what is wrong.\n"
@@ -53,11 +53,11 @@ static const char help_text[] =
     "                          follow: aabbccfffeddee01/1. An id of a port needs one\n"
     "      --names FILE        your names for clocks: lines of an identity, a space and a name. IDENTITY may then\n"
     "                          be such a name, and status shows these names\n"
-    "  -p, --port PORT         the port, instead of one after IDENTITY; all, with get, asks each port\n"
+    "  -p, --port PORT         the clock's port, if none follows IDENTITY; with get, all means every port\n"
     "  -d, --domain N          domainNumber, 0 to 255 (0). For collect and status also a range such as\n"
-    "                          0-7, or all. All means 0, 127, and each in which clocks are heard or answer\n"
+    "                          0-7, or all: 0, 127, and each domain in which clocks are heard or answer\n"
     "      --sdo N             sdoId for collect and status, 0 to 4095 or 0x000 to 0xfff (0); 0x100 in 802.1AS.\n"
-    "                          All means 0, and each in which clocks are heard\n"
+    "                          Or all: 0, and each sdoId in which clocks are heard\n"
     "  -b, --hops N            how many boundary clocks may forward the request, 0 to 255 (1; 7 for collect,\n"
     "                          status, plan, apply, resume and rollback)\n"
     "  -x, --hexadecimal       VALUE and answers are octets of the dataField in hexadecimal\n"
@@ -71,7 +71,7 @@ static const char site_text[] =
     "                          nothing. With apply each member first gets a SET of its present value\n"
     "      --status-if-changes plan ends with status 8 if there are changes\n"
     "      --expect PLAN       apply sends nothing unless its plan is PLAN, eight digits\n"
-    "      --skip-unreached    apply leaves out what is not reached, and names it\n"
+    "      --skip-unreached    apply leaves out clocks that can't be reached, and names them\n"
     "      --keep-going        apply goes on at other clocks if one fails; so does resume\n"
     "      --limit CLOCK,..    apply changes only these clocks\n"
     "      --keep N            apply, resume and rollback keep only the N latest journals of ended applies\n"
@@ -83,8 +83,8 @@ static const char site_text[] =
     "A whole site:\n"
     "      --listen SECONDS    how long collect and status listen for clocks first (0; 4 with --domain all or\n"
     "                          --sdo all)\n"
-    "      --max-offset NS     offsets above this limit, in nanoseconds, are findings (1000000); none means\n"
-    "                          no limit\n"
+    "      --max-offset NS     offsets above this limit, in nanoseconds, are findings (1000000). The word\n"
+    "                          none means no limit\n"
     "      --max-delay NS      delays above this limit are findings too\n"
     "      --tai-utc S         how many seconds TAI is ahead of UTC (37)\n"
     "      --settle SECONDS    a port that has not locked or settled after this time is a finding (10)\n"
@@ -112,9 +112,9 @@ static const char asking_text[] =
     "                          On a Unix socket the identity is 0. Requests outside a session use a\n"
     "                          portNumber that no manager has\n"
     "  -k, --numbers FILE      keeps the session of this manager with this clock from run to run.\n"
-    "                          Without it, a file in $XDG_STATE_HOME/ptpm, /var/lib/ptpm or\n"
-    "                          ~/.local/state/ptpm does so for a set or a command over UDP or\n"
-    "                          Ethernet. With -m that file does so for everything except a survey\n"
+    "                          Without -k, each set or command over UDP or Ethernet keeps it in\n"
+    "                          $XDG_STATE_HOME/ptpm, /var/lib/ptpm or ~/.local/state/ptpm. With -m,\n"
+    "                          so does each get, set and command\n"
     "      --give-up           abandons the unanswered request of an earlier run, which is otherwise\n"
     "                          sent again first\n"
     "  -w, --wait MILLIS       how many milliseconds a session without a file waits before it asks (3000)\n"
@@ -136,7 +136,7 @@ static const char help_end[] =
     "line or FILE is refused; 3 nothing was sent. 4 a file could not be read or written; 5 somebody else\n"
     "changed a value; 6 the apply is open: resume continues it. 7 done in part; 8 there are changes.\n";
 
-/* The names of all ids that a call gives, in their order. */
+/* Prints the names of all ids that a call gives, in the call's order. */
 static void print_ids(uint32_t id_at(size_t place)) {
     int column = WIDTH;
     for (size_t place = 0; id_at(place) != PTPM_NO_ID; place++) {
