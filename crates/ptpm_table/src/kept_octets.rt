@@ -19,8 +19,8 @@ pub(crate) const PORT_MESSAGE_OCTETS: usize = 80;
 /// For how many octets of messages there is room in the value.
 const INLINE_OCTETS: usize = PORT_MESSAGE_OCTETS * INLINE_PORTS;
 
-/// The size of each message, and the messages, one after the other: in the value, or each in a block of memory, of which the messages
-/// have so many octets.
+/// The size of each message, and the messages one after the other: in the value, or in two blocks of memory. Of the second block the
+/// last number says how many octets are used.
 #[derive(Drop)]
 enum Places {
     Few(ArrayVec<u8, INLINE_PORTS>, ArrayVec<u8, INLINE_OCTETS>),
@@ -187,7 +187,7 @@ impl KeptOctets {
     }
 }
 
-/// Writes a message over the octets of a block behind the first of them, of which there are this many.
+/// Writes a message into a block, after the octets that are used.
 #[inline(always)]
 fn put_behind(block: &mut [u8], used: usize, message: &[u8])
     requires { used + length message.now ≤ length block.old }
@@ -197,7 +197,7 @@ fn put_behind(block: &mut [u8], used: usize, message: &[u8])
     copy_message(&mut block[used..used + message.len()], message);
 }
 
-/// Writes the canonical spelling of a draft behind the first octets of a block; how many octets that is. Never inlined: so the stack
+/// Writes the canonical spelling of a draft into a block, after the octets that are used; how many it has. Never inlined: so the stack
 /// has room for the message only if blocks are used.
 #[inline(never)]
 #[tactic(auto, using(crate::proofs::KeptMessageLaws::canonical_length))]
