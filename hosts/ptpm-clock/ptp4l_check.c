@@ -9,8 +9,7 @@
 
 /* The members of DEFAULT_DATA_SET and PORT_PROPERTIES_NP that are compared: a number or an identity, and a text. In CLOCK_DESCRIPTION it is the
    networkProtocol of the protocolAddress, after clockType, a text and an address. */
-enum { NUMBER_PORTS_AT = 2, IDENTITY_AT = 10, DEFAULT_OCTETS = 20, PORT_PROPERTIES_NP = 0xc004, NAME_SIZE_AT = 12, NAME_AT = 13 };
-enum { CLOCK_DESCRIPTION = 0x0001, LAYER_SIZE_AT = 2, LAYER_AT = 3 };
+enum { NUMBER_PORTS_AT = 2, IDENTITY_AT = 10, DEFAULT_OCTETS = 20, NAME_SIZE_AT = 12, NAME_AT = 13, LAYER_SIZE_AT = 2, LAYER_AT = 3 };
 
 static unsigned life;                   /* the one that the verdict is about */
 static enum found verdict;
@@ -64,8 +63,8 @@ static enum found judge_ports(void) {
 static unsigned protocol_of(const struct ptp4l_answer *answer) {
     size_t at = LAYER_AT;
     if (answer->size > LAYER_SIZE_AT) at += answer->field[LAYER_SIZE_AT];
-    if (answer->size >= at + 2) at += 2 + ((size_t)answer->field[at] << 8 | answer->field[at + 1]);
-    return answer->size >= at + 2 ? (unsigned)answer->field[at] << 8 | answer->field[at + 1] : 0;
+    if (answer->size >= at + 2) at += 2 + number_at(answer->field + at);
+    return answer->size >= at + 2 ? number_at(answer->field + at) : 0;
 }
 
 /* Says where a port is over another transport than this program, which hears other managers then. */
