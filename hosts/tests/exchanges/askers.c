@@ -1,7 +1,5 @@
 /* Commands of an asker. What it hands out is said with its message, and with what it reports. */
 #include "commands.h"
-#include "refusing.h"
-#include "words.h"
 #include <string.h>
 
 /* How many octets are drawn for an asker: this many are always given. */

@@ -1,8 +1,6 @@
 /* Commands of a clock. Each datagram comes in at a second and a third clock too, which are restored from the image of the first. All have
    to answer, send and become the same. */
 #include "commands.h"
-#include "refusing.h"
-#include "words.h"
 #include <string.h>
 
 /* The places of the sender's identity and of a dataField in a message. How many messages that are alike have a line each. */

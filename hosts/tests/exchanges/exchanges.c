@@ -4,8 +4,6 @@
    nothing. */
 #include "../checking.h"
 #include "commands.h"
-#include "refusing.h"
-#include "words.h"
 #include <stdlib.h>
 #include <string.h>
 

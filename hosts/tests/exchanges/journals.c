@@ -1,7 +1,5 @@
 /* Commands of a journal. A record is said by its members, as it is given. */
 #include "commands.h"
-#include "refusing.h"
-#include "words.h"
 #include <string.h>
 
 static struct ptpm_journal journal;

@@ -1,6 +1,4 @@
-#include "refusing.h"
-#include "words.h"
-#include "ptpm.h"
+#include "commands.h"
 #include <string.h>
 
 /* The linker has the library and this program call these (--wrap). */

@@ -1,7 +1,5 @@
 /* Commands of a rollout. What it wants done next is said in words, and a note with its record. */
 #include "commands.h"
-#include "refusing.h"
-#include "words.h"
 #include <stdlib.h>
 #include <string.h>
 

@@ -1,7 +1,5 @@
 /* Commands of a session. After each of them the session is what its image restores. */
 #include "commands.h"
-#include "refusing.h"
-#include "words.h"
 #include <string.h>
 
 static struct ptpm_session session;

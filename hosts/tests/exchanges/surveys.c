@@ -1,7 +1,5 @@
 /* Commands of a survey. */
 #include "commands.h"
-#include "refusing.h"
-#include "words.h"
 #include <string.h>
 
 static struct ptpm_survey survey;
