@@ -17,7 +17,9 @@ from ._header import PTPM_VERSION as __version__, ClockMembers, PortMembers
 from .answers import Error, HandleAnswer, PtpmError, SessionAnswer, SurveyAnswer, answer_name
 from .asking import NoAnswer
 from .clock import Changed, Clock, Handled
-from .data_sets import ClockQuality, CurrentDataSet, DefaultDataSet, ParentDataSet, PortDataSet, TimePropertiesDataSet
+from .data_sets import (
+    ClockQuality, CurrentDataSet, DefaultDataSet, ParentDataSet, PortDataSet, TimeInterval, TimePropertiesDataSet,
+)
 from .device import Asked, ChangeRefused, Gives, Limit, Objection, Say
 from .identity import Identity, PortIdentity
 from .ids import Action, ManagementId, error_name, id_name, id_of
@@ -36,7 +38,6 @@ from .settings import ClockSettings, DelayMechanism, Manager, PortSettings, Port
 from .site import AskedDomain, Domain, DomainIdentity, Finding, Grandmaster, Lack, Site, SiteClock, read_site
 from .site_programs import SiteError, site
 from .survey import SURVEY_PORT, Survey, SurveySettings, survey
-from .time_interval import TimeInterval
 from .transport import Transport, UdpTransport, UnixTransport
 
 __all__ = [

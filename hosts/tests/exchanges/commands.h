@@ -47,9 +47,6 @@ void say_written(uint32_t answer, const char *done, size_t size, void (*say_it)(
    null. Returns what the call returns at last. */
 uint32_t refusing(uint32_t (*call)(void *given), void *given, size_t (*state)(uint8_t *octets));
 
-/* How many requests were refused so far. */
-unsigned refused_so_far(void);
-
 /* What becomes of a datagram at port 1 of a clock, by the octets at each of its places (IEEE 1588-2019, 13.3, 15.3 and 15.4). The order of
    the answers, and numbers, are this project's profile. The library is not asked.
 
