@@ -3,7 +3,7 @@
 #include "message_places.h"
 #include "monotonic.h"
 #include "output.h"
-#include "ptp4l_check.h"
+#include "ptp4l.h"
 #include "ptp4l_mute.h"
 #include <poll.h>
 #include <signal.h>

@@ -2,7 +2,7 @@
 #include "message_places.h"
 #include "monotonic.h"
 #include "output.h"
-#include "ptp4l_check.h"
+#include "ptp4l.h"
 #include "ptp4l_socket.h"
 #include "socket_option.h"
 #include "udp.h"

@@ -3,7 +3,7 @@
 #include "monotonic.h"
 #include "names.h"
 #include "network_limits.h"
-#include "ptp4l_check.h"
+#include "ptp4l.h"
 #include "ptp4l_socket.h"
 #include <string.h>
 
