@@ -182,14 +182,9 @@ static void run_earlier(char *words) {
     say("%s, in domain %u\n", left[what & 3], there);
 }
 
-static void run_stop(char *words) {
-    (void)words;
-    stop_asker();
-}
-
 const struct command asker_commands[] = {
     { "asker", run_asker }, { "restore-asker", run_restore }, { "ask-clock", run_ask }, { "settle", run_settle },
     { "let-go", run_let_go }, { "hear", run_hear }, { "wake", run_wake }, { "unsent", run_unsent }, { "asker-saved", run_saved },
-    { "noted", run_noted }, { "asker-image", run_image }, { "earlier", run_earlier }, { "stop-asker", run_stop },
+    { "noted", run_noted }, { "asker-image", run_image }, { "earlier", run_earlier },
     { NULL, NULL },
 };

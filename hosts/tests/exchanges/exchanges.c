@@ -69,12 +69,24 @@ static void run_name(char *words) {
 
 static const struct command own_commands[] = { { "name", run_name }, { NULL, NULL } };
 
+/* What a page has started stops by these commands, and at its end. */
+static const struct { const char *name; void (*stop)(void); } stops[] = {
+    { "stop", stop_clock }, { "stop-session", stop_session }, { "stop-survey", stop_survey }, { "stop-asker", stop_asker },
+    { "stop-journal", stop_journal }, { "stop-rollout", stop_rollout },
+};
+enum { STOPS = sizeof stops / sizeof *stops };
+
 static void run_command(char *words) {
     static const struct command *const tables[] = {
         own_commands, clock_commands, device_commands, damage_commands, session_commands, survey_commands, asker_commands, seal_commands,
         journal_commands, rollout_commands, text_commands,
     };
     const char *name = next_word(&words);
+    for (size_t i = 0; name != NULL && i < STOPS; i++) {
+        if (strcmp(stops[i].name, name) != 0) continue;
+        stops[i].stop();
+        return;
+    }
     for (size_t i = 0; name != NULL && i < sizeof tables / sizeof *tables; i++) {
         for (const struct command *command = tables[i]; command->name != NULL; command++) {
             if (strcmp(command->name, name) != 0) continue;
@@ -288,12 +300,7 @@ static void run_page(const char *path, bool is_printed) {
     free(page.lines);
     forget_names();
     forget_messages();
-    stop_clock();
-    stop_session();
-    stop_survey();
-    stop_asker();
-    stop_journal();
-    stop_rollout();
+    for (size_t i = 0; i < STOPS; i++) stops[i].stop();
     stop_network();
 }
 
