@@ -3,15 +3,12 @@
    forwarded has 196,616 octets. A device that has no room for it forwards nothing: it sends only what answers. It is C, and C++ too:
        cc block_host.c $(pkg-config --cflags --libs ptpm_memory) && sudo ./a.out eth0 eth1 */
 #define _DEFAULT_SOURCE
-#include <arpa/inet.h>
-#include <net/if.h>
+#include "udp_port.h"
 #include <poll.h>
 #include <ptpm.h>
 #include <ptpm_memory.h>
 #include <string.h>
 #include <sys/random.h>
-#include <sys/socket.h>
-#include <time.h>
 #include <unistd.h>
 
 enum { PORTS = 2, PLACES = 2 * PORTS - 1, NOTED = 1000, RATE = 100 };   /* milliseconds in which a message is forwarded once, and messages a second */
@@ -26,7 +23,6 @@ static struct ptpm_sent sent[PLACES];
 static struct ptpm_passed_on passed_on;         /* what was forwarded last */
 static struct ptpm_rate rates[PORTS];           /* what each port still forwards */
 static uint8_t datagram[65536];
-static struct sockaddr_in group;
 static struct pollfd sockets[PORTS];
 
 /* Says why the agent does not start, with the name of the library's answer. */
@@ -35,21 +31,6 @@ static int refused(enum ptpm_started answer) {
     size_t size = ptpm_answer_name(answer, name, PTPM_MOST_NAME);
     name[size++] = '\n';
     return write(2, name, size) < 0 ? 2 : 1;
-}
-
-static int open_port(const char *interface) {
-    const int one = 1, none = 0;
-    struct ip_mreqn join;
-    int at = socket(AF_INET, SOCK_DGRAM, 0);
-    memset(&join, 0, sizeof join);
-    join.imr_multiaddr = group.sin_addr;
-    join.imr_ifindex = (int)if_nametoindex(interface);
-    return at >= 0 && setsockopt(at, SOL_SOCKET, SO_REUSEADDR, &one, sizeof one) == 0
-           && setsockopt(at, SOL_SOCKET, SO_BINDTODEVICE, interface, (socklen_t)strlen(interface) + 1) == 0
-           && bind(at, (const struct sockaddr *)&group, sizeof group) == 0
-           && setsockopt(at, IPPROTO_IP, IP_ADD_MEMBERSHIP, &join, sizeof join) == 0
-           && setsockopt(at, IPPROTO_IP, IP_MULTICAST_IF, &join, sizeof join) == 0
-           && setsockopt(at, IPPROTO_IP, IP_MULTICAST_LOOP, &none, sizeof none) == 0 ? at : -1;
 }
 
 /* The block is given before the first call that allocates memory. */
@@ -61,13 +42,6 @@ static enum ptpm_started start(void) {
     memcpy(settings.identity, identity, sizeof identity);
     for (int i = 0; i < PORTS; i++) ptpm_port_defaults(&ports[i]);
     return ptpm_clock_start(&device, &settings, ports, PORTS, &manager, 1);
-}
-
-/* Milliseconds, of a clock that nobody sets. */
-static uint64_t time_now(void) {
-    struct timespec now;
-    clock_gettime(CLOCK_MONOTONIC, &now);
-    return (uint64_t)now.tv_sec * 1000 + (uint64_t)now.tv_nsec / 1000000;
 }
 
 /* Sends what the clock made of a datagram. What is for the port that it came in at answers it, and all else forwards it: once in a
@@ -98,9 +72,6 @@ int main(int count_of_words, char **words) {
     enum ptpm_started answer = start();
     if (answer != PTPM_STARTED) return refused(answer);
     if (count_of_words != PORTS + 1) return 2;
-    group.sin_family = AF_INET;
-    group.sin_port = htons(320);
-    group.sin_addr.s_addr = inet_addr("224.0.1.129");
     if (getrandom(&passed_on.seed, sizeof passed_on.seed, 0) != sizeof passed_on.seed) return 1;
     for (int i = 0; i < PORTS; i++) {
         ptpm_rate_start(&rates[i], RATE, time_now());

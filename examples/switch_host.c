@@ -3,15 +3,12 @@
    too:
        cc switch_host.c $(pkg-config --cflags --libs ptpm) && sudo ./a.out swp1 swp2 swp3 */
 #define _DEFAULT_SOURCE
-#include <arpa/inet.h>
-#include <net/if.h>
+#include "udp_port.h"
 #include <ptpm.h>
 #include <stdlib.h>
 #include <string.h>
 #include <sys/epoll.h>
 #include <sys/random.h>
-#include <sys/socket.h>
-#include <time.h>
 #include <unistd.h>
 
 enum { NOTED = 1000, RATE = 100, EVENTS = 16 };     /* milliseconds in which a message is forwarded once, and messages a second */
@@ -27,22 +24,6 @@ static int sockets[PTPM_MOST_PORTS];
 static struct ptpm_rate rates[PTPM_MOST_PORTS];     /* what each port still forwards */
 static struct ptpm_passed_on passed_on;             /* what was forwarded last */
 static uint8_t datagram[65536];
-static struct sockaddr_in group;
-
-static int open_port(const char *interface) {
-    const int one = 1, none = 0;
-    struct ip_mreqn join;
-    int at = socket(AF_INET, SOCK_DGRAM, 0);
-    memset(&join, 0, sizeof join);
-    join.imr_multiaddr = group.sin_addr;
-    join.imr_ifindex = (int)if_nametoindex(interface);
-    return at >= 0 && setsockopt(at, SOL_SOCKET, SO_REUSEADDR, &one, sizeof one) == 0
-           && setsockopt(at, SOL_SOCKET, SO_BINDTODEVICE, interface, (socklen_t)strlen(interface) + 1) == 0
-           && bind(at, (const struct sockaddr *)&group, sizeof group) == 0
-           && setsockopt(at, IPPROTO_IP, IP_ADD_MEMBERSHIP, &join, sizeof join) == 0
-           && setsockopt(at, IPPROTO_IP, IP_MULTICAST_IF, &join, sizeof join) == 0
-           && setsockopt(at, IPPROTO_IP, IP_MULTICAST_LOOP, &none, sizeof none) == 0 ? at : -1;
-}
 
 /* The start takes all memory that the clock ever has, and the host all its places. */
 static bool start(void) {
@@ -53,13 +34,6 @@ static bool start(void) {
     memcpy(settings.identity, identity, sizeof identity);
     for (size_t i = 0; i < port_count; i++) ptpm_port_defaults(&ports[i]);
     return answers != NULL && ptpm_clock_start_sized(&device, &settings, ports, port_count, &manager, 1) == PTPM_STARTED;
-}
-
-/* Milliseconds, of a clock that nobody sets. */
-static uint64_t time_now(void) {
-    struct timespec now;
-    clock_gettime(CLOCK_MONOTONIC, &now);
-    return (uint64_t)now.tv_sec * 1000 + (uint64_t)now.tv_nsec / 1000000;
 }
 
 static void send_at(size_t place, const uint8_t *octets, size_t size) {
@@ -90,9 +64,6 @@ int main(int count_of_words, char **words) {
     int polled = epoll_create1(0);
     port_count = (size_t)(count_of_words - 1);
     if (port_count < 1 || port_count > PTPM_MOST_PORTS) return 2;
-    group.sin_family = AF_INET;
-    group.sin_port = htons(320);
-    group.sin_addr.s_addr = inet_addr("224.0.1.129");
     if (!start() || getrandom(&passed_on.seed, sizeof passed_on.seed, 0) != sizeof passed_on.seed) return 1;
     for (size_t i = 0; i < port_count; i++) {
         ptpm_rate_start(&rates[i], RATE, time_now());

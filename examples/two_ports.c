@@ -1,15 +1,12 @@
 /* A host with sockets on UDP port 320 of two interfaces (IPv4, annex C). The device provides the functions that are declared below;
    device.c is a simulated one. */
 #define _DEFAULT_SOURCE
-#include <arpa/inet.h>
-#include <net/if.h>
+#include "udp_port.h"
 #include <poll.h>
 #include <ptpm.h>
 #include <stdio.h>
 #include <string.h>
 #include <sys/random.h>
-#include <sys/socket.h>
-#include <time.h>
 
 enum { PORTS = 2, PLACES = 2 * PORTS - 1, TICK = 125 };     /* milliseconds between two observations */
 enum { NOTED = 1000, RATE = 100 };                          /* milliseconds in which a message is forwarded once, and messages a second */
@@ -25,30 +22,7 @@ static struct ptpm_clock device;                            /* all zeros: no clo
 static struct ptpm_sent sent[PLACES];
 static struct ptpm_passed_on passed_on;                     /* what was forwarded last */
 static struct ptpm_rate rates[PORTS];                       /* what each port still forwards */
-static struct sockaddr_in group;
 static struct pollfd sockets[PORTS];
-
-/* Milliseconds, of a clock that nobody sets. */
-static uint64_t time_now(void) {
-    struct timespec now;
-    clock_gettime(CLOCK_MONOTONIC, &now);
-    return (uint64_t)now.tv_sec * 1000 + (uint64_t)now.tv_nsec / 1000000;
-}
-
-static int open_port(const char *interface) {
-    const int one = 1, none = 0;
-    struct ip_mreqn join;
-    int at = socket(AF_INET, SOCK_DGRAM, 0);
-    memset(&join, 0, sizeof join);
-    join.imr_multiaddr = group.sin_addr;
-    join.imr_ifindex = (int)if_nametoindex(interface);
-    return at >= 0 && setsockopt(at, SOL_SOCKET, SO_REUSEADDR, &one, sizeof one) == 0
-           && setsockopt(at, SOL_SOCKET, SO_BINDTODEVICE, interface, (socklen_t)strlen(interface) + 1) == 0
-           && bind(at, (const struct sockaddr *)&group, sizeof group) == 0
-           && setsockopt(at, IPPROTO_IP, IP_ADD_MEMBERSHIP, &join, sizeof join) == 0
-           && setsockopt(at, IPPROTO_IP, IP_MULTICAST_IF, &join, sizeof join) == 0
-           && setsockopt(at, IPPROTO_IP, IP_MULTICAST_LOOP, &none, sizeof none) == 0 ? at : -1;
-}
 
 static enum ptpm_started start(const uint8_t identity[8], const struct ptpm_manager_settings *manager) {
     struct ptpm_clock_settings settings;
@@ -120,9 +94,6 @@ static void observe(void) {
 }
 
 int run(const char *const interfaces[PORTS], const uint8_t identity[8], const struct ptpm_manager_settings *manager) {
-    group.sin_family = AF_INET;
-    group.sin_port = htons(320);
-    group.sin_addr.s_addr = inet_addr("224.0.1.129");
     if (getrandom(&passed_on.seed, sizeof passed_on.seed, 0) != sizeof passed_on.seed) return 1;
     for (int i = 0; i < PORTS; i++) {
         ptpm_rate_start(&rates[i], RATE, time_now());

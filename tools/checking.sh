@@ -1,5 +1,5 @@
 # shellcheck shell=bash
-# For tools/package, try_dist and try_unit, and bindings/try, which begin by it: what holds, counted. What a check says is in
+# For tools/captures, package, try_dist and try_unit, and bindings/try, which begin by it: what holds, counted. What a check says is in
 # the folder $work, which the script makes, and removes at its end.
 passed=0 failed=0
 

@@ -142,18 +142,19 @@ def arrow(corners, place, label):
             + [text(place[0], place[1] + 13 * k, line, ' fill="#1f4e9c"') for k, line in enumerate(filter(None, label.split("|")))])
 
 
+def picture(width, height, font_size, title, said, parts):
+    """A picture of these parts, with its title and what it shows in words."""
+    head = [f'<svg xmlns="http://www.w3.org/2000/svg" version="1.1" width="{width}" height="{height}" viewBox="0 0 {width} {height}" '
+            f'role="img" aria-labelledby="title desc" font-family="sans-serif" font-size="{font_size}" fill="#1a1a1a">',
+            f'<title id="title">{title}</title>', f'<desc id="desc">{said}</desc>',
+            '<defs><marker id="arrow" markerWidth="9" markerHeight="9" refX="7" refY="4" orient="auto">'
+            '<path d="M0,0 L8,4 L0,8 z" fill="#1f4e9c"/></marker></defs>', f'<rect width="{width}" height="{height}" fill="#ffffff"/>']
+    return "\n".join(head + parts + ["</svg>"]) + "\n"
+
+
 def draw(diagram):
-    width, height = diagram["width"], diagram["height"]
-    parts = [f'<svg xmlns="http://www.w3.org/2000/svg" version="1.1" width="{width}" height="{height}" viewBox="0 0 {width} {height}" '
-             'role="img" aria-labelledby="title desc" font-family="sans-serif" font-size="12" fill="#1a1a1a">',
-             f'<title id="title">{diagram["title"]}</title>', f'<desc id="desc">{diagram["desc"]}</desc>',
-             '<defs><marker id="arrow" markerWidth="9" markerHeight="9" refX="7" refY="4" orient="auto">'
-             '<path d="M0,0 L8,4 L0,8 z" fill="#1f4e9c"/></marker></defs>', f'<rect width="{width}" height="{height}" fill="#ffffff"/>']
-    for each in diagram["boxes"]:
-        parts += box(*each)
-    for each in diagram["arrows"]:
-        parts += arrow(*each)
-    return "\n".join(parts + ["</svg>"]) + "\n"
+    parts = [part for each in diagram["boxes"] for part in box(*each)] + [part for each in diagram["arrows"] for part in arrow(*each)]
+    return picture(diagram["width"], diagram["height"], 12, diagram["title"], diagram["desc"], parts)
 
 
 def unlike_source(diagram):

@@ -93,7 +93,7 @@ static bool set_membership(int socket, bool is_six, unsigned interface, bool is_
 
 /* It is bound to the address of the group: nothing comes in there that is sent to this host by unicast. Linux hands that to one
    socket, and a servo may need it. */
-static bool join_group_at(int socket, const char *interface, bool is_six, uint16_t port, const char **what) {
+static bool join_group(int socket, const char *interface, bool is_six, uint16_t port, const char **what) {
     const int one = 1;
     struct sockaddr_storage to;
     socklen_t size = group_at(&to, is_six, port);
@@ -102,14 +102,6 @@ static bool join_group_at(int socket, const char *interface, bool is_six, uint16
     if (bind(socket, (const struct sockaddr *)&to, size)) return false;
     *what = is_six ? "IPV6_ADD_MEMBERSHIP" : "IP_ADD_MEMBERSHIP";
     return set_membership(socket, is_six, index_of(socket, interface), true);
-}
-
-static bool join_group(int socket, const char *interface, bool is_six, const char **what) {
-    return join_group_at(socket, interface, is_six, GENERAL_PORT, what);
-}
-
-static bool join_for_events(int socket, const char *interface, bool is_six, const char **what) {
-    return join_group_at(socket, interface, is_six, EVENT_PORT, what) && filter_udp(socket, false);
 }
 
 /* At a port of its own, which the kernel chooses. */
@@ -121,21 +113,18 @@ static bool bind_alone(int socket, const char *interface, bool is_six, const cha
     return tell_ttl(socket, is_six) && bind(socket, (const struct sockaddr *)&any, size) == 0;
 }
 
-/* A socket that a step makes ready. */
-static int opened_by(bool (*step)(int, const char *, bool, const char **), const char *interface, bool is_six, const char **what) {
+static bool make_ready(int socket, const char *interface, bool is_six, enum udp_use use, const char **what) {
+    switch (use) {
+    case ASKS: return bind_alone(socket, interface, is_six, what);
+    case HEARS_EVENTS: return join_group(socket, interface, is_six, EVENT_PORT, what) && filter_udp(socket, false);
+    default: return join_group(socket, interface, is_six, GENERAL_PORT, what);
+    }
+}
+
+int open_udp(const char *interface, bool is_six, enum udp_use use, const char **what) {
     *what = interface;
     int opened = socket(is_six ? AF_INET6 : AF_INET, SOCK_DGRAM | SOCK_CLOEXEC, 0);
-    return opened < 0 || step(opened, interface, is_six, what) ? opened : closed(opened);
-}
-
-int open_udp(const char *interface, bool is_six, const char **what) { return opened_by(join_group, interface, is_six, what); }
-
-int open_event_udp(const char *interface, bool is_six, const char **what) {
-    return opened_by(join_for_events, interface, is_six, what);
-}
-
-int open_asking_udp(const char *interface, bool is_six, const char **what) {
-    return opened_by(bind_alone, interface, is_six, what);
+    return opened < 0 || make_ready(opened, interface, is_six, use, what) ? opened : closed(opened);
 }
 
 const char *right_needed(bool is_ethernet) {

@@ -19,18 +19,13 @@ bool tell_ttl(int socket, bool is_six);
 struct reported { struct in_pktinfo four; struct in6_pktinfo six; int ttl; };
 struct reported reported_in(struct msghdr *head);
 
-/* A socket at UDP port 320 of an interface, in the group of PTP there (IEEE 1588-2019, annexes C and D). Only management messages
-   to the group come in there, and nothing of what this host sends. It takes nothing that is sent to this host by unicast. -1 if it
-   can't be made: errno says why, and *what at which step. */
-int open_udp(const char *interface, bool is_six, const char **what);
+/* What a socket of an interface is for. One hears what comes to the group of PTP there, at UDP port 320: only management messages. Another
+   hears a copy of each event message to the group, at port 319: Sync and Delay_Req. Neither takes anything that is sent to this host by
+   unicast. The third asks from a port of its own, to which a unicast answer comes back (IEEE 1588-2019, annexes C and D). */
+enum udp_use { HEARS_GROUP, HEARS_EVENTS, ASKS };
 
-/* A socket at UDP port 319 of an interface, in the same group. A copy of each event message to the group comes in there: Sync and
-   Delay_Req. -1 as above. */
-int open_event_udp(const char *interface, bool is_six, const char **what);
-
-/* A socket of an interface at a port of its own, to ask from. A unicast answer comes back to it, since that goes to the port of the
-   request (annexes C and D). -1 as above. */
-int open_asking_udp(const char *interface, bool is_six, const char **what);
+/* Opens one, in which nothing comes in of what this host sends. -1 if it can't be made: errno says why, and *what at which step. */
+int open_udp(const char *interface, bool is_six, enum udp_use use, const char **what);
 
 /* Has a socket hear only management messages, or every message; whether it does. The kernel drops the rest before the program
    wakes, and counts it as errors of UDP. */

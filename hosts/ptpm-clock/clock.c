@@ -20,7 +20,6 @@
 #include "program.h"
 #include "ptp4l.h"
 #include "ptp4l_socket.h"
-#include "replacing.h"
 #include "saving.h"
 #include "service.h"
 #include "source.h"
@@ -66,7 +65,7 @@ static void wait_at_all(void) {
     wait_at(signals, SIGNALS);
     wait_at(links, LINKS);
     wait_at(timer, TIMER);
-    wait_at(replacing_event(), SAVED);
+    wait_at(saving_event(), SAVED);
     wait_at(device_program_event(), RUNS);
 }
 

@@ -5,13 +5,28 @@
 #include "options.h"
 #include "output.h"
 #include "program.h"
-#include "shares.h"
+#include "route.h"
 #include <errno.h>
 #include <string.h>
 #include <sys/random.h>
 
-/* For how many milliseconds a message is not forwarded again. How many addresses of managers have tokens of their own. */
-enum { NOTED = 1000, MANAGERS_HEARD = 8 };
+/* For how many milliseconds a message is not forwarded again, and an address keeps its place at least. */
+enum { NOTED = 1000, KEPT = 1000 };
+
+/* How many addresses have tokens of their own, and how many of managers; and how many octets one has at most. */
+enum { MOST_SHARES = 32, MANAGERS_HEARD = 8, ADDRESS = 16 };
+
+/* The tokens of one address, which was heard at this time last; 0 if the place is free. */
+struct share { uint8_t address[ADDRESS]; uint64_t heard; struct ptpm_rate own; };
+
+/* A rate that those who send share. All of them have its tokens together, and the latest addresses have a few of their own besides.
+   So one address that sends without end leaves others theirs. A sender with many addresses may still take the places of others. */
+struct shares {
+    struct ptpm_rate all;
+    struct share places[MOST_SHARES];
+    size_t count;                   /* of the places that are used */
+    uint64_t own;                   /* tokens of an address a second */
+};
 
 static struct kept_back kept_back;
 static struct ptpm_passed_on passed_on;
@@ -19,12 +34,51 @@ static struct shares copies[PORTS], answers[PORTS], requests[PORTS];
 
 static uint64_t time_now(void) { return (uint64_t)milliseconds(); }
 
+/* All have this many tokens a second together. Each of `count` addresses has as many that together they have half as many again,
+   but at least `least` a second. */
+static void start_shares(struct shares *shares, long rate, size_t count, size_t least) {
+    uint64_t own = (uint64_t)rate / (2 * count);
+    *shares = (struct shares){ .count = count, .own = own > least ? own : least };
+    ptpm_rate_start(&shares->all, (uint64_t)rate, time_now());
+}
+
+/* The address that a datagram came from; whether it came from one. */
+static bool read_address(uint8_t address[ADDRESS], const struct heard *heard) {
+    size_t size = STATION;
+    const uint8_t *octets = heard->station != NULL ? heard->station : address_octets(&heard->sender.any, &size);
+    memset(address, 0, ADDRESS);
+    memcpy(address, octets, size);
+    return size > 0;
+}
+
+/* The place of an address. A new one gets the place whose address was heard longest ago, unless that was just now: NULL then. */
+static struct share *place_of(struct shares *shares, const uint8_t address[ADDRESS], uint64_t now) {
+    struct share *oldest = &shares->places[0];
+    for (struct share *one = shares->places; one < shares->places + shares->count; one++) {
+        if (one->heard != 0 && memcmp(one->address, address, ADDRESS) == 0) return one;
+        if (one->heard < oldest->heard) oldest = one;
+    }
+    if (oldest->heard != 0 && now < oldest->heard + KEPT) return NULL;
+    memcpy(oldest->address, address, ADDRESS);
+    ptpm_rate_start(&oldest->own, shares->own, now);
+    return oldest;
+}
+
+/* Takes a token of a datagram's sender, or else one of those of all; whether there is one. A program of this host has only those of
+   all. */
+static bool take_share(struct shares *shares, const struct heard *heard, uint64_t now) {
+    uint8_t address[ADDRESS];
+    struct share *place = read_address(address, heard) ? place_of(shares, address, now) : NULL;
+    if (place != NULL) place->heard = now;
+    return (place != NULL && ptpm_rate_take(&place->own, now)) || ptpm_rate_take(&shares->all, now);
+}
+
 void start_limits(void) {
     if (getrandom(&passed_on.seed, sizeof passed_on.seed, 0) < 0) give_up("getrandom");
     for (size_t i = 0; i < port_count; i++) {
-        start_shares(&copies[i], (uint64_t)options->limits.rate, MOST_SHARES, 1, time_now());
-        start_shares(&answers[i], (uint64_t)options->limits.rate, MOST_SHARES, port_count, time_now());
-        start_shares(&requests[i], (uint64_t)options->limits.manager_rate, MANAGERS_HEARD, 1, time_now());
+        start_shares(&copies[i], options->limits.rate, MOST_SHARES, 1);
+        start_shares(&answers[i], options->limits.rate, MOST_SHARES, port_count);
+        start_shares(&requests[i], options->limits.manager_rate, MANAGERS_HEARD, 1);
     }
 }
 

@@ -3,7 +3,7 @@
 #include "monotonic.h"
 #include "names.h"
 #include "output.h"
-#include "ptp4l_rules.h"
+#include "ptp4l_mute.h"
 #include "udp.h"
 #include "words.h"
 #include <getopt.h>

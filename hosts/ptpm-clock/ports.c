@@ -22,7 +22,7 @@ static bool is_hurried;         /* the kernel reported a change */
 
 static int open_socket(struct port *port, const char **what) {
     if (transport == ETHERNET) return open_ethernet(port->name, port->station, what);
-    int opened = open_udp(port->name, transport == UDP_IPV6, what);
+    int opened = open_udp(port->name, transport == UDP_IPV6, HEARS_GROUP, what);
     if (opened >= 0 && diverted_port != 0) hear_none(opened);
     return opened;
 }

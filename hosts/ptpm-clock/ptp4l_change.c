@@ -3,9 +3,8 @@
 #include "message_places.h"
 #include "monotonic.h"
 #include "output.h"
-#include "ptp4l_check.h"
+#include "ptp4l.h"
 #include "ptp4l_mute.h"
-#include "ptp4l_settings.h"
 #include <poll.h>
 #include <signal.h>
 #include <stdlib.h>
@@ -13,7 +12,23 @@
 
 enum { LOOK_AGAIN = 500 };      /* milliseconds after which it is seen whether the ptp4l is still there */
 
+/* A ptp4l lacks a SET of CLOCK_ACCURACY and of UTC_PROPERTIES. Their members are set by its GRANDMASTER_SETTINGS_NP, whose other members are
+   set to what they are. How many octets that dataField has: clockQuality, the UTC offset, flags and timeSource. */
+enum { SETTINGS_OCTETS = 8 };
+
+/* The places of what is set, and the flags of UTC_PROPERTIES. The settings have these flags among those of TIME_PROPERTIES_DATA_SET. */
+enum { PRIORITY = 1, ACCURACY_AT = 1, UTC_OFFSET_AT = 4, UTC_OFFSET = 2, FLAGS_AT = 6, ASKED_FLAGS_AT = 2, UTC_FLAGS = 7 };
+
 static struct { bool is_there; uint16_t number; unsigned life; int64_t look; struct ptpm_question asked; } under_way;
+
+/* The id by which a ptp4l is asked for what a SET names; 0 if it takes no such SET. */
+static uint16_t id_at_ptp4l(uint16_t id) {
+    switch (id) {
+    case PTPM_ID_PRIORITY1: case PTPM_ID_PRIORITY2: return id;
+    case PTPM_ID_CLOCK_ACCURACY: case PTPM_ID_UTC_PROPERTIES: return GRANDMASTER_SETTINGS_NP;
+    default: return 0;
+    }
+}
 
 static bool is_of_ptp4l(const struct ptpm_question *asked) { return asked->action == PTPM_SET && id_at_ptp4l(asked->id) != 0; }
 
@@ -54,6 +69,18 @@ enum judged judge_change(const struct ptpm_question *asked, const struct ptpm_sa
     return asked->id == PTPM_ID_UTC_PROPERTIES ? judge_utc(say) : MAY_BE_ASKED;
 }
 
+/* Puts the members that a SET names into a dataField of that id. */
+static void put_members(uint8_t *field, const struct ptpm_question *asked) {
+    switch (asked->id) {
+    case PTPM_ID_CLOCK_ACCURACY: field[ACCURACY_AT] = asked->octets[0]; break;
+    case PTPM_ID_UTC_PROPERTIES:
+        memcpy(field + UTC_OFFSET_AT, asked->octets, UTC_OFFSET);
+        field[FLAGS_AT] = (uint8_t)((field[FLAGS_AT] & ~UTC_FLAGS) | (asked->octets[ASKED_FLAGS_AT] & UTC_FLAGS));
+        break;
+    default: field[0] = asked->octets[0];
+    }
+}
+
 /* Asks once. What is set beside what is asked for was read right before. */
 static bool ask_once(const struct ptpm_question *asked) {
     uint8_t settings[SETTINGS_OCTETS];
@@ -81,7 +108,13 @@ static void decide(uint16_t error) {
 
 /* Whether an answer has the value that is asked for. */
 static bool has_value(const struct ptp4l_answer *answer, const struct ptpm_question *asked) {
-    return answer->error == 0 && answer->id == id_at_ptp4l(asked->id) && has_members(answer->field, answer->size, asked);
+    uint8_t copy[SETTINGS_OCTETS];
+    uint16_t id = id_at_ptp4l(asked->id);
+    size_t least = id == GRANDMASTER_SETTINGS_NP ? SETTINGS_OCTETS : PRIORITY;
+    if (answer->error != 0 || answer->id != id || answer->size < least) return false;
+    memcpy(copy, answer->field, least);
+    put_members(copy, asked);
+    return memcmp(copy, answer->field, least) == 0;
 }
 
 void take_answer_to_change(const struct ptp4l_answer *answer) {

@@ -2,10 +2,11 @@
 #include "message_places.h"
 #include "monotonic.h"
 #include "output.h"
-#include "ptp4l_check.h"
+#include "ptp4l.h"
 #include "ptp4l_socket.h"
 #include "socket_option.h"
 #include "udp.h"
+#include <stdio.h>
 #include <string.h>
 #include <unistd.h>
 
@@ -13,7 +14,7 @@
 enum { SETTLING = 100, WHILE_MUTE = 60000, WHILE_HEARD = 2000 };
 
 /* The dataField of PORT_STATS_NP is a portIdentity and 64-bit counts of what was received, of each messageType, the least octet first. */
-enum { PORT_STATS_NP = 0xc005, COUNTS_AT = PORT_IDENTITY, COUNT = 8, TYPES = 16 };
+enum { COUNTS_AT = PORT_IDENTITY, COUNT = 8, TYPES = 16 };
 
 enum { MOST_READS = 8 };                /* until what waited at the ports of the ptp4l is taken */
 
@@ -148,4 +149,31 @@ bool is_ptp4l_mute(void) {
         due = milliseconds() + WHILE_HEARD;
     }
     return compared == ARE_SAME;
+}
+
+/* A table that replaces the one before. At a hook after prerouting the kernel has chosen the ptp4l's socket already. What is routed to other
+   hosts stays as it is. A datagram without a checksum gets none. Fragments come whole only after the hook, and nobody hears them. */
+static const char *const rules[] = {
+    "table inet ptpm\n",
+    "delete table inet ptpm\n",
+    "table inet ptpm {\n",
+    "    chain divert {\n",
+    "        type filter hook prerouting priority raw; policy accept;\n",
+    "        fib daddr type { local, multicast } udp dport 320 @th,64,8 & 0x0f == 0x0d jump to_agent\n",
+    "    }\n",
+    "    chain to_agent {\n",
+    "        udp checksum 0 counter udp dport set %u udp checksum set 0 return\n",
+    "        counter udp dport set %u\n",
+    "    }\n",
+    "    chain mute {\n",
+    "        type filter hook input priority filter; policy accept;\n",
+    "        udp dport 320 exthdr frag exists counter drop\n",
+    "        udp dport 320 @th,64,8 & 0x0f == 0x0d counter drop\n",
+    "    }\n",
+    "}\n",
+};
+
+bool print_rules(uint16_t port) {
+    for (size_t i = 0; i < sizeof rules / sizeof *rules; i++) printf(rules[i], port);
+    return fflush(stdout) == 0 && !ferror(stdout);
 }

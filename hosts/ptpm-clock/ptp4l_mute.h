@@ -1,5 +1,5 @@
-/* Whether the ptp4l is mute: it hears no management messages from the network, so that only this agent answers them. A rule of the
-   firewall diverts them (ptp4l_rules.h). Or it ignores them itself: over Ethernet libptpm_mute.so sees to that. Whether it is mute is found by
+/* Whether the ptp4l is mute: it hears no management messages from the network, so that only this agent answers them. Rules of
+   the firewall divert them. Or it ignores them itself: over Ethernet libptpm_mute.so sees to that. Whether it is mute is found by
    what it counts (PORT_STATS_NP). */
 #pragma once
 
@@ -20,3 +20,6 @@ bool is_probing(void);
 /* Whether the ptp4l has heard nothing until now. What waits at its ports it takes before what waits on its Unix socket. So if it has heard
    the request that is handled, it has counted that. */
 bool is_ptp4l_mute(void);
+
+/* Prints the rules of nftables that divert them to this UDP port (--ptp4l-rules); whether it could. */
+bool print_rules(uint16_t port);

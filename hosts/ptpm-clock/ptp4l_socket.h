@@ -10,6 +10,13 @@
 /* How many milliseconds a GET waits for its answer. */
 enum { PTP4L_PATIENCE = 100 };
 
+/* Ids that it answers and a clock of the library lacks: of the standard, and of linuxptp. */
+enum {
+    CLOCK_DESCRIPTION = 0x0001, TRACEABILITY_PROPERTIES = 0x2012, TIMESCALE_PROPERTIES = 0x2013, TIME_STATUS_NP = 0xc000,
+    GRANDMASTER_SETTINGS_NP = 0xc001, PORT_DATA_SET_NP = 0xc002, PORT_PROPERTIES_NP = 0xc004, PORT_STATS_NP = 0xc005,
+    SYNCHRONIZATION_UNCERTAIN_NP = 0xc006
+};
+
 /* An answer of the ptp4l. It stays until the next one is heard. */
 struct ptp4l_answer {
     uint16_t port;                      /* of sourcePortIdentity, which is 0 for an id of the clock */

@@ -3,18 +3,12 @@
 #include "monotonic.h"
 #include "names.h"
 #include "network_limits.h"
-#include "ptp4l_check.h"
-#include "ptp4l_settings.h"
+#include "ptp4l.h"
 #include "ptp4l_socket.h"
 #include <string.h>
 
 /* Questions a second for others than managers, who have a rate of their own. */
 enum { QUESTIONS = 200 };
-
-enum {
-    CLOCK_DESCRIPTION = 0x0001, TRACEABILITY_PROPERTIES = 0x2012, TIMESCALE_PROPERTIES = 0x2013, TIME_STATUS_NP = 0xc000,
-    PORT_DATA_SET_NP = 0xc002, SYNCHRONIZATION_UNCERTAIN_NP = 0xc006
-};
 
 /* Ids that the ptp4l is asked for. An unknown one may be long, or do something. Those that are not of a port are of the clock. */
 static const struct { uint16_t id; bool is_of_port; } ids[] = {

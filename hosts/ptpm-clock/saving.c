@@ -4,14 +4,16 @@
 #include "monotonic.h"
 #include "names.h"
 #include "output.h"
-#include "replacing.h"
 #include "words.h"
 #include <errno.h>
 #include <libgen.h>
 #include <limits.h>
+#include <pthread.h>
+#include <semaphore.h>
 #include <stdio.h>
 #include <stdlib.h>
 #include <string.h>
+#include <sys/eventfd.h>
 #include <unistd.h>
 
 /* Statuses of the program, and the place of a clockIdentity in the image of a clock. If a change is under way, that image comes after the
@@ -33,6 +35,13 @@ static uint64_t token;              /* of the clock's image in it */
 static int64_t next_save;           /* when one may begin, in milliseconds */
 bool is_saving, is_failing;
 static struct saves saves;
+
+/* A thread replaces the file, so that nobody else waits for the disk. The file, its octets and what became of it are the thread's from
+   `asked` to `done`. The event can be read from then on. */
+static sem_t asked, done;
+static int event = -1;
+static enum replaced became;
+static int failure;
 
 _Noreturn static void end_with(int status) {
     end_output();
@@ -147,13 +156,20 @@ static void tell_domain(const struct ptpm_clock *clock) {
     say("%s: -d %u counts only at the first start: the clock is in domain %u", options->state, options->settings.domain, *field);
 }
 
+static bool open_event(void) {
+    event = eventfd(0, EFD_NONBLOCK | EFD_CLOEXEC);
+    return event >= 0 && sem_init(&asked, 0, 0) == 0 && sem_init(&done, 0, 0) == 0;
+}
+
+int saving_event(void) { return event; }
+
 bool restore_clock(struct ptpm_clock *clock) {
     size_t size;
     if (options->state == NULL) return false;
     if (!open_kept_folder(&file, options->state)) refuse_folder();
     take_file();
     if (file.is_folder_made) hand_over(file.folder);
-    if (atexit(leave_nothing) || !open_replacing()) refuse_file(NULL);
+    if (atexit(leave_nothing) || !open_event()) refuse_file(NULL);
     bool is_there = read_state(&size);
     if (is_there) {
         tell_gone(restore(clock, size));
@@ -218,17 +234,44 @@ bool may_save(void) {
 
 long until_save(void) { return (long)(next_save - milliseconds()); }
 
+static void wait_for(sem_t *what) {
+    while (sem_wait(what)) continue;        /* a debugger may interrupt it */
+}
+
+static void *replace_files(void *nothing) {
+    for (;;) {
+        wait_for(&asked);
+        became = replace_kept(&file, octets, size_of_file);
+        failure = errno;
+        eventfd_write(event, 1);
+        sem_post(&done);
+    }
+    return nothing;
+}
+
+/* Starts the thread before the first save; whether it is there. If not, errno says why. */
+static bool has_thread(void) {
+    static pthread_t thread;
+    static bool is_started;
+    if (!is_started) is_started = (errno = pthread_create(&thread, NULL, replace_files, NULL)) == 0;
+    return is_started;
+}
+
 bool begin_save(struct ptpm_clock *clock) {
-    is_saving = fill_octets(clock) && begin_replacing(&file, octets, size_of_file);
-    if (!is_saving) fail();
+    is_saving = fill_octets(clock) && has_thread();
+    if (is_saving) sem_post(&asked);
+    else fail();
     return is_saving;
 }
 
 enum ptpm_saved end_save(struct ptpm_clock *clock) {
-    enum replaced answer = end_replacing();
+    eventfd_t times;
+    wait_for(&done);
+    eventfd_read(event, &times);
+    errno = failure;
     is_saving = false;
-    if (answer == REPLACED) return succeed(clock);
-    if (answer == IN_DOUBT) saves_of_file++;
+    if (became == REPLACED) return succeed(clock);
+    if (became == IN_DOUBT) saves_of_file++;
     return fail();
 }
 

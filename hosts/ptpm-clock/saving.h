@@ -16,8 +16,11 @@ bool restore_clock(struct ptpm_clock *clock);
    status 2 if it can't. Does nothing without a file. */
 void save_at_start(struct ptpm_clock *clock);
 
-/* Begins to save the clock, which a thread does (replacing.h); whether it is begun. */
+/* Begins to save the clock, which a thread does; whether it is begun. */
 bool begin_save(struct ptpm_clock *clock);
+
+/* What is to be polled: it can be read once that save is done. -1 without a file. */
+int saving_event(void);
 
 /* Whether a save was begun and not ended. Whether the latest one failed. */
 extern bool is_saving, is_failing;

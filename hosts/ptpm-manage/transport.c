@@ -199,7 +199,7 @@ static bool open_second_part(struct end *end, const char **what) {
         *what = "the group 01-80-C2-00-00-0E";
         return !has_link_group || join_link_group(end->socket, end->interface);
     }
-    end->asking = open_asking_udp(end->interface, is_six, what);
+    end->asking = open_udp(end->interface, is_six, ASKS, what);
     return end->asking >= 0;
 }
 
@@ -207,7 +207,7 @@ static bool open_second_part(struct end *end, const char **what) {
 static bool open_end(struct end *end, const char **what) {
     end->index = if_nametoindex(end->interface);
     end->asking = end->events = -1;
-    end->socket = is_ethernet ? open_ethernet(end->interface, end->station, what) : open_udp(end->interface, is_six, what);
+    end->socket = is_ethernet ? open_ethernet(end->interface, end->station, what) : open_udp(end->interface, is_six, HEARS_GROUP, what);
     if (end->socket < 0 || open_second_part(end, what)) return end->socket >= 0;
     close_quietly(end->socket);
     return false;
@@ -351,7 +351,7 @@ void renew_transport(void) {
 /* Over Ethernet they come in at the one socket that there is. */
 static void open_events(struct end *end) {
     const char *what;
-    if (!is_ethernet && end->events < 0) end->events = open_event_udp(end->interface, is_six, &what);
+    if (!is_ethernet && end->events < 0) end->events = open_udp(end->interface, is_six, HEARS_EVENTS, &what);
 }
 
 void receive_every_type(bool is_every) {

@@ -168,7 +168,7 @@ static void answer_by_ring(void) {
 int main(int argc, char **argv) {
     const char *what;
     if (argc != 4 || !ptpm_identity_parse(argv[2], strlen(argv[2]), own)) usage();
-    port_socket = open_udp(argv[1], false, &what);
+    port_socket = open_udp(argv[1], false, HEARS_GROUP, &what);
     if (port_socket < 0) give_up(what);
     to_size = group(&to, false);
     if (strcmp(argv[3], "calls") == 0) answer_by_calls();

@@ -99,7 +99,7 @@ int main(int argc, char **argv) {
     if (argc != 5 || !ptpm_identity_parse(argv[2], strlen(argv[2]), request + TARGET_AT)) usage();
     long rate = decimal(argv[3], 1000000), seconds = decimal(argv[4], 1000);
     if (rate < 0 || seconds < 1) usage();
-    port_socket = open_udp(argv[1], false, &what);
+    port_socket = open_udp(argv[1], false, HEARS_GROUP, &what);
     if (port_socket < 0) give_up(what);
     setsockopt(port_socket, SOL_SOCKET, SO_RCVBUFFORCE, &room, sizeof room);
     to_size = group(&to, false);

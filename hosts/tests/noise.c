@@ -86,7 +86,7 @@ int main(int argc, char **argv) {
     enum kind kind = kind_named(argv[2]);
     int64_t rate = decimal(argv[3], 1000000), seconds = decimal(argv[4], 1000), sent = 0;
     if (rate < 1 || seconds < 1) usage();
-    int port_socket = open_udp(argv[1], false, &what);
+    int port_socket = open_udp(argv[1], false, HEARS_GROUP, &what);
     if (port_socket < 0) give_up(what);
     if (argc == 6) send_from(port_socket, argv[1], argv[5]);
     int64_t begin = nanoseconds(), end = begin + seconds * 1000000000;

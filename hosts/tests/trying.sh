@@ -1,15 +1,15 @@
 # shellcheck shell=bash disable=SC2034,SC2086,SC2154
-# For hosts/tests/try, which begins by it: two network namespaces, the link between them, a program at its far end, who asks it, and the count
-# of what holds. A part sets `way`, the transport of pmc, and `to` and `target`, the clock as manage and pmc name it.
-lacks() { echo "hosts/tests/try: $1"; exit 1; }
+# For hosts/tests/try and tools/interoperate, which begin by it: two network namespaces, the link between them, a program at its far end,
+# who asks it, and the count of what holds. A part sets `way`, the transport of pmc, and `to` and `target`, the clock as manage and pmc
+# name it.
+lacks() { echo "$0: $1"; exit 1; }
 
 for word in ip pmc ptp4l python3; do
     command -v $word > /dev/null || lacks "$word is missing"
 done
 [ "$(id -u)" = 0 ] || lacks "network namespaces need root"
 [ -c /dev/net/tun ] || lacks "/dev/net/tun is missing"
-make -s clock manage link dies.so set_clock.so fields stops restores flash blocks block_host limits_host switch_host measure units libptpm.so ||
-    lacks "clock, manage, link, dies.so, set_clock.so, fields, stops, restores, flash, blocks, block_host, limits_host, switch_host, measure, units and libptpm.so are not built"
+make -s all dies.so set_clock.so || lacks "the programs of hosts/ are not built"
 
 identity=aabbccfffeddee01 other=0a0b0c0d0e0f1011
 near=ptpm-near-$$ far=ptpm-far-$$

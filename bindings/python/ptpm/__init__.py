@@ -13,15 +13,14 @@ The calls start no thread and open no socket. Make none from a signal handler th
 process with threads.
 """
 
-from ._header import PTPM_VERSION as __version__
-from .answers import Error, HandleAnswer, SessionAnswer, SurveyAnswer, answer_name
+from ._header import PTPM_VERSION as __version__, ClockMembers, PortMembers
+from .answers import Error, HandleAnswer, PtpmError, SessionAnswer, SurveyAnswer, answer_name
 from .asking import NoAnswer
-from .changed import Changed, ClockMembers, PortMembers
-from .clock import Clock, Handled
-from .data_sets import ClockQuality, CurrentDataSet, DefaultDataSet, ParentDataSet, PortDataSet, TimePropertiesDataSet
+from .clock import Changed, Clock, Handled
+from .data_sets import (
+    ClockQuality, CurrentDataSet, DefaultDataSet, ParentDataSet, PortDataSet, TimeInterval, TimePropertiesDataSet,
+)
 from .device import Asked, ChangeRefused, Gives, Limit, Objection, Say
-from .domain_identity import DomainIdentity
-from .errors import PtpmError
 from .identity import Identity, PortIdentity
 from .ids import Action, ManagementId, error_name, id_name, id_of
 from .members import data_field, members
@@ -36,21 +35,20 @@ from .seal import newest_image, sealed, unsealed
 from .session import Session
 from .session_file import DamagedFileError, OpenApplyError, SessionFile, SessionFileError, usual_path
 from .settings import ClockSettings, DelayMechanism, Manager, PortSettings, PortState, Rights, TimeSource
-from .site import AskedDomain, Domain, Finding, Grandmaster, Lack, Site, SiteClock, read_site
+from .site import AskedDomain, Domain, DomainIdentity, Finding, Grandmaster, Lack, Site, SiteClock, read_site
 from .site_programs import SiteError, site
 from .survey import SURVEY_PORT, Survey, SurveySettings, survey
-from .time_interval import TimeInterval
 from .transport import Transport, UdpTransport, UnixTransport
 
 __all__ = [
     "__version__", "Action", "answer_name", "ask_as_nobody", "Asked", "AskedDomain", "Changed", "ChangeRefused", "Clock",
     "ClockMembers", "ClockQuality", "ClockSettings", "CurrentDataSet", "DamagedFileError", "data_field", "DefaultDataSet",
-    "DelayMechanism", "Domain", "DomainIdentity", "Error", "error_name", "Finding", "get", "Gives", "Grandmaster", "HandleAnswer",
-    "Handled", "id_name", "id_of", "Identity", "Lack", "Limit", "ManagementId", "Manager", "members", "newest_image", "NoAnswer",
-    "Objection", "ObservedClock",
-    "ObservedGrandmaster", "ObservedPort", "OpenApplyError", "ParentDataSet", "PassedOn", "PortDataSet", "PortIdentity",
-    "PortMembers", "PortSettings", "PortState", "PtpmError", "Rate", "read_site", "Report", "Requests", "Rights", "Rollout", "Saved", "SavingClock",
-    "Say", "sealed", "Session", "SessionAnswer", "SessionFile", "SessionFileError", "SessionSettings", "Site", "site",
-    "SiteClock", "SiteError", "Survey", "survey", "SURVEY_PORT", "SurveyAnswer", "SurveySettings", "TimeInterval",
-    "TimePropertiesDataSet", "TimeSource", "Transport", "UdpTransport", "UnixTransport", "unsealed", "usual_path",
+    "DelayMechanism", "Domain", "DomainIdentity", "Error", "error_name", "Finding", "get", "Gives", "Grandmaster",
+    "HandleAnswer", "Handled", "id_name", "id_of", "Identity", "Lack", "Limit", "ManagementId", "Manager", "members",
+    "newest_image", "NoAnswer", "Objection", "ObservedClock", "ObservedGrandmaster", "ObservedPort", "OpenApplyError",
+    "ParentDataSet", "PassedOn", "PortDataSet", "PortIdentity", "PortMembers", "PortSettings", "PortState", "PtpmError", "Rate",
+    "read_site", "Report", "Requests", "Rights", "Rollout", "Saved", "SavingClock", "Say", "sealed", "Session", "SessionAnswer",
+    "SessionFile", "SessionFileError", "SessionSettings", "Site", "site", "SiteClock", "SiteError", "Survey", "survey",
+    "SURVEY_PORT", "SurveyAnswer", "SurveySettings", "TimeInterval", "TimePropertiesDataSet", "TimeSource", "Transport",
+    "UdpTransport", "UnixTransport", "unsealed", "usual_path",
 ]

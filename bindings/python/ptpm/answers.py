@@ -7,12 +7,16 @@ from typing import Callable
 
 from ._header import HandleAnswer as HandleAnswer, SessionAnswer as SessionAnswer, SurveyAnswer as SurveyAnswer
 from ._library import library, text_by
-from .errors import PtpmError
 
 
 def answer_name(number: int) -> str:
     """The name of the number that a call returned, such as NO_ROOM, or the number if it has none."""
     return text_by(library.ptpm_answer_name, number) or str(number)
+
+
+class PtpmError(Exception):
+    """The class of all errors of this module, except those of an argument (ValueError, OverflowError, TypeError) and of a socket
+    (OSError). What was asked was not done, or its answer did not come."""
 
 
 class Error(PtpmError):

@@ -7,8 +7,7 @@ from collections import deque
 from typing import Deque, Optional
 
 from . import _header as header
-from .answers import Error, SessionAnswer
-from .errors import PtpmError
+from .answers import Error, PtpmError, SessionAnswer
 from .link import Way
 from .report import Report
 from .requests import Requests

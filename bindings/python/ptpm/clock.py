@@ -8,9 +8,9 @@ from dataclasses import dataclass
 from typing import Any, Iterator, List, Optional, Sequence, Set, Tuple, Type
 
 from . import _header as header
+from ._header import ClockMembers, PortMembers
 from ._library import Handle, library, octets_of
 from .answers import HandleAnswer, done, judged, written
-from .changed import Changed
 from .data_sets import AnyDataSet, id_of_data_set, of_members
 from .device import Asked, ChangeRefused, Say, say_of
 from .identity import Identity, IdentityLike
@@ -18,6 +18,22 @@ from .ids import Action, IdLike, id_of
 from .members import members
 from .observation import ObservedClock, ObservedPort
 from .settings import ClockSettings, Manager, PortSettings
+
+
+@dataclass(frozen=True)
+class Changed:
+    """Which members a datagram changed: those of the clock, and those of port 1, port 2 and so on."""
+
+    clock: ClockMembers
+    ports: Tuple[PortMembers, ...]
+
+    def __bool__(self) -> bool:
+        return bool(self.clock) or any(self.ports)
+
+    @classmethod
+    def of_library(cls, changed: header.ptpm_changed) -> Changed:
+        """As the library writes it."""
+        return cls(ClockMembers(changed.clock), tuple(PortMembers(members) for members in changed.ports))
 
 
 @dataclass(frozen=True)

@@ -9,7 +9,7 @@ from typing import AbstractSet, Any, Optional, Sequence, Tuple, Union
 from . import _header as header
 from ._header import Objection as Objection
 from ._library import library, octets_of
-from .errors import PtpmError
+from .answers import PtpmError
 from .identity import Identity, PortIdentity
 from .ids import Action, IdLike, error_name, id_of
 from .settings import write_number

@@ -3,11 +3,12 @@
 from __future__ import annotations
 
 import ctypes
+import os
 import time
 
 from . import _header as header
 from ._library import Handle, library
-from .answers import done, written
+from .answers import Error, done, written
 
 
 class Rollout(Handle):
@@ -31,3 +32,18 @@ class Rollout(Handle):
     def record(self) -> bytes:
         """The octets that PTPM_DO_NOTE has appended to the journal's file."""
         return written(self._call, library.ptpm_rollout_record, header.PTPM_RECORD_OCTETS)
+
+
+def may_be_open(path: str) -> bool:
+    """Whether the apply of this journal has no end, or the journal can't be read. If there is no journal, no apply is
+    open."""
+    try:
+        with open(os.open(path, os.O_RDONLY | os.O_NOFOLLOW | os.O_NONBLOCK | os.O_CLOEXEC), "rb") as file:
+            Rollout(file.read())
+    except FileNotFoundError:
+        return False
+    except Error as refusal:
+        return refusal.number != header.PTPM_HAS_ENDED
+    except OSError:
+        return True
+    return True

@@ -8,8 +8,7 @@ from typing import List, NamedTuple, Optional, Sequence, Set, Tuple, Type
 from . import _header as header
 from ._library import Closing, library
 from .answers import done, judged
-from .changed import Changed
-from .clock import Clock, Handled, came_in
+from .clock import Changed, Clock, Handled, came_in
 from .data_sets import AnyDataSet
 from .device import Asked, Say, say_of
 from .ids import Action, IdLike

@@ -15,10 +15,9 @@ from typing import Optional, Set, Union
 from . import _header as header
 from . import seal
 from ._library import Closing
-from .answers import Error
-from .errors import PtpmError
+from .answers import Error, PtpmError
 from .identity import Identity, IdentityLike, PortIdentity, PortIdentityLike
-from .journal import may_be_open
+from .rollout import may_be_open
 
 _TURN = 60.0
 _TRY_AGAIN = 0.01

@@ -9,7 +9,6 @@ from typing import Any, Mapping, NamedTuple, Optional, Tuple
 from .data_sets import (
     CurrentDataSet, DefaultDataSet, ParentDataSet, PortDataSet, TimePropertiesDataSet, identity_of, number_of, read, text_of,
 )
-from .domain_identity import DomainIdentity
 from .identity import Identity
 
 _HEAD = ("domainNumber", "sdoId", "clockIdentity", "userDescription", "finding", "severity", "because")
@@ -17,6 +16,21 @@ _HEAD = ("domainNumber", "sdoId", "clockIdentity", "userDescription", "finding",
 # What is written for the clock if a finding is of a whole domain.
 _OF_DOMAIN = "-"
 _SILENT_WAY = "ptpm-manage: no clock answered at "
+
+
+class DomainIdentity(NamedTuple):
+    """Which domain it is (IEEE 1588-2019, 7.1.1): a domainNumber, 0 to 255, and an sdoId, 0 to 0xfff (7.1.4). Two domains may have
+    the same number and different sdoIds: their clocks don't hear each other.
+
+    >>> print(DomainIdentity(4), DomainIdentity(4, 0x100))
+    4 4@0x100
+    """
+
+    number: int
+    sdo_id: int = 0
+
+    def __str__(self) -> str:
+        return str(self.number) if self.sdo_id == 0 else f"{self.number}@{self.sdo_id:#05x}"
 
 
 @dataclass(frozen=True)

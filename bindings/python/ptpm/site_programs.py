@@ -10,9 +10,8 @@ from dataclasses import replace
 from pathlib import Path
 from typing import Any, Iterable, List, Optional, Sequence, Union
 
-from .domain_identity import DomainIdentity
-from .errors import PtpmError
-from .site import Site, read_site
+from .answers import PtpmError
+from .site import DomainIdentity, Site, read_site
 
 _DONE, _FOUND, _NO_CLOCK = 0, 1, 3
 

@@ -9,8 +9,9 @@ import sys
 import tempfile
 import time
 import unittest
+import unittest.mock
 from pathlib import Path
-from typing import Callable, List, Optional, Sequence
+from typing import Callable, List, Sequence
 
 TOP = Path(__file__).resolve().parents[3]
 CLOCK = "aabbccfffeddee01"
@@ -28,16 +29,9 @@ class Folder(unittest.TestCase):
     def setUp(self) -> None:
         self.folder = tempfile.mkdtemp()
         self.addCleanup(shutil.rmtree, self.folder)
-        before = os.environ.get("XDG_STATE_HOME")
-        os.environ["XDG_STATE_HOME"] = f"{self.folder}/state"
-        self.addCleanup(self._put_back, before)
-
-    @staticmethod
-    def _put_back(before: Optional[str]) -> None:
-        if before is None:
-            del os.environ["XDG_STATE_HOME"]
-        else:
-            os.environ["XDG_STATE_HOME"] = before
+        state = unittest.mock.patch.dict(os.environ, XDG_STATE_HOME=f"{self.folder}/state")
+        state.start()
+        self.addCleanup(state.stop)
 
     def run_until(self, is_started: Callable[[str], bool], words: List[str]) -> None:
         """Runs a program until the test ends, and waits until it has started by what it says."""

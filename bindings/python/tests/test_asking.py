@@ -3,6 +3,7 @@
 from __future__ import annotations
 
 import asyncio
+import contextlib
 import os
 import socket
 import subprocess
@@ -15,7 +16,7 @@ import zlib
 from contextlib import redirect_stderr, redirect_stdout
 from io import StringIO
 from pathlib import Path
-from typing import List, Optional
+from typing import Iterator, List, Optional
 
 import ptpm
 import ptpm.aio
@@ -122,6 +123,13 @@ class Asking(Folder):
 
     def session(self, first: Optional[int], attempts: int = 3) -> ptpm.Session:
         return ptpm.Session(ptpm.SessionSettings(MANAGER, CLOCK, first, attempts=attempts), wait=0)
+
+    @contextlib.contextmanager
+    def kept(self, attempts: int = 30) -> Iterator[ptpm.Session]:
+        """A session that its usual file keeps."""
+        settings = ptpm.SessionSettings(MANAGER, CLOCK, attempts=attempts)
+        with ptpm.SessionFile(MANAGER, CLOCK) as file, ptpm.Session(settings, file, wait=0) as session:
+            yield session
 
     def ask(self, first: Optional[int], value: int, timeout: float = 1) -> ptpm.Report:
         with self.session(first) as session:
@@ -246,9 +254,8 @@ class Asking(Folder):
             session.ask(self.way, ptpm.Action.GET, "PRIORITY1", timeout=0.05)
 
     def ask_with_file(self, value: int) -> object:
-        with ptpm.SessionFile(MANAGER, CLOCK) as file:
-            with ptpm.Session(ptpm.SessionSettings(MANAGER, CLOCK), file, wait=0) as session:
-                return session.ask(self.way, ptpm.Action.SET, "PRIORITY1", value, timeout=1).members["priority1"]
+        with self.kept() as session:
+            return session.ask(self.way, ptpm.Action.SET, "PRIORITY1", value, timeout=1).members["priority1"]
 
     def manage(self, *words: str) -> "subprocess.CompletedProcess[str]":
         command = [str(TOP / "hosts/manage"), "-u", self.path, "-m", MANAGER, "-w", "0", "--target", CLOCK, *words]
@@ -272,27 +279,24 @@ class Asking(Folder):
 
     def test_a_request_without_an_answer_is_finished(self) -> None:
         self.leave(21)
-        with ptpm.SessionFile(MANAGER, CLOCK) as file:
-            with ptpm.Session(ptpm.SessionSettings(MANAGER, CLOCK), file) as session:
-                self.assertTrue(session.is_under_way)
-                report = session.ask(self.way, ptpm.Action.GET, "PRIORITY1", timeout=1)
-                self.assertEqual((str(session.earlier), str(report)), ("priority1 21", "priority1 21"))
+        with self.kept() as session:
+            self.assertTrue(session.is_under_way)
+            report = session.ask(self.way, ptpm.Action.GET, "PRIORITY1", timeout=1)
+            self.assertEqual((str(session.earlier), str(report)), ("priority1 21", "priority1 21"))
         self.leave(22)
         ran = self.manage("get", "PRIORITY1")
         self.assertEqual(ran.stdout, "priority1 22\n")
         self.assertIn("set PRIORITY1 of an earlier run", ran.stderr)
         self.leave(23)
-        with ptpm.SessionFile(MANAGER, CLOCK) as file:
-            with ptpm.Session(ptpm.SessionSettings(MANAGER, CLOCK), file) as session:
-                session.let_go()
-                self.assertEqual(str(session.ask(self.way, ptpm.Action.GET, "PRIORITY1", timeout=1)), "priority1 22")
-                self.assertIsNone(session.earlier)
+        with self.kept() as session:
+            session.let_go()
+            self.assertEqual(str(session.ask(self.way, ptpm.Action.GET, "PRIORITY1", timeout=1)), "priority1 22")
+            self.assertIsNone(session.earlier)
 
     def test_a_request_of_an_earlier_run_goes_on(self) -> None:
-        settings = ptpm.SessionSettings(MANAGER, CLOCK)
         with ptpm.UnixTransport(self.start_clock("-d", "4", "-m", MANAGER, CLOCK, name="beside")) as beside:
             self.leave(27, 4)
-            with ptpm.SessionFile(MANAGER, CLOCK) as file, ptpm.Session(settings, file) as session:
+            with self.kept() as session:
                 with self.assertRaises(ptpm.NoAnswer) as caught:
                     session.go_on(self.way, 1, timeout=0.05)
                 self.assertEqual((caught.exception.was_sent, session.is_under_way), (True, True))
@@ -300,17 +304,16 @@ class Asking(Folder):
                 self.assertEqual((str(session.earlier), session.is_under_way), ("priority1 27", False))
                 self.assertEqual(str(session.ask(self.way, ptpm.Action.SET, "PRIORITY1", 28, timeout=1)), "priority1 28")
         self.leave(29, 4)
-        with ptpm.SessionFile(MANAGER, CLOCK) as file, ptpm.Session(settings, file) as session:
+        with self.kept() as session:
             session.give_up()
             self.assertFalse(session.is_under_way)
             self.assertEqual(str(session.ask(self.way, ptpm.Action.GET, "PRIORITY1", timeout=1)), "priority1 28")
 
     def goes_on(self, way: ptpm.Transport) -> "tuple[str, str]":
         """What came of the request of an earlier run, and of a GET in domain 0 after it."""
-        with ptpm.SessionFile(MANAGER, CLOCK) as file:
-            with ptpm.Session(ptpm.SessionSettings(MANAGER, CLOCK, attempts=2), file) as session:
-                report = session.ask(way, ptpm.Action.GET, "PRIORITY1", timeout=0.5)
-                return str(session.earlier), str(report)
+        with self.kept(2) as session:
+            report = session.ask(way, ptpm.Action.GET, "PRIORITY1", timeout=0.5)
+            return str(session.earlier), str(report)
 
     def test_a_request_is_finished_in_the_domain_in_which_it_was_asked(self) -> None:
         self.leave(24, 4)
@@ -323,10 +326,9 @@ class Asking(Folder):
             both = Both(self.way, beside)
             self.assertEqual(self.goes_on(both), ("priority1 24", "priority1 128"))
             self.leave(25, 4)
-            with ptpm.SessionFile(MANAGER, CLOCK) as file:
-                with ptpm.Session(ptpm.SessionSettings(MANAGER, CLOCK), file) as session:
-                    session.let_go()
-                    self.assertEqual(str(session.ask(both, ptpm.Action.SET, "PRIORITY1", 26, timeout=1)), "priority1 26")
+            with self.kept() as session:
+                session.let_go()
+                self.assertEqual(str(session.ask(both, ptpm.Action.SET, "PRIORITY1", 26, timeout=1)), "priority1 26")
             self.leave(None, 4, ptpm.Action.GET)  # it changes nothing, so it is asked in this session's domain
             self.assertEqual(self.goes_on(self.way), ("priority1 26", "priority1 26"))
             self.leave(0, 4, named="DOMAIN")  # the clock may be there by now
@@ -334,12 +336,10 @@ class Asking(Folder):
             self.assertEqual(ptpm.get(beside, CLOCK, "PRIORITY1", domain=4).members, {"priority1": 24})
 
     def test_an_answer_that_was_not_reported_comes_again(self) -> None:
-        settings = ptpm.SessionSettings(MANAGER, CLOCK)
-        with self.assertRaises(BrokenPipeError), ptpm.SessionFile(MANAGER, CLOCK) as file:
-            with ptpm.Session(settings, file, wait=0) as session:
-                session.ask(self.way, ptpm.Action.SET, "PRIORITY1", 31, timeout=1)
-                raise BrokenPipeError
-        with ptpm.SessionFile(MANAGER, CLOCK) as file, ptpm.Session(settings, file) as session:
+        with self.assertRaises(BrokenPipeError), self.kept() as session:
+            session.ask(self.way, ptpm.Action.SET, "PRIORITY1", 31, timeout=1)
+            raise BrokenPipeError
+        with self.kept() as session:
             session.ask(self.way, ptpm.Action.GET, "PRIORITY1", timeout=1)
             self.assertEqual(str(session.earlier), "priority1 31")
 
@@ -355,12 +355,10 @@ class Asking(Folder):
             (b"7\n", "NOT_AN_IMAGE"),
             (b"", "NOT_AN_IMAGE"),
         ):
-            with open(path, "wb") as file:
-                file.write(octets)
+            Path(path).write_bytes(octets)
             with self.assertRaisesRegex(ptpm.Error, why), ptpm.SessionFile(MANAGER, CLOCK, path) as held:
                 ptpm.Session(ptpm.SessionSettings(MANAGER, CLOCK), held)
-            with open(path, "rb") as file:
-                self.assertEqual(file.read(), octets)
+            self.assertEqual(Path(path).read_bytes(), octets)
         os.unlink(path)
         os.symlink("elsewhere", path)
         self.assertRaisesRegex(ptpm.SessionFileError, "link", ptpm.SessionFile, MANAGER, CLOCK, path)
@@ -369,14 +367,12 @@ class Asking(Folder):
 
     def refusal(self, path: str, octets: bytes) -> Optional[str]:
         """What is said of a file with these octets; None if a session goes on from it."""
-        with open(path, "wb") as file:
-            file.write(octets)
+        Path(path).write_bytes(octets)
         try:
             with ptpm.SessionFile(MANAGER, CLOCK, path) as held:
                 ptpm.Session(ptpm.SessionSettings(MANAGER, CLOCK), held)
         except ptpm.Error as error:
-            with open(path, "rb") as file:
-                self.assertEqual(file.read(), octets)  # it stays
+            self.assertEqual(Path(path).read_bytes(), octets)  # it stays
             return str(error)
         return None
 
@@ -389,8 +385,7 @@ class Asking(Folder):
         words = [str(TOP / "hosts/manage"), "-u", self.path, "-m", MANAGER, "-k", path, "--target", CLOCK, "get", "PRIORITY1"]
         subprocess.run(words, stdout=subprocess.DEVNULL, check=True)
         self.assertEqual(self.saved(path), 6)
-        with open(path, "rb") as kept:
-            whole = kept.read()
+        whole = Path(path).read_bytes()
         self.assertIsNone(self.refusal(path, whole))
         why = f"DAMAGED: {path}: octets of the session were lost or changed; without it a new session begins"
         for place, octet in enumerate(whole):
@@ -404,8 +399,7 @@ class Asking(Folder):
 
     def saved(self, path: str) -> int:
         """How often a file was saved, by its seal, which is right."""
-        with open(path, "rb") as file:
-            octets = file.read()
+        octets = Path(path).read_bytes()
         self.assertEqual((octets[-16:-12], octets[-4:]), (b"ptps", zlib.crc32(octets[:-4]).to_bytes(4, "big")))
         return int.from_bytes(octets[-12:-4], "big")
 
@@ -439,10 +433,8 @@ class Asking(Folder):
     def test_a_file_that_an_apply_has_marked_is_refused(self) -> None:
         path, journal = f"{self.folder}/session", f"{self.folder}/apply/20261127T170000.journal"
         os.mkdir(f"{self.folder}/apply")
-        with open(journal, "wb") as file:
-            file.write(journal_of(HEAD, STEP))
-        with open(f"{path}.apply", "w", encoding="utf-8") as mark:
-            mark.write(f"{journal}\n")
+        Path(journal).write_bytes(journal_of(HEAD, STEP))
+        Path(f"{path}.apply").write_text(f"{journal}\n", encoding="utf-8")
         for _ in range(2):
             with self.assertRaises(ptpm.OpenApplyError) as caught:
                 ptpm.SessionFile(MANAGER, CLOCK, path)
@@ -464,8 +456,7 @@ class Asking(Folder):
 
     def test_another_file_is_refused_too_while_an_apply_is_open(self) -> None:
         journal = f"{self.folder}/one.journal"
-        with open(journal, "wb") as file:
-            file.write(journal_of(HEAD, STEP))
+        Path(journal).write_bytes(journal_of(HEAD, STEP))
         with unittest.mock.patch.dict(os.environ, {"XDG_STATE_HOME": self.folder}):
             os.mkdir(f"{self.folder}/ptpm")
             with open(f"{usual_path(MANAGER, CLOCK)}.apply", "w", encoding="utf-8") as mark:
@@ -490,8 +481,7 @@ class Asking(Folder):
         for octets, is_open in cases:
             for name, content in ((journal, octets), (mark, f"{journal}\n".encode())):
                 if content is not None:
-                    with open(name, "wb") as file:
-                        file.write(content)
+                    Path(name).write_bytes(content)
             if is_open:
                 self.assertRaises(ptpm.OpenApplyError, ptpm.SessionFile, MANAGER, CLOCK, path)
             else:
@@ -525,7 +515,7 @@ class Asking(Folder):
                 session.ask(Failing(self.way, 1), ptpm.Action.SET, "PRIORITY1", 100, timeout=1)
             number = session.next_number
             self.assertFalse(session.is_busy())
-        with ptpm.SessionFile(MANAGER, CLOCK) as file, ptpm.Session(settings, file) as session:
+        with self.kept(2) as session:
             self.assertEqual((session.is_under_way, session.next_number), (False, number))
             session.ask(self.way, ptpm.Action.SET, "PRIORITY2", 7, timeout=1)
         self.assertEqual(ptpm.get(self.way, CLOCK, "PRIORITY1").members, {"priority1": 128})
@@ -542,10 +532,9 @@ class Asking(Folder):
             self.assertEqual(str(session.ask(self.way, ptpm.Action.SET, "PRIORITY1", 101, timeout=1)), "priority1 101")
 
     def test_a_question_at_a_port_that_the_clock_lacks_is_left(self) -> None:
-        settings = ptpm.SessionSettings(MANAGER, CLOCK, attempts=1)
-        with ptpm.SessionFile(MANAGER, CLOCK) as file, ptpm.Session(settings, file, wait=0) as session:
+        with self.kept(1) as session:
             session.ask(self.way, ptpm.Action.GET, "PRIORITY1", timeout=5)
-        with ptpm.SessionFile(MANAGER, CLOCK) as file, ptpm.Session(settings, file) as session:
+        with self.kept(1) as session:
             with self.assertRaisesRegex(ptpm.NoAnswer, "no answer, and to no read either: the request itself was not sent"):
                 session.ask(self.way, ptpm.Action.GET, "PRIORITY1", port=5, timeout=0.05)
             self.assertFalse(session.is_busy())
@@ -554,7 +543,7 @@ class Asking(Folder):
 
     def test_calls_of_requests_between_two_requests(self) -> None:
         settings = ptpm.SessionSettings(MANAGER, CLOCK)
-        with ptpm.SessionFile(MANAGER, CLOCK) as file, ptpm.Session(settings, file, wait=0) as session:
+        with self.kept() as session:
             session.ask(self.way, ptpm.Action.SET, "PRIORITY1", 1, timeout=1)
             number = session.next_number
             session.begin(ptpm.Action.SET, "PRIORITY1", b"\2\0")
@@ -621,11 +610,10 @@ class Asking(Folder):
         def run(streams: str, *words: str) -> int:
             return self.run_with(streams, "-u", self.path, "--target", CLOCK, *words)
 
-        settings = ptpm.SessionSettings(MANAGER, CLOCK)
         for streams in (">&-", "> /dev/full"):
             self.assertEqual(run(streams, "get", "PRIORITY1"), 4)
             self.assertEqual(run(streams, "-m", MANAGER, "-w", "0", "set", "PRIORITY1", "100"), 4)
-            with ptpm.SessionFile(MANAGER, CLOCK) as file, ptpm.Session(settings, file) as session:
+            with self.kept() as session:
                 self.assertTrue(session.is_under_way)
             for closed in ("2>&-", "2> /dev/full"):     # the answer of the earlier run is said on standard error
                 self.assertEqual(run(closed, "-m", MANAGER, "set", "PRIORITY2", "7"), 4)

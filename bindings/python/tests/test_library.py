@@ -33,7 +33,7 @@ PORT = ptpm.PortSettings(0x0A0B0C0D0E0F1A1B, ptpm.PortState.PRE_MASTER, -11, 3, 
 
 def load_tests(_loader: unittest.TestLoader, tests: unittest.TestSuite, _pattern: object) -> unittest.TestSuite:
     """The examples of the module too."""
-    for name in ("device", "domain_identity", "identity", "members", "clock", "saving_clock", "time_interval"):
+    for name in ("device", "identity", "members", "clock", "saving_clock", "site", "data_sets"):
         tests.addTests(doctest.DocTestSuite(f"ptpm.{name}"))
     return tests
 

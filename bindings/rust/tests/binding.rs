@@ -3,9 +3,9 @@
 
 use ptpm::{
     clock_image_octets, Action, Clock, ClockMembers, ClockSettings, DelayMechanism, Error, Handled, Identity, Limit,
-    ManagementErrorId, ManagementId, Manager, Objection, ObservedClock, ObservedGrandmaster, ObservedPort, Outbox, PortDataSet,
-    PortIdentity, PortMembers, PortSettings, PortState, Received, Report, Rights, Saved, SavingClock, Say, Session,
-    SessionSettings, Survey, SurveySettings, Surveyed, Taken, TimeInterval, CLOCK_IMAGE_OCTETS, MOST_DATA, MOST_OCTETS,
+    ManagementErrorId, ManagementId, Manager, Objection, ObservedClock, ObservedGrandmaster, ObservedPort, Outbox, PassedOn,
+    PortDataSet, PortIdentity, PortMembers, PortSettings, PortState, Rate, Received, Report, Rights, Saved, SavingClock, Say,
+    Session, SessionSettings, Survey, SurveySettings, Surveyed, Taken, TimeInterval, CLOCK_IMAGE_OCTETS, MOST_DATA, MOST_OCTETS,
     MOST_READ,
 };
 
@@ -488,4 +488,36 @@ fn numbers_of_a_newer_library_are_kept() {
     assert_eq!(Handled::Other(29).number(), 29);
     assert_eq!(Error::of_number(200).to_string(), "200: the library is newer than this crate");
     assert_eq!(Handled::AnsweredNew.to_string(), "ANSWERED_NEW");
+}
+
+#[test]
+fn the_library_has_the_version_of_the_declarations() {
+    assert_eq!(ptpm::version(), ptpm::sys::PTPM_VERSION_NUMBER);
+    assert_eq!(ptpm::sys::ptpm_header_agrees(), ptpm::sys::PTPM_STARTED);
+}
+
+#[test]
+fn a_message_is_passed_on_once_in_its_time() {
+    let get = request(7, "aabbccfffeddee01ffff", 1, 0, "2005");
+    let mut table = PassedOn::new(7);
+    assert!(table.is_first(&get, 0, 1000));
+    assert!(!table.is_first(&get, 999, 1000));
+    assert!(table.is_first(&get, 1000, 1000));
+    assert!(table.is_first(&request(8, "aabbccfffeddee01ffff", 1, 0, "2005"), 1000, 1000));
+    assert!(!table.is_first(&[], 1000, 1000));
+}
+
+#[test]
+fn a_table_has_as_many_places_as_its_host_gives_it() {
+    let mut table = PassedOn::of_size(16, 7).unwrap();
+    let passed = (0..17).filter(|&number| table.is_first(&request(number, "aabbccfffeddee01ffff", 1, 0, "2005"), 0, 1000));
+    assert_eq!(passed.count(), 16);
+    assert!(PassedOn::of_size(15, 7).is_none() && PassedOn::of_size(1_048_577, 7).is_none());
+}
+
+#[test]
+fn a_rate_gives_as_many_tokens_as_a_second_brings() {
+    let mut rate = Rate::new(3, 0);
+    assert_eq!((0..5).filter(|_| rate.take(0)).count(), 3);
+    assert_eq!((0..5).filter(|_| rate.take(1000)).count(), 3);
 }

@@ -1,7 +1,5 @@
 /* Commands of an asker. What it hands out is said with its message, and with what it reports. */
 #include "commands.h"
-#include "refusing.h"
-#include "words.h"
 #include <string.h>
 
 /* How many octets are drawn for an asker: this many are always given. */
@@ -184,14 +182,9 @@ static void run_earlier(char *words) {
     say("%s, in domain %u\n", left[what & 3], there);
 }
 
-static void run_stop(char *words) {
-    (void)words;
-    stop_asker();
-}
-
 const struct command asker_commands[] = {
     { "asker", run_asker }, { "restore-asker", run_restore }, { "ask-clock", run_ask }, { "settle", run_settle },
     { "let-go", run_let_go }, { "hear", run_hear }, { "wake", run_wake }, { "unsent", run_unsent }, { "asker-saved", run_saved },
-    { "noted", run_noted }, { "asker-image", run_image }, { "earlier", run_earlier }, { "stop-asker", run_stop },
+    { "noted", run_noted }, { "asker-image", run_image }, { "earlier", run_earlier },
     { NULL, NULL },
 };

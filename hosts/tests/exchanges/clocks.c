@@ -1,8 +1,6 @@
 /* Commands of a clock. Each datagram comes in at a second and a third clock too, which are restored from the image of the first. All have
    to answer, send and become the same. */
 #include "commands.h"
-#include "refusing.h"
-#include "words.h"
 #include <string.h>
 
 /* The places of the sender's identity and of a dataField in a message. How many messages that are alike have a line each. */
@@ -20,7 +18,10 @@ static struct ptpm_changed changed;
 /* How many messages may wait in the clock of the page, if it saves; otherwise 0. */
 static size_t places_to_wait;
 
-void stop_clock(void) { ptpm_clock_stop(&clock_of_page); }
+void stop_clock(void) {
+    places_to_wait = 0;
+    ptpm_clock_stop(&clock_of_page);
+}
 
 static uint32_t start(void *given) {
     const struct start *as = given;
@@ -460,14 +461,8 @@ static void run_most_sent(char *words) {
     say("%zu\n", ptpm_clock_most_sent(&clock_of_page));
 }
 
-static void run_stop(char *words) {
-    (void)words;
-    places_to_wait = 0;
-    stop_clock();
-}
-
 const struct command clock_commands[] = {
     { "clock", run_start }, { "in", run_in }, { "in-shared", run_in_shared }, { "transit", run_transit }, { "in-owner", run_in_owner }, { "in-said", run_in_said }, { "in-given", run_in_given }, { "decide", run_decide }, { "decide-given", run_decide_given }, { "changed", run_changed }, { "observe", run_observe },
     { "set-here", run_set_here }, { "read", run_read }, { "image", run_image }, { "image-is", run_image_is }, { "restore", run_restore }, { "saving", run_saving }, { "image-of", run_image_of },
-    { "saved", run_saved }, { "next", run_next }, { "free", run_free }, { "unsaved", run_unsaved }, { "most-sent", run_most_sent }, { "stop", run_stop }, { NULL, NULL },
+    { "saved", run_saved }, { "next", run_next }, { "free", run_free }, { "unsaved", run_unsaved }, { "most-sent", run_most_sent }, { NULL, NULL },
 };

@@ -2,6 +2,7 @@
 #pragma once
 
 #include "settings.h"
+#include "words.h"
 #include <stddef.h>
 #include <stdint.h>
 
@@ -40,3 +41,22 @@ bool wrote_alone(size_t size);
 
 /* What a call answers that writes octets, and the octets. */
 void say_written(uint32_t answer, const char *done, size_t size, void (*say_it)(const uint8_t *octets, size_t size));
+
+/* Makes a call that asks for memory with its first request refused, then with its second, and so on, until none is refused. Says what a
+   refused request changes, or if the call then answers something else than PTPM_NO_MEMORY. `state` writes what it may not change, or is
+   null. Returns what the call returns at last. */
+uint32_t refusing(uint32_t (*call)(void *given), void *given, size_t (*state)(uint8_t *octets));
+
+/* What becomes of a datagram at port 1 of a clock, by the octets at each of its places (IEEE 1588-2019, 13.3, 15.3 and 15.4). The order of
+   the answers, and numbers, are this project's profile. The library is not asked.
+
+   Why it is not a message; 0 if it is one. */
+uint32_t refusal_of(const struct octets *datagram);
+
+/* The answer that is due, of a clock that started so in domain 0. It took this request of each manager before, or none if it has no
+   octets. */
+uint32_t due_answer(const struct start *clock, const struct octets *taken, const struct octets *datagram);
+
+/* Whether these messages are due. At port 2 that is a copy of what is not only for the clock and has a hop left. Then at port 1 it is
+   the replies to what is answered. */
+bool are_due(const struct start *clock, const struct octets *datagram, uint32_t answer, const struct ptpm_sent *sent, size_t count);

@@ -1,7 +1,6 @@
 /* Commands of damaged datagrams: a message cut short at each octet, and with each octet replaced by every other. What is to become
    of each is said by places.c. Whatever is not a new request leaves the clock's image as it is, and a GET changes no member. */
 #include "commands.h"
-#include "places.h"
 #include <stdlib.h>
 #include <string.h>
 

@@ -1,6 +1,5 @@
 /* Commands of what a clock's device is asked, and of the values that its hardware has. */
 #include "commands.h"
-#include "words.h"
 #include <stddef.h>
 #include <string.h>
 

@@ -4,8 +4,6 @@
    nothing. */
 #include "../checking.h"
 #include "commands.h"
-#include "refusing.h"
-#include "words.h"
 #include <stdlib.h>
 #include <string.h>
 
@@ -30,6 +28,38 @@ void say_written(uint32_t answer, const char *done, size_t size, void (*say_it)(
     if (!wrote_alone(size)) say("it writes more than that\n");
 }
 
+/* The linker has the library and this program call these (--wrap). */
+void *__real_malloc(size_t size);
+void *__real_realloc(void *block, size_t size);
+void *__wrap_malloc(size_t size);
+void *__wrap_realloc(void *block, size_t size);
+
+/* How many requests come before the one that is refused, and that one; 0 if none is. */
+static unsigned ahead, refused;
+
+static bool is_refused(void) {
+    if (ahead == 0 || --ahead > 0) return false;
+    refused++;
+    return true;
+}
+
+void *__wrap_malloc(size_t size) { return is_refused() ? NULL : __real_malloc(size); }
+void *__wrap_realloc(void *block, size_t size) { return is_refused() ? NULL : __real_realloc(block, size); }
+
+uint32_t refusing(uint32_t (*call)(void *given), void *given, size_t (*state)(uint8_t *octets)) {
+    static uint8_t before[MOST_OCTETS], after[MOST_OCTETS];
+    size_t size = state == NULL ? 0 : state(before);
+    for (unsigned request = 1;; request++) {
+        unsigned so_far = refused;
+        ahead = request;
+        uint32_t answer = call(given);
+        ahead = 0;
+        if (refused == so_far) return answer;
+        if (answer != PTPM_NO_MEMORY) say("memory is refused, and it answers %s\n", answer_name(answer, "0"));
+        if (state != NULL && (state(after) != size || memcmp(before, after, size) != 0)) say("memory is refused, and it changes\n");
+    }
+}
+
 static void run_name(char *words) {
     static struct octets octets;
     const char *name = next_word(&words);
@@ -39,12 +69,24 @@ static void run_name(char *words) {
 
 static const struct command own_commands[] = { { "name", run_name }, { NULL, NULL } };
 
+/* What a page has started stops by these commands, and at its end. */
+static const struct { const char *name; void (*stop)(void); } stops[] = {
+    { "stop", stop_clock }, { "stop-session", stop_session }, { "stop-survey", stop_survey }, { "stop-asker", stop_asker },
+    { "stop-journal", stop_journal }, { "stop-rollout", stop_rollout },
+};
+enum { STOPS = sizeof stops / sizeof *stops };
+
 static void run_command(char *words) {
     static const struct command *const tables[] = {
         own_commands, clock_commands, device_commands, damage_commands, session_commands, survey_commands, asker_commands, seal_commands,
         journal_commands, rollout_commands, text_commands,
     };
     const char *name = next_word(&words);
+    for (size_t i = 0; name != NULL && i < STOPS; i++) {
+        if (strcmp(stops[i].name, name) != 0) continue;
+        stops[i].stop();
+        return;
+    }
     for (size_t i = 0; name != NULL && i < sizeof tables / sizeof *tables; i++) {
         for (const struct command *command = tables[i]; command->name != NULL; command++) {
             if (strcmp(command->name, name) != 0) continue;
@@ -258,12 +300,7 @@ static void run_page(const char *path, bool is_printed) {
     free(page.lines);
     forget_names();
     forget_messages();
-    stop_clock();
-    stop_session();
-    stop_survey();
-    stop_asker();
-    stop_journal();
-    stop_rollout();
+    for (size_t i = 0; i < STOPS; i++) stops[i].stop();
     stop_network();
 }
 
@@ -271,6 +308,6 @@ int main(int argc, char **argv) {
     bool is_printed = argc > 1 && strcmp(argv[1], "-p") == 0;
     for (int i = is_printed ? 2 : 1; i < argc; i++) run_page(argv[i], is_printed);
     if (is_printed) return 0;
-    printf("memory was refused %u times\n", refused_so_far());
+    printf("memory was refused %u times\n", refused);
     return print_checks("exchanges");
 }

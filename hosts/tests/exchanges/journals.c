@@ -1,7 +1,5 @@
 /* Commands of a journal. A record is said by its members, as it is given. */
 #include "commands.h"
-#include "refusing.h"
-#include "words.h"
 #include <string.h>
 
 static struct ptpm_journal journal;
@@ -86,12 +84,6 @@ static void run_mark(char *words) {
     say("%s\n", marks[ptpm_journal_mark(&journal, (uint16_t)next_number(&words, 0))]);
 }
 
-static void run_stop(char *words) {
-    (void)words;
-    stop_journal();
-}
-
 const struct command journal_commands[] = {
-    { "journal", run_journal }, { "add", run_add }, { "read-journal", run_read }, { "mark", run_mark },
-    { "stop-journal", run_stop }, { NULL, NULL },
+    { "journal", run_journal }, { "add", run_add }, { "read-journal", run_read }, { "mark", run_mark }, { NULL, NULL },
 };

@@ -1,4 +1,4 @@
-#include "places.h"
+#include "commands.h"
 #include <string.h>
 
 enum { HEAD = 54, CLOCK_OCTETS = 8, PORT_OCTETS = 10, SOURCE = 20, NUMBER = 30, TARGET = 34, HOPS = 44, ACTION = 46, TLV = 48, ID = 52 };
@@ -11,7 +11,8 @@ static const uint8_t every_clock[CLOCK_OCTETS] = { 0xff, 0xff, 0xff, 0xff, 0xff,
 
 static unsigned octet_at(const struct octets *octets, size_t place) { return place < octets->size ? octets->at[place] : 0; }
 
-unsigned number_at(const struct octets *octets, size_t place) { return 256 * octet_at(octets, place) + octet_at(octets, place + 1); }
+/* Octets past the last are 0. */
+static unsigned number_at(const struct octets *octets, size_t place) { return 256 * octet_at(octets, place) + octet_at(octets, place + 1); }
 
 static unsigned action_of(const struct octets *octets) { return octet_at(octets, ACTION) % 16; }
 static bool is_reply(const struct octets *octets) { return action_of(octets) == RESPONSE || action_of(octets) == ACKNOWLEDGE; }

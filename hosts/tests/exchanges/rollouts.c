@@ -1,7 +1,5 @@
 /* Commands of a rollout. What it wants done next is said in words, and a note with its record. */
 #include "commands.h"
-#include "refusing.h"
-#include "words.h"
 #include <stdlib.h>
 #include <string.h>
 
@@ -95,11 +93,6 @@ static void run_record(char *words) {
     say_written(answer, "ROLLED", size, say_octets);
 }
 
-static void run_stop(char *words) {
-    (void)words;
-    stop_rollout();
-}
-
 const struct command rollout_commands[] = {
-    { "rollout", run_rollout }, { "event", run_event }, { "record", run_record }, { "stop-rollout", run_stop }, { NULL, NULL },
+    { "rollout", run_rollout }, { "event", run_event }, { "record", run_record }, { NULL, NULL },
 };

@@ -1,7 +1,5 @@
 /* The seal of an image, and the newest image of several places. */
 #include "commands.h"
-#include "words.h"
-#include "../../ptpm.h"
 #include <string.h>
 
 static struct octets given;

@@ -1,7 +1,5 @@
 /* Commands of a session. After each of them the session is what its image restores. */
 #include "commands.h"
-#include "refusing.h"
-#include "words.h"
 #include <string.h>
 
 static struct ptpm_session session;
@@ -117,14 +115,9 @@ static void run_restore(char *words) {
     say_outcome(refusing(restore, &from, state), "RESTORED");
 }
 
-static void run_stop(char *words) {
-    (void)words;
-    stop_session();
-}
-
 const struct command session_commands[] = {
     { "session", run_session }, { "begin", run_begin }, { "begin-at", run_begin_at }, { "send", run_send }, { "resume", run_resume },
     { "give-up", run_give_up }, { "retune", run_retune }, { "receive", run_receive }, { "issued", run_issued },
-    { "report", run_report }, { "session-image", run_image }, { "restore-session", run_restore }, { "stop-session", run_stop },
+    { "report", run_report }, { "session-image", run_image }, { "restore-session", run_restore },
     { NULL, NULL },
 };

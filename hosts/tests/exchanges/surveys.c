@@ -1,7 +1,5 @@
 /* Commands of a survey. */
 #include "commands.h"
-#include "refusing.h"
-#include "words.h"
 #include <string.h>
 
 static struct ptpm_survey survey;
@@ -78,12 +76,6 @@ static void run_answer(char *words) {
     if (answer == PTPM_REFUSED || error != 0) say("error: %u\n", error);
 }
 
-static void run_stop(char *words) {
-    (void)words;
-    stop_survey();
-}
-
 const struct command survey_commands[] = {
-    { "survey", run_survey }, { "ask", run_ask }, { "take", run_take }, { "count", run_count }, { "answer", run_answer },
-    { "stop-survey", run_stop }, { NULL, NULL },
+    { "survey", run_survey }, { "ask", run_ask }, { "take", run_take }, { "count", run_count }, { "answer", run_answer }, { NULL, NULL },
 };

@@ -1,6 +1,5 @@
 /* Commands of names and of dataFields as text, of the messages that are passed on, and of a bucket of tokens. */
 #include "commands.h"
-#include "words.h"
 #include <string.h>
 
 /* A table of a page has as many places at most. */
