@@ -303,7 +303,7 @@ static void refuse_itself(void) {
     }
 }
 
-/* Options that say how another one is done, which is missing. A group is only named by then. */
+/* Refuses an option that belongs to another one which is missing. At this point a group is set only if an option names it. */
 static void refuse_alone(void) {
     bool has_socket = options->meeting.path != NULL;
     const char *of_socket = options->limits.is_passed_on_from_host ? "-f" : options->meeting.mode != MODE_AT_FIRST ? "--unix-mode" : NULL;
