@@ -991,124 +991,121 @@ static void f49(address a0, u16 a1, address a2, u8 a3, address a4);
 static void f50(address a0, address a1, u64 a2);
 static void f51(address a0, address a1, u64 a2);
 static void f52(address a0, address a1, u64 a2);
-static void f53(address a0, address a1, u64 a2);
-static u8 f54(address a0, u64 a1);
-static void f55(address a0, address a1);
-static void f56(address a0, u64 a1, address a2, address a3, u16 a4, address a5);
-static void f57(address a0, u8 a1, u16 a2, address a3, address a4, address a5);
-static void f58(address a0, u16 a1, address a2, address a3);
-static void f59(address a0, address a1, address a2);
-static void f60(address a0, address a1, u16 a2, address a3, u64 a4, u8 a5, address a6, u64 a7);
-static u8 f61(address a0, address a1);
-static void f62(address a0, address a1, address a2);
-static void f63(address a0, u8 a1, address a2);
-static void f64(address a0, address a1, address a2, u8 a3, address a4);
-static void f65(address a0, address a1, u16 a2, address a3, u64 a4, address a5, u64 a6, address a7, u64 a8);
-static u8 f66(address a0);
-static u8 f67(address a0, address a1);
-static void f68(address a0, address a1, address a2, u64 a3);
-static void f69(address a0, address a1, u16 a2, address a3, address a4, u64 a5);
-static u64 f70(address a0, address a1);
-static void f71(address a0, address a1, u64 a2);
-static void f72(address a0, address a1, u8 a2, address a3);
-static void f73(address a0, u8 a1, address a2);
-static void f74(address a0, address a1, address a2, u8 a3, u8 a4, address a5);
-static void f75(address a0, address a1);
-static void f76(address a0, address a1, address a2);
-static struct s2 f77(address a0, address a1, u64 a2);
-static struct s2 f78(address a0, address a1, u64 a2);
+static void f53(address a0, address a1);
+static void f54(address a0, u64 a1, address a2, address a3, u16 a4, address a5);
+static void f55(address a0, u8 a1, u16 a2, address a3, address a4, address a5);
+static void f56(address a0, u16 a1, address a2, address a3);
+static void f57(address a0, address a1, address a2);
+static void f58(address a0, address a1, u16 a2, address a3, u64 a4, u8 a5, address a6, u64 a7);
+static u8 f59(address a0, address a1);
+static void f60(address a0, address a1, address a2);
+static void f61(address a0, u8 a1, address a2);
+static void f62(address a0, address a1, address a2, u8 a3, address a4);
+static void f63(address a0, address a1, u16 a2, address a3, u64 a4, address a5, u64 a6, address a7, u64 a8);
+static u8 f64(address a0);
+static u8 f65(address a0, address a1);
+static void f66(address a0, address a1, address a2, u64 a3);
+static void f67(address a0, address a1, u16 a2, address a3, address a4, u64 a5);
+static u64 f68(address a0, address a1, u64 a2);
+static void f69(address a0, address a1, u64 a2);
+static void f70(address a0, address a1, u8 a2, address a3);
+static void f71(address a0, u8 a1, address a2);
+static void f72(address a0, address a1, address a2, u8 a3, u8 a4, address a5);
+static void f73(address a0, address a1);
+static void f74(address a0, address a1, address a2);
+static struct s2 f75(address a0, address a1, u64 a2);
+static struct s2 f76(address a0, address a1, u64 a2);
+static void f77(address a0, address a1);
+static void f78(address a0, address a1);
 static void f79(address a0, address a1);
 static void f80(address a0, address a1);
-static void f81(address a0, address a1);
-static void f82(address a0, address a1);
-static struct s1 f83(address a0, address a1, u64 a2);
-static void f84(address a0, address a1, address a2, u64 a3);
-static u8 f85(address a0, address a1, address a2, u64 a3);
-static struct s1 f86(address a0, address a1, address a2, u64 a3);
-static void f87(address a0, address a1, address a2, u64 a3);
-static u8 f88(address a0, address a1, u64 a2);
-static u32 f89(address a0, u16 a1, address a2, u64 a3, address a4, u8 a5, address a6, u64 a7, address a8);
-static void f90(address a0, address a1, address a2, u64 a3);
-static u64 f91(u8 a0, u8 a1);
-static void f92(address a0, address a1, address a2, u64 a3, address a4);
-static struct s4 f93(u16 a0, address a1, u64 a2);
+static struct s1 f81(address a0, address a1, u64 a2);
+static void f82(address a0, address a1, address a2, u64 a3);
+static u8 f83(address a0, address a1, address a2, u64 a3);
+static struct s1 f84(address a0, address a1, address a2, u64 a3);
+static void f85(address a0, address a1, address a2, u64 a3);
+static u8 f86(address a0, address a1, u64 a2);
+static u32 f87(address a0, u16 a1, address a2, u64 a3, address a4, u8 a5, address a6, u64 a7, address a8);
+static void f88(address a0, address a1, address a2, u64 a3);
+static u64 f89(u8 a0, u8 a1);
+static void f90(address a0, address a1, address a2, u64 a3, address a4);
+static struct s4 f91(u16 a0, address a1, u64 a2);
+static struct s1 f92(address a0, u64 a1);
+static void f93(address a0, u8 a1, u8 a2);
 static struct s1 f94(address a0, u64 a1);
-static void f95(address a0, u8 a1, u8 a2);
-static struct s1 f96(address a0, u64 a1);
-static struct s5 f97(address a0);
-static struct s5 f98(u8 a0, u8 a1);
-static u64 f99(u16 a0, address a1);
-static void f100(u8 a0, u8 a1, address a2);
-static struct s5 f101(u16 a0, address a1, u64 a2);
-static struct s5 f102(address a0, u64 a1);
-static void f103(address a0, u8 a1, u8 a2, address a3, u64 a4);
-static void f104(u64 a0, address a1);
-static struct s5 f105(address a0, u64 a1);
-static struct s4 f106(address a0, u64 a1);
-static struct s4 f107(address a0, u64 a1);
+static struct s5 f95(address a0);
+static struct s5 f96(u8 a0, u8 a1);
+static u64 f97(u16 a0, address a1);
+static void f98(u8 a0, u8 a1, address a2);
+static struct s5 f99(u16 a0, address a1, u64 a2);
+static struct s5 f100(address a0, u64 a1);
+static void f101(address a0, u8 a1, u8 a2, address a3, u64 a4);
+static void f102(u64 a0, address a1);
+static struct s5 f103(address a0, u64 a1);
+static struct s4 f104(address a0, u64 a1);
+static struct s4 f105(address a0, u64 a1);
+static void f106(address a0, address a1, u64 a2);
+static u32 f107(address a0, u64 a1, address a2, u64 a3);
 static void f108(address a0, address a1, u64 a2);
-static u32 f109(address a0, u64 a1, address a2, u64 a3);
-static void f110(address a0, address a1, u64 a2);
-static void f111(address a0, address a1, address a2, address a3, u64 a4, address a5, u64 a6, address a7, u64 a8);
-static u8 f112(address a0, address a1);
-static u8 f113(address a0, address a1);
-static u8 f114(address a0);
-static u8 f115(address a0);
-static void f116(address a0, address a1, address a2, u64 a3);
-static void f117(address a0, address a1);
-static u8 f118(address a0, u64 a1, address a2);
-static void f119(address a0, address a1, u64 a2);
-static u8 f120(u64 a0, address a1, u64 a2, address a3, u64 a4, u64 a5);
-static void f121(address a0, u32 a1, address a2, u64 a3);
-static u64 f122(address a0, u64 a1, u64 a2);
-static void f123(address a0, u16 a1, address a2, u64 a3);
-static void f124(address a0, u64 a1, address a2);
-static void f125(u8 a0, address a1);
+static void f109(address a0, address a1, address a2, address a3, u64 a4, address a5, u64 a6, address a7, u64 a8);
+static u8 f110(address a0, address a1);
+static u8 f111(address a0, address a1);
+static u8 f112(address a0);
+static u8 f113(address a0);
+static void f114(address a0, address a1, address a2, u64 a3);
+static void f115(address a0, address a1);
+static u8 f116(address a0, u64 a1, address a2);
+static void f117(address a0, address a1, u64 a2);
+static u8 f118(u64 a0, address a1, u64 a2, address a3, u64 a4, u64 a5);
+static void f119(address a0, u32 a1, address a2, u64 a3);
+static u64 f120(address a0, u64 a1, u64 a2);
+static void f121(address a0, u16 a1, address a2, u64 a3);
+static void f122(address a0, u64 a1, address a2);
+static void f123(u8 a0, address a1);
+static u8 f124(address a0, address a1, u64 a2);
+static u8 f125(address a0, u64 a1);
 static u8 f126(address a0, address a1, u64 a2);
-static u8 f127(address a0, u64 a1);
-static u8 f128(address a0, address a1, u64 a2);
-static void f129(u64 a0, address a1);
-static void f130(address a0, u64 a1);
-static void f131(address a0, u64 a1);
-static void f132(address a0, address a1, u64 a2);
-static void f133(address a0, u16 a1, u8 a2);
-static void f134(address a0, u64 a1, u8 a2, u16 a3, address a4, u64 a5);
-static void f135(address a0, u64 a1, u16 a2, u8 a3);
-static u8 f136(address a0);
-static u8 f137(address a0);
-static u8 f138(address a0, u64 a1);
-static void f139(address a0, address a1, u64 a2, address a3, address a4, u16 a5, u16 a6);
-static struct s1 f140(address a0, u64 a1);
-static void f141(address a0, address a1, u64 a2, address a3, u64 a4, address a5, u64 a6);
-static void f142(address a0, address a1, u64 a2, address a3, u64 a4, address a5, u64 a6);
-static struct s1 f143(address a0, u64 a1, address a2);
-static struct s1 f144(address a0, u64 a1, address a2);
-static struct s1 f145(address a0, u16 a1);
-static void f146(address a0, u16 a1);
-static u8 f147(address a0, address a1);
-static void f148(address a0, address a1, u64 a2, address a3);
-static u8 f149(u8 a0, u8 a1, address a2, u64 a3);
-static void f150(address a0, address a1, u16 a2, address a3, u64 a4);
-static struct s3 f151(address a0, address a1);
-static struct s1 f152(address a0, u64 a1, address a2);
-static u8 f153(address a0, address a1, address a2);
-static void f154(address a0, address a1, address a2, u64 a3, address a4, u64 a5);
+static void f127(u64 a0, address a1);
+static void f128(address a0, u64 a1);
+static void f129(address a0, u64 a1);
+static void f130(address a0, address a1, u64 a2);
+static void f131(address a0, u16 a1, u8 a2);
+static void f132(address a0, u64 a1, u8 a2, u16 a3, address a4, u64 a5);
+static void f133(address a0, u64 a1, u16 a2, u8 a3);
+static u8 f134(address a0);
+static u8 f135(address a0);
+static u8 f136(address a0, u64 a1);
+static void f137(address a0, address a1, u64 a2, address a3, address a4, u16 a5, u16 a6);
+static struct s1 f138(address a0, u64 a1);
+static void f139(address a0, address a1, u64 a2, address a3, u64 a4, address a5, u64 a6);
+static void f140(address a0, address a1, u64 a2, address a3, u64 a4, address a5, u64 a6);
+static struct s1 f141(address a0, u64 a1, address a2);
+static struct s1 f142(address a0, u64 a1, address a2);
+static struct s1 f143(address a0, u16 a1);
+static u8 f144(address a0, address a1);
+static void f145(address a0, address a1, u64 a2, address a3);
+static u8 f146(u8 a0, u8 a1, address a2, u64 a3);
+static void f147(address a0, address a1, u16 a2, address a3, u64 a4);
+static struct s3 f148(address a0, address a1);
+static struct s1 f149(address a0, u64 a1, address a2);
+static u8 f150(address a0, address a1, address a2);
+static void f151(address a0, address a1, address a2, u64 a3, address a4, u64 a5);
+static u8 f152(address a0);
+static u8 f153(address a0);
+static u8 f154(address a0);
 static u8 f155(address a0);
 static u8 f156(address a0);
 static u8 f157(address a0);
-static u8 f158(address a0);
-static u8 f159(address a0);
-static u8 f160(address a0);
-static void f161(address a0);
-static u32 f162(address a0, address a1);
-static void f163(address a0, address a1, address a2, address a3, u64 a4);
-static void f164(address a0, address a1);
-static void f165(address a0, address a1, address a2, address a3, u64 a4);
-static void f166(address a0, address a1, address a2, address a3);
-static void f167(address a0, address a1, address a2, address a3, u64 a4);
-static void f168(address a0, address a1, u8 a2, u16 a3, u16 a4, address a5, u64 a6);
-static void f169(address a0, address a1, u16 a2, address a3, u64 a4);
-static void f170(address a0, address a1, u16 a2, address a3, u64 a4);
+static void f158(address a0);
+static u32 f159(address a0, address a1);
+static void f160(address a0, address a1, address a2, address a3, u64 a4);
+static void f161(address a0, address a1);
+static void f162(address a0, address a1, address a2, address a3, u64 a4);
+static void f163(address a0, address a1, address a2, address a3);
+static void f164(address a0, address a1, address a2, address a3, u64 a4);
+static void f165(address a0, address a1, u8 a2, u16 a3, u16 a4, address a5, u64 a6);
+static void f166(address a0, address a1, u16 a2, address a3, u64 a4);
+static void f167(address a0, address a1, u16 a2, address a3, u64 a4);
 u64 portable_ptpm_answer_name(u32 a0, address a1, u64 a2);
 u32 portable_ptpm_asker_ask(address a0, u64 a1, u64 a2, u8 a3, u16 a4, u16 a5, address a6, u64 a7, u8 a8, address a9);
 u32 portable_ptpm_asker_earlier(address a0, u8 a1, address a2);
@@ -10020,7 +10017,7 @@ L40:;
     if (v194) { v19 = 6u; goto L42; }
     else { v14 = v193; v15 = v180; v16 = v177; v17 = v176; goto L33; }
 L41:;
-    f57(a1, v18, a2, a3, v36, v30);
+    f55(a1, v18, a2, a3, v36, v30);
     v195 = (u64)v18;
     v19 = v195; goto L42;
 L42:;
@@ -10409,14 +10406,13 @@ static void f49(address a0, u16 a1, address a2, u8 a3, address a4) {
     address v46, v48, v50, v52, v54, v56, v66, v67, v68, v69, v70, v71, v72, v73, v74, v75;
     address v76, v81, v82, v83, v84, v86, v88, v90, v91, v92, v100, v101, v107, v109, v111, v112;
     address v113, v116, v118, v121, v127, v128, v129, v130, v131, v132, v134, v143, v144, v148, v149, v150;
-    address v153, v154, v157, v160, v162, v163, v164, v167, v168, v169, v170, v175, v176, v179, v180, v183;
-    address v186;
+    address v153, v154, v157, v160, v161, v163, v164, v167, v168, v169, v171, v172, v175, v178, v179, v180;
+    address v183;
     u64 v6, v8, v9, v10, v18, v44, v45, v55, v57, v77, v93, v94, v95, v97, v98, v114;
-    u64 v117, v122, v124, v126, v135, v139, v140, v141, v146, v151, v156, v165, v171, v177, v181, v184;
-    u64 v187;
+    u64 v117, v122, v124, v126, v135, v139, v140, v141, v146, v151, v156, v165, v176, v181;
     u8 v16, v20, v22, v28, v30, v36, v38, v40, v42, v43, v47, v49, v51, v53, v78, v80;
     u8 v96, v110, v115, v120, v123, v125, v133, v136, v137, v138, v142, v145, v147, v152, v158, v159;
-    u8 v161, v166, v172, v173, v174, v178, v182, v185, v188;
+    u8 v162, v166, v170, v173, v174, v177, v182;
     u16 v23, v24, v25, v26, v31, v32, v33, v34, v58, v59, v60, v61, v62, v63, v64, v65;
     u16 v85, v87, v89, v99, v108, v119, v155;
     u32 v79, v102, v103, v104, v105, v106;
@@ -10559,7 +10555,7 @@ L2:;
     v113 = a0 + 400u * 1u;
     v114 = load64(v113);
     v115 = v114 == 0u;
-    if (v115) { goto L34; }
+    if (v115) { goto L36; }
     else { v7 = v112; v8 = v114; v9 = 0u; goto L3; }
 L3:;
     v116 = v7 + 2144u * 1u;
@@ -10578,7 +10574,7 @@ L4:;
 L5:;
     v124 = (u64)((u64)v9 + (u64)1u);
     v125 = v117 == 0u;
-    if (v125) { goto L34; }
+    if (v125) { goto L36; }
     else { v7 = v116; v8 = v117; v9 = v124; goto L3; }
 L6:;
     v126 = (u64)((u64)v9 * (u64)2144u);
@@ -10634,7 +10630,7 @@ L12:;
     v151 = load64(v150);
     v152 = v151 == 1u;
     if (v152) { goto L13; }
-    else { goto L24; }
+    else { goto L27; }
 L13:;
     v153 = load_address(a4);
     v154 = v153 + 2u * 1u;
@@ -10644,14 +10640,14 @@ L13:;
     v158 = load8(v149);
     v159 = v158 == 0u;
     v160 = v127 + 1440u * 1u;
-    v161 = (u8)(v155);
     if (v159) { goto L14; }
     else { goto L21; }
 L14:;
-    v162 = v127 + 1456u * 1u;
+    v161 = v127 + 1456u * 1u;
     memory_set(v160, 0u, 16u);
+    v162 = (u8)(v155);
     v163 = v127 + 1448u * 1u;
-    store8(v160, v161);
+    store8(v160, v162);
     store64(v163, 1u);
     v164 = v127 + 2096u * 1u;
     v165 = load64(v164);
@@ -10666,86 +10662,91 @@ L15:;
     default: goto L19;
     }
 L16:;
-    memory_move(v162, v157, 54u);
-    goto L34;
+    memory_move(v161, v157, 54u);
+    goto L36;
 L17:;
-    memory_move(v162, v157, 56u);
-    goto L34;
+    memory_move(v161, v157, 56u);
+    goto L36;
 L18:;
-    memory_move(v162, v157, 80u);
-    goto L34;
+    memory_move(v161, v157, 80u);
+    goto L36;
 L19:;
-    f51(v162, v157, v156);
-    goto L34;
+    f51(v161, v157, v156);
+    goto L36;
 L20:;
-    f52(v162, v157, v156);
-    goto L34;
+    f52(v161, v157, v156);
+    goto L36;
 L21:;
     v167 = v127 + 1464u * 1u;
-    v168 = v127 + 1448u * 1u;
-    v169 = load_address(v160);
-    store8(v169, v161);
-    store64(v168, 1u);
-    v170 = v127 + 1472u * 1u;
-    v171 = load64(v170);
-    v172 = v171 == 0u;
-    if (v172) { goto L23; }
-    else { goto L22; }
+    v168 = v127 + 1488u * 1u;
+    v169 = v127 + 1448u * 1u;
+    v170 = (u8)(v155);
+    v171 = load_address(v160);
+    store8(v171, v170);
+    store64(v169, 1u);
+    v172 = load_address(v167);
+    switch (v155) {
+    case 54u: goto L22;
+    case 56u: goto L23;
+    case 80u: goto L24;
+    default: goto L25;
+    }
 L22:;
-    store64(v170, 0u);
-    goto L23;
+    memory_move(v172, v157, 54u);
+    goto L26;
 L23:;
-    f53(v167, v157, v156);
-    goto L34;
+    memory_move(v172, v157, 56u);
+    goto L26;
 L24:;
+    memory_move(v172, v157, 80u);
+    goto L26;
+L25:;
+    f51(v172, v157, v156);
+    goto L26;
+L26:;
+    store64(v168, v156);
+    goto L36;
+L27:;
     v173 = load8(v149);
     v174 = v173 == 0u;
-    if (v174) { goto L25; }
+    v175 = v127 + 1448u * 1u;
+    v176 = load64(v175);
+    v177 = v176 == 0u;
+    if (v174) { goto L28; }
+    else { goto L32; }
+L28:;
+    v178 = v127 + 1456u * 1u;
+    if (v177) { goto L30; }
     else { goto L29; }
-L25:;
-    v175 = v127 + 1456u * 1u;
-    v176 = v127 + 1448u * 1u;
-    v177 = load64(v176);
-    v178 = v177 == 0u;
-    if (v178) { goto L27; }
-    else { goto L26; }
-L26:;
+L29:;
     v179 = v127 + 1440u * 1u;
-    memory_set(v179, 0u, v177);
-    store64(v176, 0u);
-    goto L27;
-L27:;
+    memory_set(v179, 0u, v176);
+    store64(v175, 0u);
+    goto L30;
+L30:;
     v180 = v127 + 2096u * 1u;
     v181 = load64(v180);
     v182 = v181 == 0u;
-    if (v182) { goto L33; }
-    else { goto L28; }
-L28:;
-    memory_set(v175, 0u, v181);
-    store64(v180, 0u);
-    goto L33;
-L29:;
-    v183 = v127 + 1448u * 1u;
-    v184 = load64(v183);
-    v185 = v184 == 0u;
-    if (v185) { goto L31; }
-    else { goto L30; }
-L30:;
-    store64(v183, 0u);
-    goto L31;
+    if (v182) { goto L35; }
+    else { goto L31; }
 L31:;
-    v186 = v127 + 1472u * 1u;
-    v187 = load64(v186);
-    v188 = v187 == 0u;
-    if (v188) { goto L33; }
-    else { goto L32; }
+    memory_set(v178, 0u, v181);
+    store64(v180, 0u);
+    goto L35;
 L32:;
-    store64(v186, 0u);
-    goto L33;
+    v183 = v127 + 1488u * 1u;
+    if (v177) { goto L34; }
+    else { goto L33; }
 L33:;
-    f55(a4, v149);
+    store64(v175, 0u);
     goto L34;
 L34:;
+    store64(v183, 0u);
+    goto L35;
+L35:;
+    f53(a4, v149);
+    goto L36;
+L36:;
     return;
 }
 
@@ -10933,406 +10934,212 @@ L12:;
     return;
 }
 
-static void f53(address a0, address a1, u64 a2) {
-    u64 v3, v4, v5, v6, v7, v8, v9, v10, v11, v12, v13, v14, v16, v17, v19, v21;
-    u64 v22, v25, v26, v27, v30, v31, v32, v37, v41, v42, v43, v46, v47, v48, v53, v57;
-    u64 v58, v59, v62, v63, v64, v69, v73, v74, v75, v78, v79, v80, v85;
-    address v15, v18, v20, v28, v29, v34, v35, v44, v45, v50, v51, v60, v61, v66, v67, v76;
-    address v77, v82, v83;
-    u8 v23, v24, v33, v36, v38, v39, v40, v49, v52, v54, v55, v56, v65, v68, v70, v71;
-    u8 v72, v81, v84, v86;
-    v18 = a0 + 16u * 1u;
-    v19 = load64(v18);
-    v20 = a0 + 8u * 1u;
-    v21 = load64(v20);
-    v22 = (u64)((u64)v19 - (u64)v21);
-    switch (a2) {
-    case 54u: goto L1;
-    case 56u: goto L7;
-    case 80u: goto L13;
-    default: goto L19;
-    }
-L1:;
-    v23 = v22 < 54u;
-    if (v23) { goto L2; }
-    else { v3 = v19; v4 = v21; goto L4; }
-L2:;
-    v24 = f54(a0, 54u);
-    if (v24) { goto L3; }
-    else { goto L26; }
-L3:;
-    v25 = load64(v20);
-    v26 = load64(v18);
-    v3 = v26; v4 = v25; goto L4;
-L4:;
-    v27 = (u64)((u64)v4 + (u64)54u);
-    v28 = load_address(a0);
-    memory_set(v20, 0u, 16u);
-    v29 = v28 + v4 * 1u;
-    v30 = (u64)v29;
-    v31 = (u64)a1;
-    v32 = (u64)((u64)v30 - (u64)v31);
-    v33 = v32 < 54u;
-    if (v33) { v5 = 0u; goto L6; }
-    else { goto L5; }
-L5:;
-    memory_move(v29, a1, 54u);
-    v15 = v28; v16 = v27; v17 = v3; goto L25;
-L6:;
-    v34 = v29 + v5 * 1u;
-    v35 = a1 + v5 * 1u;
-    v36 = load8(v35);
-    store8(v34, v36);
-    v37 = (u64)((u64)v5 + (u64)1u);
-    v38 = v37 == 54u;
-    if (v38) { v15 = v28; v16 = v27; v17 = v3; goto L25; }
-    else { v5 = v37; goto L6; }
-L7:;
-    v39 = v22 < 56u;
-    if (v39) { goto L8; }
-    else { v6 = v19; v7 = v21; goto L10; }
-L8:;
-    v40 = f54(a0, 56u);
-    if (v40) { goto L9; }
-    else { goto L26; }
-L9:;
-    v41 = load64(v20);
-    v42 = load64(v18);
-    v6 = v42; v7 = v41; goto L10;
-L10:;
-    v43 = (u64)((u64)v7 + (u64)56u);
-    v44 = load_address(a0);
-    memory_set(v20, 0u, 16u);
-    v45 = v44 + v7 * 1u;
-    v46 = (u64)v45;
-    v47 = (u64)a1;
-    v48 = (u64)((u64)v46 - (u64)v47);
-    v49 = v48 < 56u;
-    if (v49) { v8 = 0u; goto L12; }
-    else { goto L11; }
-L11:;
-    memory_move(v45, a1, 56u);
-    v15 = v44; v16 = v43; v17 = v6; goto L25;
-L12:;
-    v50 = v45 + v8 * 1u;
-    v51 = a1 + v8 * 1u;
-    v52 = load8(v51);
-    store8(v50, v52);
-    v53 = (u64)((u64)v8 + (u64)1u);
-    v54 = v53 == 56u;
-    if (v54) { v15 = v44; v16 = v43; v17 = v6; goto L25; }
-    else { v8 = v53; goto L12; }
-L13:;
-    v55 = v22 < 80u;
-    if (v55) { goto L14; }
-    else { v9 = v19; v10 = v21; goto L16; }
-L14:;
-    v56 = f54(a0, 80u);
-    if (v56) { goto L15; }
-    else { goto L26; }
-L15:;
-    v57 = load64(v20);
-    v58 = load64(v18);
-    v9 = v58; v10 = v57; goto L16;
-L16:;
-    v59 = (u64)((u64)v10 + (u64)80u);
-    v60 = load_address(a0);
-    memory_set(v20, 0u, 16u);
-    v61 = v60 + v10 * 1u;
-    v62 = (u64)v61;
-    v63 = (u64)a1;
-    v64 = (u64)((u64)v62 - (u64)v63);
-    v65 = v64 < 80u;
-    if (v65) { v11 = 0u; goto L18; }
-    else { goto L17; }
-L17:;
-    memory_move(v61, a1, 80u);
-    v15 = v60; v16 = v59; v17 = v9; goto L25;
-L18:;
-    v66 = v61 + v11 * 1u;
-    v67 = a1 + v11 * 1u;
-    v68 = load8(v67);
-    store8(v66, v68);
-    v69 = (u64)((u64)v11 + (u64)1u);
-    v70 = v69 == 80u;
-    if (v70) { v15 = v60; v16 = v59; v17 = v9; goto L25; }
-    else { v11 = v69; goto L18; }
-L19:;
-    v71 = a2 > v22;
-    if (v71) { goto L20; }
-    else { v12 = v19; v13 = v21; goto L22; }
-L20:;
-    v72 = f54(a0, a2);
-    if (v72) { goto L21; }
-    else { goto L26; }
-L21:;
-    v73 = load64(v20);
-    v74 = load64(v18);
-    v12 = v74; v13 = v73; goto L22;
-L22:;
-    v75 = (u64)((u64)v13 + (u64)a2);
-    v76 = load_address(a0);
-    memory_set(v20, 0u, 16u);
-    v77 = v76 + v13 * 1u;
-    v78 = (u64)v77;
-    v79 = (u64)a1;
-    v80 = (u64)((u64)v78 - (u64)v79);
-    v81 = v80 < a2;
-    if (v81) { v14 = 0u; goto L24; }
-    else { goto L23; }
-L23:;
-    memory_move(v77, a1, a2);
-    v15 = v76; v16 = v75; v17 = v12; goto L25;
-L24:;
-    v82 = v77 + v14 * 1u;
-    v83 = a1 + v14 * 1u;
-    v84 = load8(v83);
-    store8(v82, v84);
-    v85 = (u64)((u64)v14 + (u64)1u);
-    v86 = v85 == a2;
-    if (v86) { v15 = v76; v16 = v75; v17 = v12; goto L25; }
-    else { v14 = v85; goto L24; }
-L25:;
-    store_address(a0, v15);
-    store64(v20, v16);
-    store64(v18, v17);
-    goto L26;
-L26:;
-    return;
-}
-
-static u8 f54(address a0, u64 a1) {
-    u8 v2, v7, v12, v16, v17, v21, v25;
-    struct pair v3, v19, v22, v23;
-    address v4, v8, v18, v27;
-    u64 v5, v6, v9, v10, v11, v13, v14, v15, v20, v24, v26;
-    v4 = a0 + 8u * 1u;
-    v5 = load64(v4);
-    v6 = (u64)((u64)v5 ^ (u64)UINT64_C(18446744073709551615));
-    v7 = a1 > v6;
-    if (v7) { v2 = 0u; goto L1; }
-    else { goto L2; }
-L1:;
-    return v2;
-L2:;
-    v8 = a0 + 16u * 1u;
-    v9 = load64(v8);
-    v10 = (u64)((u64)v5 + (u64)a1);
-    v11 = v10 > 8u ? v10 : 8u;
-    v12 = v9 < UINT64_C(4611686018427387904);
-    v13 = (u64)((u64)v9 << (1u & 63u));
-    v14 = v11 > v13 ? v11 : v13;
-    v15 = v12 ? v14 : v11;
-    v16 = (i64)v15 > (i64)UINT64_C(18446744073709551615);
-    if (v16) { goto L3; }
-    else { v2 = 0u; goto L1; }
-L3:;
-    v17 = v9 == 0u;
-    if (v17) { goto L5; }
-    else { goto L4; }
-L4:;
-    v18 = load_address(a0);
-    v19 = portable_rattle_realloc(v18, v5, v15, 1u);
-    v20 = v19.m0;
-    v21 = (u8)((v20) & UINT64_C(1));
-    if (v21) { v3 = v19; goto L6; }
-    else { v2 = 0u; goto L1; }
-L5:;
-    v22 = portable_rattle_alloc(v14, 1u);
-    v23 = v22;
-    v24 = v23.m0;
-    v25 = (u8)((v24) & UINT64_C(1));
-    if (v25) { v3 = v23; goto L6; }
-    else { v2 = 0u; goto L1; }
-L6:;
-    v26 = v3.m1;
-    v27 = (address)v26;
-    store_address(a0, v27);
-    store64(v8, v15);
-    v2 = 1u; goto L1;
-}
-
-static void f55(address a0, address a1) {
-    u64 v2, v3, v4, v5, v6, v8, v16, v20, v25, v27, v28, v29, v32, v33, v34, v39;
-    u64 v41, v42, v45, v46, v47, v52, v54, v55, v58, v59, v60, v65, v67, v68, v71, v72;
-    u64 v73, v78, v80, v83, v84;
-    address v7, v10, v11, v12, v13, v14, v15, v17, v18, v21, v26, v31, v36, v37, v44, v49;
-    address v50, v57, v62, v63, v70, v75, v76, v81, v82;
-    u8 v9, v22, v23, v24, v30, v35, v38, v40, v43, v48, v51, v53, v56, v61, v64, v66;
-    u8 v69, v74, v77, v79, v85;
-    u16 v19;
+static void f53(address a0, address a1) {
+    u64 v2, v3, v4, v5, v6, v8, v17, v21, v26, v28, v29, v30, v33, v34, v35, v40;
+    u64 v42, v43, v46, v47, v48, v53, v55, v56, v59, v60, v61, v66, v68, v69, v72, v73;
+    u64 v74, v79, v81, v84, v86, v88, v89, v90;
+    address v7, v10, v11, v12, v13, v14, v15, v16, v18, v19, v22, v27, v32, v37, v38, v45;
+    address v50, v51, v58, v63, v64, v71, v76, v77, v82, v83, v85, v87;
+    u8 v9, v23, v24, v25, v31, v36, v39, v41, v44, v49, v52, v54, v57, v62, v65, v67;
+    u8 v70, v75, v78, v80, v91;
+    u16 v20;
     v7 = a0 + 16u * 1u;
     v8 = load64(v7);
     v9 = v8 == 0u;
-    if (v9) { goto L26; }
+    if (v9) { goto L31; }
     else { goto L1; }
 L1:;
     v10 = a1 + 8u * 1u;
     v11 = a1 + 32u * 1u;
-    v12 = a1 + 16u * 1u;
-    v13 = a1 + 24u * 1u;
-    v14 = a1 + 664u * 1u;
+    v12 = a1 + 56u * 1u;
+    v13 = a1 + 16u * 1u;
+    v14 = a1 + 24u * 1u;
+    v15 = a1 + 664u * 1u;
     v2 = 0u; goto L2;
 L2:;
-    v15 = load_address(a0);
-    v16 = (u64)((u64)v2 * (u64)1476u);
-    v17 = v15 + v16 * 1u;
-    v18 = v17 + 2u * 1u;
-    v19 = load16(v18);
-    v20 = (u64)v19;
-    v21 = v17 + 4u * 1u;
-    v22 = load8(a1);
-    v23 = v22 == 0u;
-    v24 = (u8)(v19);
-    v25 = load64(v12);
-    if (v23) { goto L3; }
+    v16 = load_address(a0);
+    v17 = (u64)((u64)v2 * (u64)1476u);
+    v18 = v16 + v17 * 1u;
+    v19 = v18 + 2u * 1u;
+    v20 = load16(v19);
+    v21 = (u64)v20;
+    v22 = v18 + 4u * 1u;
+    v23 = load8(a1);
+    v24 = v23 == 0u;
+    v25 = (u8)(v20);
+    v26 = load64(v13);
+    if (v24) { goto L3; }
     else { goto L24; }
 L3:;
-    v26 = v10 + v25 * 1u;
-    store8(v26, v24);
-    v27 = (u64)((u64)v25 + (u64)1u);
-    store64(v12, v27);
-    v28 = load64(v14);
-    switch (v19) {
+    v27 = v10 + v26 * 1u;
+    store8(v27, v25);
+    v28 = (u64)((u64)v26 + (u64)1u);
+    store64(v13, v28);
+    v29 = load64(v15);
+    switch (v20) {
     case 54u: goto L4;
     case 56u: goto L9;
     case 80u: goto L14;
     default: goto L19;
     }
 L4:;
-    v29 = (u64)((u64)v28 + (u64)UINT64_C(18446744073709551029));
-    v30 = v29 < 54u;
-    if (v30) { goto L25; }
+    v30 = (u64)((u64)v29 + (u64)UINT64_C(18446744073709551029));
+    v31 = v30 < 54u;
+    if (v31) { goto L30; }
     else { goto L5; }
 L5:;
-    v31 = v13 + v28 * 1u;
-    v32 = (u64)v31;
-    v33 = (u64)v21;
-    v34 = (u64)((u64)v32 - (u64)v33);
-    v35 = v34 < 54u;
-    if (v35) { v3 = 0u; goto L7; }
+    v32 = v14 + v29 * 1u;
+    v33 = (u64)v32;
+    v34 = (u64)v22;
+    v35 = (u64)((u64)v33 - (u64)v34);
+    v36 = v35 < 54u;
+    if (v36) { v3 = 0u; goto L7; }
     else { goto L6; }
 L6:;
-    memory_move(v31, v21, 54u);
+    memory_move(v32, v22, 54u);
     goto L8;
 L7:;
-    v36 = v31 + v3 * 1u;
-    v37 = v21 + v3 * 1u;
-    v38 = load8(v37);
-    store8(v36, v38);
-    v39 = (u64)((u64)v3 + (u64)1u);
-    v40 = v39 == 54u;
-    if (v40) { goto L8; }
-    else { v3 = v39; goto L7; }
+    v37 = v32 + v3 * 1u;
+    v38 = v22 + v3 * 1u;
+    v39 = load8(v38);
+    store8(v37, v39);
+    v40 = (u64)((u64)v3 + (u64)1u);
+    v41 = v40 == 54u;
+    if (v41) { goto L8; }
+    else { v3 = v40; goto L7; }
 L8:;
-    v41 = (u64)((u64)v28 + (u64)54u);
-    store64(v14, v41);
-    goto L25;
+    v42 = (u64)((u64)v29 + (u64)54u);
+    store64(v15, v42);
+    goto L30;
 L9:;
-    v42 = (u64)((u64)v28 + (u64)UINT64_C(18446744073709551031));
-    v43 = v42 < 56u;
-    if (v43) { goto L25; }
+    v43 = (u64)((u64)v29 + (u64)UINT64_C(18446744073709551031));
+    v44 = v43 < 56u;
+    if (v44) { goto L30; }
     else { goto L10; }
 L10:;
-    v44 = v13 + v28 * 1u;
-    v45 = (u64)v44;
-    v46 = (u64)v21;
-    v47 = (u64)((u64)v45 - (u64)v46);
-    v48 = v47 < 56u;
-    if (v48) { v4 = 0u; goto L12; }
+    v45 = v14 + v29 * 1u;
+    v46 = (u64)v45;
+    v47 = (u64)v22;
+    v48 = (u64)((u64)v46 - (u64)v47);
+    v49 = v48 < 56u;
+    if (v49) { v4 = 0u; goto L12; }
     else { goto L11; }
 L11:;
-    memory_move(v44, v21, 56u);
+    memory_move(v45, v22, 56u);
     goto L13;
 L12:;
-    v49 = v44 + v4 * 1u;
-    v50 = v21 + v4 * 1u;
-    v51 = load8(v50);
-    store8(v49, v51);
-    v52 = (u64)((u64)v4 + (u64)1u);
-    v53 = v52 == 56u;
-    if (v53) { goto L13; }
-    else { v4 = v52; goto L12; }
+    v50 = v45 + v4 * 1u;
+    v51 = v22 + v4 * 1u;
+    v52 = load8(v51);
+    store8(v50, v52);
+    v53 = (u64)((u64)v4 + (u64)1u);
+    v54 = v53 == 56u;
+    if (v54) { goto L13; }
+    else { v4 = v53; goto L12; }
 L13:;
-    v54 = (u64)((u64)v28 + (u64)56u);
-    store64(v14, v54);
-    goto L25;
+    v55 = (u64)((u64)v29 + (u64)56u);
+    store64(v15, v55);
+    goto L30;
 L14:;
-    v55 = (u64)((u64)v28 + (u64)UINT64_C(18446744073709551055));
-    v56 = v55 < 80u;
-    if (v56) { goto L25; }
+    v56 = (u64)((u64)v29 + (u64)UINT64_C(18446744073709551055));
+    v57 = v56 < 80u;
+    if (v57) { goto L30; }
     else { goto L15; }
 L15:;
-    v57 = v13 + v28 * 1u;
-    v58 = (u64)v57;
-    v59 = (u64)v21;
-    v60 = (u64)((u64)v58 - (u64)v59);
-    v61 = v60 < 80u;
-    if (v61) { v5 = 0u; goto L17; }
+    v58 = v14 + v29 * 1u;
+    v59 = (u64)v58;
+    v60 = (u64)v22;
+    v61 = (u64)((u64)v59 - (u64)v60);
+    v62 = v61 < 80u;
+    if (v62) { v5 = 0u; goto L17; }
     else { goto L16; }
 L16:;
-    memory_move(v57, v21, 80u);
+    memory_move(v58, v22, 80u);
     goto L18;
 L17:;
-    v62 = v57 + v5 * 1u;
-    v63 = v21 + v5 * 1u;
-    v64 = load8(v63);
-    store8(v62, v64);
-    v65 = (u64)((u64)v5 + (u64)1u);
-    v66 = v65 == 80u;
-    if (v66) { goto L18; }
-    else { v5 = v65; goto L17; }
+    v63 = v58 + v5 * 1u;
+    v64 = v22 + v5 * 1u;
+    v65 = load8(v64);
+    store8(v63, v65);
+    v66 = (u64)((u64)v5 + (u64)1u);
+    v67 = v66 == 80u;
+    if (v67) { goto L18; }
+    else { v5 = v66; goto L17; }
 L18:;
-    v67 = (u64)((u64)v28 + (u64)80u);
-    store64(v14, v67);
-    goto L25;
+    v68 = (u64)((u64)v29 + (u64)80u);
+    store64(v15, v68);
+    goto L30;
 L19:;
-    v68 = (u64)((u64)640u - (u64)v28);
-    v69 = v68 < v20;
-    if (v69) { goto L25; }
+    v69 = (u64)((u64)640u - (u64)v29);
+    v70 = v69 < v21;
+    if (v70) { goto L30; }
     else { goto L20; }
 L20:;
-    v70 = v13 + v28 * 1u;
-    v71 = (u64)v70;
-    v72 = (u64)v21;
-    v73 = (u64)((u64)v71 - (u64)v72);
-    v74 = v73 < v20;
-    if (v74) { v6 = 0u; goto L22; }
+    v71 = v14 + v29 * 1u;
+    v72 = (u64)v71;
+    v73 = (u64)v22;
+    v74 = (u64)((u64)v72 - (u64)v73);
+    v75 = v74 < v21;
+    if (v75) { v6 = 0u; goto L22; }
     else { goto L21; }
 L21:;
-    memory_move(v70, v21, v20);
+    memory_move(v71, v22, v21);
     goto L23;
 L22:;
-    v75 = v70 + v6 * 1u;
-    v76 = v21 + v6 * 1u;
-    v77 = load8(v76);
-    store8(v75, v77);
-    v78 = (u64)((u64)v6 + (u64)1u);
-    v79 = v78 == v20;
-    if (v79) { goto L23; }
-    else { v6 = v78; goto L22; }
+    v76 = v71 + v6 * 1u;
+    v77 = v22 + v6 * 1u;
+    v78 = load8(v77);
+    store8(v76, v78);
+    v79 = (u64)((u64)v6 + (u64)1u);
+    v80 = v79 == v21;
+    if (v80) { goto L23; }
+    else { v6 = v79; goto L22; }
 L23:;
-    v80 = (u64)((u64)v28 + (u64)v20);
-    store64(v14, v80);
-    goto L25;
+    v81 = (u64)((u64)v29 + (u64)v21);
+    store64(v15, v81);
+    goto L30;
 L24:;
-    v81 = load_address(v10);
-    v82 = v81 + v25 * 1u;
-    store8(v82, v24);
-    v83 = (u64)((u64)v25 + (u64)1u);
-    store64(v12, v83);
-    f53(v11, v21, v20);
-    goto L25;
+    v82 = load_address(v10);
+    v83 = v82 + v26 * 1u;
+    store8(v83, v25);
+    v84 = (u64)((u64)v26 + (u64)1u);
+    store64(v13, v84);
+    v85 = load_address(v11);
+    v86 = load64(v12);
+    v87 = v85 + v86 * 1u;
+    switch (v20) {
+    case 54u: goto L25;
+    case 56u: goto L26;
+    case 80u: goto L27;
+    default: goto L28;
+    }
 L25:;
-    v84 = (u64)((u64)v2 + (u64)1u);
-    v85 = v84 == v8;
-    if (v85) { goto L26; }
-    else { v2 = v84; goto L2; }
+    memory_move(v87, v22, 54u);
+    goto L29;
 L26:;
+    memory_move(v87, v22, 56u);
+    goto L29;
+L27:;
+    memory_move(v87, v22, 80u);
+    goto L29;
+L28:;
+    f51(v87, v22, v21);
+    goto L29;
+L29:;
+    v88 = load64(v12);
+    v89 = (u64)((u64)v88 + (u64)v21);
+    store64(v12, v89);
+    goto L30;
+L30:;
+    v90 = (u64)((u64)v2 + (u64)1u);
+    v91 = v90 == v8;
+    if (v91) { goto L31; }
+    else { v2 = v90; goto L2; }
+L31:;
     return;
 }
 
-static void f56(address a0, u64 a1, address a2, address a3, u16 a4, address a5) {
+static void f54(address a0, u64 a1, address a2, address a3, u16 a4, address a5) {
     u64 v6, v8, v15, v17, v19, v22, v40, v41;
     address v7, v9, v11, v12, v13, v14, v16, v20, v21, v23, v25, v26, v28, v34, v36, v38;
     address v39;
@@ -11414,7 +11221,7 @@ L10:;
     return;
 }
 
-static void f57(address a0, u8 a1, u16 a2, address a3, address a4, address a5) {
+static void f55(address a0, u8 a1, u16 a2, address a3, address a4, address a5) {
     u64 v6, v9, v13, v16, v30, v43, v44, v46, v57, v58, v68, v70, v88, v112;
     address v7, v8, v10, v11, v12, v14, v15, v20, v24, v26, v29, v32, v37, v40, v41, v42;
     address v47, v48, v51, v53, v56, v59, v61, v63, v65, v67, v69, v79, v80, v81, v82, v83;
@@ -11509,7 +11316,7 @@ L9:;
 L10:;
     UNREACHABLE;
 L11:;
-    f58(a0, a2, a3, a5);
+    f56(a0, a2, a3, a5);
     goto L12;
 L12:;
     v50 = a1 == 9u;
@@ -11631,13 +11438,13 @@ L15:;
     v135 = swap16(v78);
     v136 = v11 + 52u * 1u;
     store16(v136, v135);
-    f59(a0, v10, v11);
+    f57(a0, v10, v11);
     goto L16;
 L16:;
     return;
 }
 
-static void f58(address a0, u16 a1, address a2, address a3) {
+static void f56(address a0, u16 a1, address a2, address a3) {
     u64 v4, v5, v10, v12, v21, v22, v24, v29, v31, v36, v37, v48, v52, v53, v54;
     address v6, v7, v11, v16, v17, v18, v19, v20, v27, v28, v32, v33, v35, v38, v46, v47;
     address v51;
@@ -11754,7 +11561,7 @@ L15:;
     return;
 }
 
-static void f59(address a0, address a1, address a2) {
+static void f57(address a0, address a1, address a2) {
     address v3, v15, v16, v17, v20, v22, v23, v24, v25, v26, v27, v28, v29, v30, v31, v33;
     address v34, v36, v38, v39, v42, v43, v44, v49, v50, v52, v53, v54, v56, v57, v60, v61;
     address v62, v65, v67, v68, v70, v71, v72, v73, v76, v77, v78, v79, v84, v85, v90, v92;
@@ -12012,18 +11819,18 @@ L40:;
     goto L23;
 }
 
-static void f60(address a0, address a1, u16 a2, address a3, u64 a4, u8 a5, address a6, u64 a7) {
+static void f58(address a0, address a1, u16 a2, address a3, u64 a4, u8 a5, address a6, u64 a7) {
     address v8, v12, v13, v14, v15, v16, v17, v18, v21, v22, v23, v25, v27, v30, v31, v33;
     address v35, v37, v43, v45, v51, v53, v58, v60, v62, v64, v66, v68, v78, v79, v80, v81;
     address v82, v83, v84, v85, v99, v100, v101, v102, v103, v104, v105, v106, v107, v108, v109, v110;
     address v111, v112, v113, v114, v116, v117, v118, v121, v123, v126, v132, v133, v134, v135, v136, v137;
-    address v139, v148, v149, v153, v154, v157, v158, v161, v164, v165, v166, v168, v169, v172, v173, v175;
-    address v176, v181, v182, v185, v186, v189, v192, v196, v197, v198;
+    address v139, v148, v149, v153, v154, v157, v158, v161, v164, v166, v167, v168, v169, v172, v173, v174;
+    address v175, v176, v179, v182, v183, v184, v187, v189, v190, v191;
     u64 v9, v10, v11, v24, v34, v56, v57, v67, v69, v86, v119, v122, v127, v129, v131, v140;
-    u64 v144, v145, v146, v151, v155, v160, v170, v177, v183, v187, v190, v193, v195;
+    u64 v144, v145, v146, v151, v155, v160, v170, v180, v185, v188;
     u8 v19, v20, v26, v28, v29, v32, v36, v38, v44, v46, v52, v54, v55, v59, v61, v63;
     u8 v65, v87, v89, v115, v120, v125, v128, v130, v138, v141, v142, v143, v147, v150, v152, v156;
-    u8 v162, v163, v167, v171, v174, v178, v179, v180, v184, v188, v191, v194;
+    u8 v162, v163, v165, v171, v177, v178, v181, v186;
     u16 v39, v40, v41, v42, v47, v48, v49, v50, v70, v71, v72, v73, v74, v75, v76, v77;
     u16 v90, v91, v92, v93, v98, v124, v159;
     u32 v88, v94, v95, v96, v97;
@@ -12048,7 +11855,7 @@ static void f60(address a0, address a1, u16 a2, address a3, u64 a4, u8 a5, addre
     v19 = load8(v14);
     v20 = v19 == 0u;
     if (v20) { goto L1; }
-    else { goto L36; }
+    else { goto L38; }
 L1:;
     v21 = v14 + 8u * 1u;
     v22 = load_address(v21);
@@ -12058,9 +11865,9 @@ L1:;
     v26 = load8(v25);
     v27 = v14 + 25u * 1u;
     v28 = load8(v27);
-    v29 = f61(a1, v21);
+    v29 = f59(a1, v21);
     if (v29) { goto L2; }
-    else { goto L36; }
+    else { goto L38; }
 L2:;
     v30 = v13 + 72u * 1u;
     store64(v30, 0u);
@@ -12174,14 +11981,14 @@ L2:;
     memory_set(v113, 0u, 6u);
     store_address(v114, v15);
     store8(v30, a5);
-    f62(a1, v12, v13);
+    f60(a1, v12, v13);
     v115 = load8(v113);
     v116 = a1 + 392u * 1u;
     v117 = load_address(v116);
     v118 = a1 + 400u * 1u;
     v119 = load64(v118);
     v120 = v119 == 0u;
-    if (v120) { goto L34; }
+    if (v120) { goto L36; }
     else { v8 = v117; v9 = v119; v10 = 0u; goto L3; }
 L3:;
     v121 = v8 + 2144u * 1u;
@@ -12200,7 +12007,7 @@ L4:;
 L5:;
     v129 = (u64)((u64)v10 + (u64)1u);
     v130 = v122 == 0u;
-    if (v130) { goto L34; }
+    if (v130) { goto L36; }
     else { v8 = v121; v9 = v122; v10 = v129; goto L3; }
 L6:;
     v131 = (u64)((u64)v10 * (u64)2144u);
@@ -12255,7 +12062,7 @@ L12:;
     v155 = load64(v18);
     v156 = v155 == 1u;
     if (v156) { goto L13; }
-    else { goto L24; }
+    else { goto L27; }
 L13:;
     v157 = load_address(v15);
     v158 = v157 + 2u * 1u;
@@ -12265,15 +12072,15 @@ L13:;
     v162 = load8(v154);
     v163 = v162 == 0u;
     v164 = v132 + 1440u * 1u;
+    v165 = (u8)(v159);
     if (v163) { goto L14; }
     else { goto L21; }
 L14:;
-    v165 = v132 + 1456u * 1u;
-    v166 = v132 + 1441u * 1u;
-    memory_set(v166, 0u, 7u);
-    v167 = (u8)(v159);
+    v166 = v132 + 1456u * 1u;
+    v167 = v132 + 1441u * 1u;
+    memory_set(v167, 0u, 7u);
     v168 = v132 + 1448u * 1u;
-    store8(v164, v167);
+    store8(v164, v165);
     store64(v168, 1u);
     v169 = v132 + 2096u * 1u;
     v170 = load64(v169);
@@ -12288,105 +12095,108 @@ L15:;
     default: goto L19;
     }
 L16:;
-    memory_move(v165, v161, 54u);
-    goto L34;
+    memory_move(v166, v161, 54u);
+    goto L36;
 L17:;
-    memory_move(v165, v161, 56u);
-    goto L34;
+    memory_move(v166, v161, 56u);
+    goto L36;
 L18:;
-    memory_move(v165, v161, 80u);
-    goto L34;
+    memory_move(v166, v161, 80u);
+    goto L36;
 L19:;
-    f51(v165, v161, v160);
-    goto L34;
+    f51(v166, v161, v160);
+    goto L36;
 L20:;
-    f52(v165, v161, v160);
-    goto L34;
+    f52(v166, v161, v160);
+    goto L36;
 L21:;
     v172 = v132 + 1464u * 1u;
-    v173 = v132 + 1448u * 1u;
-    v174 = (u8)(v159);
+    v173 = v132 + 1488u * 1u;
+    v174 = v132 + 1448u * 1u;
     v175 = load_address(v164);
-    store8(v175, v174);
-    store64(v173, 1u);
-    v176 = v132 + 1472u * 1u;
-    v177 = load64(v176);
-    v178 = v177 == 0u;
-    if (v178) { goto L23; }
-    else { goto L22; }
+    store8(v175, v165);
+    store64(v174, 1u);
+    v176 = load_address(v172);
+    switch (v159) {
+    case 54u: goto L22;
+    case 56u: goto L23;
+    case 80u: goto L24;
+    default: goto L25;
+    }
 L22:;
-    store64(v176, 0u);
-    goto L23;
+    memory_move(v176, v161, 54u);
+    goto L26;
 L23:;
-    f53(v172, v161, v160);
-    goto L34;
+    memory_move(v176, v161, 56u);
+    goto L26;
 L24:;
-    v179 = load8(v154);
-    v180 = v179 == 0u;
-    if (v180) { goto L25; }
-    else { goto L29; }
+    memory_move(v176, v161, 80u);
+    goto L26;
 L25:;
-    v181 = v132 + 1456u * 1u;
-    v182 = v132 + 1448u * 1u;
-    v183 = load64(v182);
-    v184 = v183 == 0u;
-    if (v184) { goto L27; }
-    else { goto L26; }
+    f51(v176, v161, v160);
+    goto L26;
 L26:;
-    v185 = v132 + 1440u * 1u;
-    memory_set(v185, 0u, v183);
-    store64(v182, 0u);
-    goto L27;
+    store64(v173, v160);
+    goto L36;
 L27:;
-    v186 = v132 + 2096u * 1u;
-    v187 = load64(v186);
-    v188 = v187 == 0u;
-    if (v188) { goto L33; }
-    else { goto L28; }
-L28:;
-    memory_set(v181, 0u, v187);
-    store64(v186, 0u);
-    goto L33;
-L29:;
-    v189 = v132 + 1448u * 1u;
-    v190 = load64(v189);
-    v191 = v190 == 0u;
-    if (v191) { goto L31; }
-    else { goto L30; }
-L30:;
-    store64(v189, 0u);
-    goto L31;
-L31:;
-    v192 = v132 + 1472u * 1u;
-    v193 = load64(v192);
-    v194 = v193 == 0u;
-    if (v194) { goto L33; }
+    v177 = load8(v154);
+    v178 = v177 == 0u;
+    v179 = v132 + 1448u * 1u;
+    v180 = load64(v179);
+    v181 = v180 == 0u;
+    if (v178) { goto L28; }
     else { goto L32; }
+L28:;
+    v182 = v132 + 1456u * 1u;
+    if (v181) { goto L30; }
+    else { goto L29; }
+L29:;
+    v183 = v132 + 1440u * 1u;
+    memory_set(v183, 0u, v180);
+    store64(v179, 0u);
+    goto L30;
+L30:;
+    v184 = v132 + 2096u * 1u;
+    v185 = load64(v184);
+    v186 = v185 == 0u;
+    if (v186) { goto L35; }
+    else { goto L31; }
+L31:;
+    memory_set(v182, 0u, v185);
+    store64(v184, 0u);
+    goto L35;
 L32:;
-    store64(v192, 0u);
-    goto L33;
+    v187 = v132 + 1488u * 1u;
+    if (v181) { goto L34; }
+    else { goto L33; }
 L33:;
-    f55(v15, v154);
+    store64(v179, 0u);
     goto L34;
 L34:;
-    v195 = load64(v18);
-    store8(v16, 5u);
-    v196 = v16 + 1u * 1u;
-    store8(v196, 0u);
-    v197 = v16 + 8u * 1u;
-    store64(v197, v195);
-    v198 = v16 + 16u * 1u;
-    memory_set(v198, 0u, 76u);
+    store64(v187, 0u);
     goto L35;
 L35:;
+    f53(v15, v154);
+    goto L36;
+L36:;
+    v188 = load64(v18);
+    store8(v16, 5u);
+    v189 = v16 + 1u * 1u;
+    store8(v189, 0u);
+    v190 = v16 + 8u * 1u;
+    store64(v190, v188);
+    v191 = v16 + 16u * 1u;
+    memory_set(v191, 0u, 76u);
+    goto L37;
+L37:;
     memory_cpy(a0, v16, 96u);
     return;
-L36:;
+L38:;
     f44(v16, a1, a2, a3, a4, a6, a7);
-    goto L35;
+    goto L37;
 }
 
-static u8 f61(address a0, address a1) {
+static u8 f59(address a0, address a1) {
     address v2, v17, v18, v19, v20, v22, v25, v28, v30, v32, v34, v36, v38, v48, v49, v50;
     address v51, v52, v53, v56, v58, v62, v66, v68, v71, v76, v80, v84, v86, v92, v93, v95;
     address v127, v128, v129;
@@ -12733,7 +12543,7 @@ L55:;
     v4 = v130; goto L3;
 }
 
-static void f62(address a0, address a1, address a2) {
+static void f60(address a0, address a1, address a2) {
     address v3, v10, v11, v12, v15, v17, v18, v19, v20, v21, v22, v23, v24, v28, v30, v31;
     address v33, v34, v36, v38, v40, v41, v44, v45, v46, v49, v51, v52, v54, v55, v57, v59;
     address v61, v62, v65, v66, v67, v70, v72, v73, v75, v76, v78, v80, v82, v83, v86, v87;
@@ -12953,15 +12763,15 @@ L28:;
     store64(v83, v90);
     goto L23;
 L29:;
-    f63(a0, v8, a2);
+    f61(a0, v8, a2);
     goto L23;
 L30:;
     v91 = (u8)v27;
-    f64(a0, v11, a1, v91, a2);
+    f62(a0, v11, a1, v91, a2);
     goto L23;
 }
 
-static void f63(address a0, u8 a1, address a2) {
+static void f61(address a0, u8 a1, address a2) {
     address v3, v5, v7, v8, v10, v11, v13, v15, v17, v18, v21, v22, v23, v26, v28, v29;
     address v31, v32, v34, v36, v38, v39, v42, v43, v44;
     u8 v4, v6, v27;
@@ -13034,7 +12844,7 @@ L3:;
     return;
 }
 
-static void f64(address a0, address a1, address a2, u8 a3, address a4) {
+static void f62(address a0, address a1, address a2, u8 a3, address a4) {
     u16 v5, v6, v9, v10, v12, v20, v21, v35, v39, v43, v47, v58, v61, v75, v79, v81;
     u16 v85, v86, v94;
     u64 v7, v17, v19, v31, v32, v37, v45, v52, v54, v55, v66, v68, v69, v77, v83, v89;
@@ -13236,7 +13046,7 @@ L32:;
     return;
 }
 
-static void f65(address a0, address a1, u16 a2, address a3, u64 a4, address a5, u64 a6, address a7, u64 a8) {
+static void f63(address a0, address a1, u16 a2, address a3, u64 a4, address a5, u64 a6, address a7, u64 a8) {
     u64 v9, v11, v12, v13, v15, v16, v18, v19, v21, v39, v40, v50, v52, v54, v71, v73;
     u64 v86, v94, v96, v112, v113, v115, v119, v121, v128, v129, v131, v136, v138, v142, v153, v157;
     u64 v158, v163, v164, v198, v218, v219, v220, v225, v230, v243, v244, v254, v256, v258, v275, v277;
@@ -13330,7 +13140,7 @@ L1:;
     store_address(v67, v53);
     v68 = v26 + 16u * 1u;
     store64(v68, v54);
-    v69 = f66(v26);
+    v69 = f64(v26);
     if (v69) { goto L2; }
     else { goto L8; }
 L2:;
@@ -13386,7 +13196,7 @@ L7:;
 L8:;
     goto L39;
 L9:;
-    v99 = f67(a1, v27);
+    v99 = f65(a1, v27);
     v100 = v99 == 0u;
     if (v100) { goto L10; }
     else { goto L39; }
@@ -13705,7 +13515,7 @@ L40:;
     store_address(v271, v257);
     v272 = v22 + 16u * 1u;
     store64(v272, v258);
-    v273 = f66(v22);
+    v273 = f64(v22);
     if (v273) { goto L41; }
     else { goto L47; }
 L41:;
@@ -13761,7 +13571,7 @@ L46:;
 L47:;
     goto L50;
 L48:;
-    v303 = f67(a1, v23);
+    v303 = f65(a1, v23);
     v304 = v303 == 1u;
     if (v304) { goto L49; }
     else { goto L50; }
@@ -13803,7 +13613,7 @@ L49:;
     store_address(v329, v257);
     v330 = v25 + 32u * 1u;
     store64(v330, v258);
-    f68(a1, v25, a5, a6);
+    f66(a1, v25, a5, a6);
     f44(v29, a1, a2, a3, a4, a7, a8);
     v331 = v29 + 24u * 1u;
     v332 = load32(v331);
@@ -13857,7 +13667,7 @@ L50:;
     goto L38;
 }
 
-static u8 f66(address a0) {
+static u8 f64(address a0) {
     u8 v1, v2, v3;
     address v4;
     u16 v5;
@@ -13898,7 +13708,7 @@ L3:;
     return v1;
 }
 
-static u8 f67(address a0, address a1) {
+static u8 f65(address a0, address a1) {
     address v2, v5, v6, v7, v8, v10, v12, v17, v20, v22, v24, v30, v31, v33, v39, v41;
     address v46, v48, v50, v52, v59, v60, v61, v62, v63, v64;
     u64 v3, v9, v18, v21, v44, v45, v51, v53;
@@ -13991,7 +13801,7 @@ L4:;
     return v4;
 }
 
-static void f68(address a0, address a1, address a2, u64 a3) {
+static void f66(address a0, address a1, address a2, u64 a3) {
     u8 v4, v25, v28, v31, v32;
     address v5, v6, v7, v8, v9, v10, v11, v12, v13, v14, v15, v16, v17, v18, v19, v20;
     address v21, v22, v23, v24, v26, v29, v30, v33, v34, v35, v36, v37, v38, v39, v40, v41;
@@ -14133,733 +13943,751 @@ L3:;
     v56 = v15 + 8u * 1u;
     v57 = a1 + 10u * 1u;
     v58 = load16(v57);
-    f69(a0, a1, v58, v24, v56, 1u);
+    f67(a0, a1, v58, v24, v56, 1u);
     return;
 }
 
-static void f69(address a0, address a1, u16 a2, address a3, address a4, u64 a5) {
-    address v6, v16, v23, v24, v25, v26, v29, v31, v33, v36, v43, v44, v45, v47, v48, v50;
-    address v51, v53, v54, v55, v56, v59, v68, v69, v77, v78, v80, v82, v86, v89, v90, v93;
-    address v94, v97, v100, v103, v104, v105, v106, v107, v108, v109, v110, v111, v112, v113, v114, v115;
-    address v116, v117, v118, v119, v120, v121, v122, v123, v124, v164, v166, v170, v172, v173, v175, v190;
-    address v194, v195, v200, v202, v204, v207, v208, v209, v213, v214, v215, v216, v217, v218, v219, v221;
-    address v222, v223, v224, v228, v229, v230, v231, v232, v233, v234, v235, v236, v237, v241, v243, v249;
-    address v250, v256, v260, v261;
-    u64 v7, v8, v9, v11, v17, v18, v19, v20, v21, v22, v27, v32, v37, v38, v40, v42;
-    u64 v57, v60, v64, v65, v66, v71, v79, v81, v91, v95, v98, v101, v125, v126, v130, v132;
-    u64 v134, v136, v138, v140, v142, v145, v147, v149, v151, v153, v155, v157, v163, v174, v179, v181;
-    u64 v182, v183, v184, v185, v186, v187, v188, v191, v192, v197, v199, v201, v203, v210, v211, v225;
-    u64 v226, v245, v246, v247, v252, v255, v257, v259, v262, v263;
-    u8 v10, v12, v13, v28, v35, v39, v41, v46, v58, v61, v62, v63, v67, v70, v72, v73;
-    u8 v74, v75, v76, v84, v87, v88, v92, v96, v99, v102, v127, v128, v129, v131, v133, v135;
-    u8 v137, v139, v141, v143, v144, v146, v148, v150, v152, v154, v156, v158, v165, v168, v171, v176;
-    u8 v177, v178, v180, v189, v193, v196, v198, v212, v227, v244, v248, v251, v253, v254, v258, v264;
-    u16 v14, v15, v30, v34, v49, v52, v83, v85, v159, v160, v167, v169, v205, v206, v220, v238;
-    u16 v239, v240, v242;
-    u32 v161, v162;
+static void f67(address a0, address a1, u16 a2, address a3, address a4, u64 a5) {
+    address v6, v16, v22, v23, v24, v25, v28, v30, v32, v35, v42, v43, v44, v46, v47, v49;
+    address v50, v52, v53, v54, v55, v58, v67, v68, v76, v77, v79, v81, v85, v88, v91, v92;
+    address v93, v96, v97, v98, v99, v100, v101, v102, v103, v104, v105, v106, v107, v108, v109, v110;
+    address v111, v112, v113, v114, v115, v116, v117, v118, v158, v160, v164, v166, v167, v169, v184, v188;
+    address v189, v194, v196, v198, v201, v202, v203, v207, v208, v209, v210, v211, v212, v213, v215, v216;
+    address v217, v218, v222, v223, v224, v225, v226, v227, v228, v229, v230, v231, v235, v237, v243, v244;
+    address v250, v252, v257, v258;
+    u64 v7, v8, v9, v11, v17, v18, v19, v20, v21, v26, v31, v36, v37, v39, v41, v56;
+    u64 v59, v63, v64, v65, v70, v78, v80, v89, v94, v119, v120, v124, v126, v128, v130, v132;
+    u64 v134, v136, v139, v141, v143, v145, v147, v149, v151, v157, v168, v173, v175, v176, v177, v178;
+    u64 v179, v180, v181, v182, v185, v186, v191, v193, v195, v197, v204, v205, v219, v220, v239, v240;
+    u64 v241, v246, v249, v251, v253, v254, v256, v259, v260, v261, v262;
+    u8 v10, v12, v13, v27, v34, v38, v40, v45, v57, v60, v61, v62, v66, v69, v71, v72;
+    u8 v73, v74, v75, v83, v86, v87, v90, v95, v121, v122, v123, v125, v127, v129, v131, v133;
+    u8 v135, v137, v138, v140, v142, v144, v146, v148, v150, v152, v159, v162, v165, v170, v171, v172;
+    u8 v174, v183, v187, v190, v192, v206, v221, v238, v242, v245, v247, v248, v255, v263;
+    u16 v14, v15, v29, v33, v48, v51, v82, v84, v153, v154, v161, v163, v199, v200, v214, v232;
+    u16 v233, v234, v236;
+    u32 v155, v156;
     u64 block0[7];
-    v23 = ADDRESS(block0);
-    v24 = a0 + 392u * 1u;
-    v25 = load_address(v24);
-    v26 = a0 + 400u * 1u;
-    v27 = load64(v26);
-    v28 = v27 == 0u;
-    if (v28) { goto L60; }
+    v22 = ADDRESS(block0);
+    v23 = a0 + 392u * 1u;
+    v24 = load_address(v23);
+    v25 = a0 + 400u * 1u;
+    v26 = load64(v25);
+    v27 = v26 == 0u;
+    if (v27) { goto L59; }
     else { goto L1; }
 L1:;
-    v29 = a1 + 8u * 1u;
-    v30 = load16(v29);
-    v6 = v25; v7 = v27; v8 = 0u; goto L2;
+    v28 = a1 + 8u * 1u;
+    v29 = load16(v28);
+    v6 = v24; v7 = v26; v8 = 0u; goto L2;
 L2:;
-    v31 = v6 + 2144u * 1u;
-    v32 = (u64)((u64)v7 + (u64)UINT64_C(18446744073709551615));
-    v33 = v6 + 2120u * 1u;
-    v34 = load16(v33);
-    v35 = v30 == v34;
-    if (v35) { goto L3; }
+    v30 = v6 + 2144u * 1u;
+    v31 = (u64)((u64)v7 + (u64)UINT64_C(18446744073709551615));
+    v32 = v6 + 2120u * 1u;
+    v33 = load16(v32);
+    v34 = v29 == v33;
+    if (v34) { goto L3; }
     else { goto L4; }
 L3:;
-    v36 = v6 + 2112u * 1u;
-    v37 = load64(a1);
-    v38 = load64(v36);
-    v39 = v37 == v38;
-    if (v39) { goto L5; }
+    v35 = v6 + 2112u * 1u;
+    v36 = load64(a1);
+    v37 = load64(v35);
+    v38 = v36 == v37;
+    if (v38) { goto L5; }
     else { goto L4; }
 L4:;
-    v40 = (u64)((u64)v8 + (u64)1u);
-    v41 = v32 == 0u;
-    if (v41) { goto L60; }
-    else { v6 = v31; v7 = v32; v8 = v40; goto L2; }
+    v39 = (u64)((u64)v8 + (u64)1u);
+    v40 = v31 == 0u;
+    if (v40) { goto L59; }
+    else { v6 = v30; v7 = v31; v8 = v39; goto L2; }
 L5:;
-    v42 = (u64)((u64)v8 * (u64)2144u);
-    v43 = v25 + v42 * 1u;
-    v44 = v43 + 2137u * 1u;
-    store8(v44, 1u);
-    v45 = v43 + 2122u * 1u;
-    store16(v45, a2);
-    v46 = load8(a3);
-    v47 = v43 + 2128u * 1u;
-    store8(v47, v46);
-    v48 = a3 + 2u * 1u;
-    v49 = load16(v48);
-    v50 = v43 + 2124u * 1u;
-    store16(v50, v49);
-    v51 = a3 + 4u * 1u;
-    v52 = load16(v51);
-    v53 = v43 + 2126u * 1u;
-    store16(v53, v52);
-    v54 = a3 + 8u * 1u;
-    v55 = load_address(v54);
-    v56 = a3 + 16u * 1u;
-    v57 = load64(v56);
-    v58 = v57 == 0u;
-    v59 = v43 + 1424u * 1u;
-    v60 = load64(v59);
-    v61 = v60 == 0u;
-    v62 = v58 ? v61 : 0u;
-    if (v62) { goto L11; }
+    v41 = (u64)((u64)v8 * (u64)2144u);
+    v42 = v24 + v41 * 1u;
+    v43 = v42 + 2137u * 1u;
+    store8(v43, 1u);
+    v44 = v42 + 2122u * 1u;
+    store16(v44, a2);
+    v45 = load8(a3);
+    v46 = v42 + 2128u * 1u;
+    store8(v46, v45);
+    v47 = a3 + 2u * 1u;
+    v48 = load16(v47);
+    v49 = v42 + 2124u * 1u;
+    store16(v49, v48);
+    v50 = a3 + 4u * 1u;
+    v51 = load16(v50);
+    v52 = v42 + 2126u * 1u;
+    store16(v52, v51);
+    v53 = a3 + 8u * 1u;
+    v54 = load_address(v53);
+    v55 = a3 + 16u * 1u;
+    v56 = load64(v55);
+    v57 = v56 == 0u;
+    v58 = v42 + 1424u * 1u;
+    v59 = load64(v58);
+    v60 = v59 == 0u;
+    v61 = v57 ? v60 : 0u;
+    if (v61) { goto L11; }
     else { goto L6; }
 L6:;
-    v63 = v60 == v57;
-    if (v63) { goto L7; }
+    v62 = v59 == v56;
+    if (v62) { goto L7; }
     else { goto L10; }
 L7:;
-    v64 = (u64)v43;
-    v65 = (u64)v55;
-    v66 = (u64)((u64)v64 - (u64)v65);
-    v67 = v66 < v57;
-    if (v67) { v9 = 0u; goto L9; }
+    v63 = (u64)v42;
+    v64 = (u64)v54;
+    v65 = (u64)((u64)v63 - (u64)v64);
+    v66 = v65 < v56;
+    if (v66) { v9 = 0u; goto L9; }
     else { goto L8; }
 L8:;
-    memory_move(v43, v55, v57);
+    memory_move(v42, v54, v56);
     goto L11;
 L9:;
-    v68 = v43 + v9 * 1u;
-    v69 = v55 + v9 * 1u;
-    v70 = load8(v69);
-    store8(v68, v70);
-    v71 = (u64)((u64)v9 + (u64)1u);
-    v72 = v71 == v57;
-    if (v72) { goto L11; }
-    else { v9 = v71; goto L9; }
+    v67 = v42 + v9 * 1u;
+    v68 = v54 + v9 * 1u;
+    v69 = load8(v68);
+    store8(v67, v69);
+    v70 = (u64)((u64)v9 + (u64)1u);
+    v71 = v70 == v56;
+    if (v71) { goto L11; }
+    else { v9 = v70; goto L9; }
 L10:;
-    f50(v43, v55, v57);
+    f50(v42, v54, v56);
     goto L11;
 L11:;
-    v73 = a5 == 0u;
-    if (v73) { v10 = 0u; goto L13; }
+    v72 = a5 == 0u;
+    if (v72) { v10 = 0u; goto L13; }
     else { goto L12; }
 L12:;
-    v74 = load8(a4);
-    v75 = v74 == 1u;
-    v10 = v75; goto L13;
+    v73 = load8(a4);
+    v74 = v73 == 1u;
+    v10 = v74; goto L13;
 L13:;
-    v76 = (u8)v10;
-    v77 = v43 + 2129u * 1u;
-    store8(v77, v76);
-    v78 = v43 + 2104u * 1u;
-    v79 = load64(v78);
-    v80 = v43 + 2112u * 1u;
-    v81 = load64(v80);
-    v82 = v43 + 2120u * 1u;
-    v83 = load16(v82);
-    v84 = load8(a3);
-    v85 = load16(v48);
-    v86 = v43 + 1432u * 1u;
-    v87 = load8(v86);
-    v88 = v87 == 0u;
-    if (v88) { goto L14; }
+    v75 = (u8)v10;
+    v76 = v42 + 2129u * 1u;
+    store8(v76, v75);
+    v77 = v42 + 2104u * 1u;
+    v78 = load64(v77);
+    v79 = v42 + 2112u * 1u;
+    v80 = load64(v79);
+    v81 = v42 + 2120u * 1u;
+    v82 = load16(v81);
+    v83 = load8(a3);
+    v84 = load16(v47);
+    v85 = v42 + 1432u * 1u;
+    v86 = load8(v85);
+    v87 = v86 == 0u;
+    v88 = v42 + 1448u * 1u;
+    v89 = load64(v88);
+    v90 = v89 == 0u;
+    if (v87) { goto L14; }
     else { goto L18; }
 L14:;
-    v89 = v43 + 1456u * 1u;
-    v90 = v43 + 1448u * 1u;
-    v91 = load64(v90);
-    v92 = v91 == 0u;
-    if (v92) { goto L16; }
+    v91 = v42 + 1456u * 1u;
+    if (v90) { goto L16; }
     else { goto L15; }
 L15:;
-    v93 = v43 + 1440u * 1u;
-    memory_set(v93, 0u, v91);
-    store64(v90, 0u);
+    v92 = v42 + 1440u * 1u;
+    memory_set(v92, 0u, v89);
+    store64(v88, 0u);
     goto L16;
 L16:;
-    v94 = v43 + 2096u * 1u;
-    v95 = load64(v94);
-    v96 = v95 == 0u;
-    if (v96) { goto L22; }
+    v93 = v42 + 2096u * 1u;
+    v94 = load64(v93);
+    v95 = v94 == 0u;
+    if (v95) { goto L21; }
     else { goto L17; }
 L17:;
-    memory_set(v89, 0u, v95);
-    store64(v94, 0u);
-    goto L22;
+    memory_set(v91, 0u, v94);
+    store64(v93, 0u);
+    goto L21;
 L18:;
-    v97 = v43 + 1448u * 1u;
-    v98 = load64(v97);
-    v99 = v98 == 0u;
-    if (v99) { goto L20; }
+    v96 = v42 + 1488u * 1u;
+    if (v90) { goto L20; }
     else { goto L19; }
 L19:;
-    store64(v97, 0u);
+    store64(v88, 0u);
     goto L20;
 L20:;
-    v100 = v43 + 1472u * 1u;
-    v101 = load64(v100);
-    v102 = v101 == 0u;
-    if (v102) { goto L22; }
-    else { goto L21; }
+    store64(v96, 0u);
+    goto L21;
 L21:;
-    store64(v100, 0u);
-    goto L22;
+    if (v72) { goto L58; }
+    else { goto L22; }
 L22:;
-    if (v73) { goto L59; }
-    else { goto L23; }
-L23:;
-    v103 = v23 + 2u * 1u;
-    v104 = v23 + 3u * 1u;
-    v105 = v23 + 4u * 1u;
-    v106 = v23 + 12u * 1u;
-    v107 = v23 + 14u * 1u;
-    v108 = v23 + 16u * 1u;
-    v109 = v23 + 24u * 1u;
-    v110 = v23 + 26u * 1u;
-    v111 = v23 + 27u * 1u;
-    v112 = v23 + 28u * 1u;
-    v113 = v23 + 32u * 1u;
-    v114 = v23 + 33u * 1u;
-    v115 = v23 + 34u * 1u;
-    v116 = v23 + 36u * 1u;
-    v117 = v23 + 38u * 1u;
-    v118 = v23 + 40u * 1u;
-    v119 = v23 + 48u * 1u;
-    v120 = v43 + 1440u * 1u;
-    v121 = v43 + 1464u * 1u;
-    v122 = v43 + 1448u * 1u;
-    v123 = v43 + 1456u * 1u;
-    v124 = v43 + 2096u * 1u;
-    v125 = (u64)v105;
-    v126 = (u64)v108;
-    v127 = v84 > 2u;
-    v128 = v127 ? 4u : 2u;
-    v129 = (u8)(v79);
-    v130 = (u64)((u64)v79 >> (8u & 63u));
+    v97 = v22 + 2u * 1u;
+    v98 = v22 + 3u * 1u;
+    v99 = v22 + 4u * 1u;
+    v100 = v22 + 12u * 1u;
+    v101 = v22 + 14u * 1u;
+    v102 = v22 + 16u * 1u;
+    v103 = v22 + 24u * 1u;
+    v104 = v22 + 26u * 1u;
+    v105 = v22 + 27u * 1u;
+    v106 = v22 + 28u * 1u;
+    v107 = v22 + 32u * 1u;
+    v108 = v22 + 33u * 1u;
+    v109 = v22 + 34u * 1u;
+    v110 = v22 + 36u * 1u;
+    v111 = v22 + 38u * 1u;
+    v112 = v22 + 40u * 1u;
+    v113 = v22 + 48u * 1u;
+    v114 = v42 + 1440u * 1u;
+    v115 = v42 + 1464u * 1u;
+    v116 = v42 + 1488u * 1u;
+    v117 = v42 + 1456u * 1u;
+    v118 = v42 + 2096u * 1u;
+    v119 = (u64)v99;
+    v120 = (u64)v102;
+    v121 = v83 > 2u;
+    v122 = v121 ? 4u : 2u;
+    v123 = (u8)(v78);
+    v124 = (u64)((u64)v78 >> (8u & 63u));
+    v125 = (u8)(v124);
+    v126 = (u64)((u64)v78 >> (16u & 63u));
+    v127 = (u8)(v126);
+    v128 = (u64)((u64)v78 >> (24u & 63u));
+    v129 = (u8)(v128);
+    v130 = (u64)((u64)v78 >> (32u & 63u));
     v131 = (u8)(v130);
-    v132 = (u64)((u64)v79 >> (16u & 63u));
+    v132 = (u64)((u64)v78 >> (40u & 63u));
     v133 = (u8)(v132);
-    v134 = (u64)((u64)v79 >> (24u & 63u));
+    v134 = (u64)((u64)v78 >> (48u & 63u));
     v135 = (u8)(v134);
-    v136 = (u64)((u64)v79 >> (32u & 63u));
+    v136 = (u64)((u64)v78 >> (56u & 63u));
     v137 = (u8)(v136);
-    v138 = (u64)((u64)v79 >> (40u & 63u));
-    v139 = (u8)(v138);
-    v140 = (u64)((u64)v79 >> (48u & 63u));
-    v141 = (u8)(v140);
-    v142 = (u64)((u64)v79 >> (56u & 63u));
-    v143 = (u8)(v142);
-    v144 = (u8)(v81);
-    v145 = (u64)((u64)v81 >> (8u & 63u));
+    v138 = (u8)(v80);
+    v139 = (u64)((u64)v80 >> (8u & 63u));
+    v140 = (u8)(v139);
+    v141 = (u64)((u64)v80 >> (16u & 63u));
+    v142 = (u8)(v141);
+    v143 = (u64)((u64)v80 >> (24u & 63u));
+    v144 = (u8)(v143);
+    v145 = (u64)((u64)v80 >> (32u & 63u));
     v146 = (u8)(v145);
-    v147 = (u64)((u64)v81 >> (16u & 63u));
+    v147 = (u64)((u64)v80 >> (40u & 63u));
     v148 = (u8)(v147);
-    v149 = (u64)((u64)v81 >> (24u & 63u));
+    v149 = (u64)((u64)v80 >> (48u & 63u));
     v150 = (u8)(v149);
-    v151 = (u64)((u64)v81 >> (32u & 63u));
+    v151 = (u64)((u64)v80 >> (56u & 63u));
     v152 = (u8)(v151);
-    v153 = (u64)((u64)v81 >> (40u & 63u));
-    v154 = (u8)(v153);
-    v155 = (u64)((u64)v81 >> (48u & 63u));
-    v156 = (u8)(v155);
-    v157 = (u64)((u64)v81 >> (56u & 63u));
-    v158 = (u8)(v157);
-    v159 = swap16(a2);
-    v160 = swap16(v83);
-    v161 = (u32)v128;
-    v162 = (u32)((u32)v161 << (16u & 31u));
-    v11 = 0u; goto L24;
-L24:;
-    v163 = (u64)((u64)v11 * (u64)160u);
-    v164 = a4 + v163 * 1u;
+    v153 = swap16(a2);
+    v154 = swap16(v82);
+    v155 = (u32)v122;
+    v156 = (u32)((u32)v155 << (16u & 31u));
+    v11 = 0u; goto L23;
+L23:;
+    v157 = (u64)((u64)v11 * (u64)160u);
+    v158 = a4 + v157 * 1u;
+    v159 = load8(v158);
+    v160 = v158 + 2u * 1u;
+    v161 = load16(v160);
+    v162 = v159 == 1u;
+    v163 = v162 ? v161 : 0u;
+    v164 = v158 + 8u * 1u;
     v165 = load8(v164);
-    v166 = v164 + 2u * 1u;
-    v167 = load16(v166);
-    v168 = v165 == 1u;
-    v169 = v168 ? v167 : 0u;
-    v170 = v164 + 8u * 1u;
-    v171 = load8(v170);
-    switch (v171) {
-    case 0u: goto L25;
-    case 1u: v12 = 0u; v13 = v171; v14 = v85; v15 = 0u; v16 = ADDRESS(c148); v17 = 0u; goto L35;
-    case 2u: goto L26;
-    default: goto L34;
-    }
-L25:;
-    v172 = v164 + 16u * 1u;
-    v173 = v164 + 152u * 1u;
-    v174 = load64(v173);
-    v12 = 0u; v13 = 1u; v14 = v85; v15 = 0u; v16 = v172; v17 = v174; goto L35;
-L26:;
-    v175 = v164 + 9u * 1u;
-    v176 = load8(v175);
-    switch (v176) {
-    case 0u: v12 = 1u; v13 = 2u; v14 = 1u; v15 = v85; v16 = ADDRESS(c148); v17 = 0u; goto L35;
-    case 1u: goto L27;
-    case 2u: goto L28;
-    case 3u: goto L29;
-    case 4u: goto L30;
-    case 5u: goto L31;
-    case 6u: goto L32;
+    switch (v165) {
+    case 0u: goto L24;
+    case 1u: v12 = 0u; v13 = v165; v14 = v84; v15 = 0u; v16 = ADDRESS(c148); v17 = 0u; goto L34;
+    case 2u: goto L25;
     default: goto L33;
     }
+L24:;
+    v166 = v158 + 16u * 1u;
+    v167 = v158 + 152u * 1u;
+    v168 = load64(v167);
+    v12 = 0u; v13 = 1u; v14 = v84; v15 = 0u; v16 = v166; v17 = v168; goto L34;
+L25:;
+    v169 = v158 + 9u * 1u;
+    v170 = load8(v169);
+    switch (v170) {
+    case 0u: v12 = 1u; v13 = 2u; v14 = 1u; v15 = v84; v16 = ADDRESS(c148); v17 = 0u; goto L34;
+    case 1u: goto L26;
+    case 2u: goto L27;
+    case 3u: goto L28;
+    case 4u: goto L29;
+    case 5u: goto L30;
+    case 6u: goto L31;
+    default: goto L32;
+    }
+L26:;
+    v12 = 1u; v13 = 2u; v14 = 2u; v15 = v84; v16 = ADDRESS(c148); v17 = 0u; goto L34;
 L27:;
-    v12 = 1u; v13 = 2u; v14 = 2u; v15 = v85; v16 = ADDRESS(c148); v17 = 0u; goto L35;
+    v12 = 1u; v13 = 2u; v14 = 3u; v15 = v84; v16 = ADDRESS(c148); v17 = 0u; goto L34;
 L28:;
-    v12 = 1u; v13 = 2u; v14 = 3u; v15 = v85; v16 = ADDRESS(c148); v17 = 0u; goto L35;
+    v12 = 1u; v13 = 2u; v14 = 4u; v15 = v84; v16 = ADDRESS(c148); v17 = 0u; goto L34;
 L29:;
-    v12 = 1u; v13 = 2u; v14 = 4u; v15 = v85; v16 = ADDRESS(c148); v17 = 0u; goto L35;
+    v12 = 1u; v13 = 2u; v14 = 5u; v15 = v84; v16 = ADDRESS(c148); v17 = 0u; goto L34;
 L30:;
-    v12 = 1u; v13 = 2u; v14 = 5u; v15 = v85; v16 = ADDRESS(c148); v17 = 0u; goto L35;
+    v12 = 1u; v13 = 2u; v14 = 6u; v15 = v84; v16 = ADDRESS(c148); v17 = 0u; goto L34;
 L31:;
-    v12 = 1u; v13 = 2u; v14 = 6u; v15 = v85; v16 = ADDRESS(c148); v17 = 0u; goto L35;
+    v12 = 1u; v13 = 2u; v14 = 65534u; v15 = v84; v16 = ADDRESS(c148); v17 = 0u; goto L34;
 L32:;
-    v12 = 1u; v13 = 2u; v14 = 65534u; v15 = v85; v16 = ADDRESS(c148); v17 = 0u; goto L35;
+    UNREACHABLE;
 L33:;
     UNREACHABLE;
 L34:;
-    UNREACHABLE;
-L35:;
-    store16(v23, 0u);
-    store8(v103, 0u);
+    store16(v22, 0u);
+    store8(v97, 0u);
+    store8(v98, 0u);
+    store64(v99, v78);
+    store16(v100, v163);
+    store16(v101, a2);
+    store64(v102, v80);
+    store16(v103, v82);
     store8(v104, 0u);
-    store64(v105, v79);
-    store16(v106, v169);
-    store16(v107, a2);
-    store64(v108, v81);
-    store16(v109, v83);
-    store8(v110, 0u);
-    store8(v111, 0u);
-    store32(v112, 0u);
-    store8(v113, v13);
-    store8(v114, v128);
-    store16(v115, v14);
-    store16(v116, v15);
-    store16(v117, 0u);
-    store_address(v118, v16);
-    store64(v119, v17);
-    v177 = load8(v86);
-    v178 = v177 == 0u;
-    if (v178) { goto L36; }
-    else { goto L57; }
+    store8(v105, 0u);
+    store32(v106, 0u);
+    store8(v107, v13);
+    store8(v108, v122);
+    store16(v109, v14);
+    store16(v110, v15);
+    store16(v111, 0u);
+    store_address(v112, v16);
+    store64(v113, v17);
+    v171 = load8(v85);
+    v172 = v171 == 0u;
+    if (v172) { goto L35; }
+    else { goto L56; }
+L35:;
+    v173 = load64(v118);
+    if (v12) { goto L36; }
+    else { goto L37; }
 L36:;
-    v179 = load64(v124);
-    if (v12) { goto L37; }
-    else { goto L38; }
+    v174 = v17 == 0u;
+    v175 = (u64)((u64)v17 & (u64)1u);
+    v176 = (u64)((u64)v175 ^ (u64)1u);
+    v177 = (u64)((u64)v17 + (u64)13u);
+    v178 = (u64)((u64)v177 + (u64)v176);
+    v179 = v174 ? 12u : v178;
+    v18 = v179; goto L38;
 L37:;
-    v180 = v17 == 0u;
-    v181 = (u64)((u64)v17 & (u64)1u);
-    v182 = (u64)((u64)v181 ^ (u64)1u);
-    v183 = (u64)((u64)v17 + (u64)13u);
-    v184 = (u64)((u64)v183 + (u64)v182);
-    v185 = v180 ? 12u : v184;
-    v18 = v185; goto L39;
+    v180 = (u64)((u64)v17 + (u64)6u);
+    v18 = v180; goto L38;
 L38:;
-    v186 = (u64)((u64)v17 + (u64)6u);
-    v18 = v186; goto L39;
+    v181 = (u64)((u64)v18 + (u64)48u);
+    v182 = (u64)((u64)640u - (u64)v173);
+    v183 = v182 < v181;
+    if (v183) { v20 = v173; goto L43; }
+    else { goto L39; }
 L39:;
-    v187 = (u64)((u64)v18 + (u64)48u);
-    v188 = (u64)((u64)640u - (u64)v179);
-    v189 = v188 < v187;
-    if (v189) { v20 = v179; goto L44; }
+    v184 = v117 + v173 * 1u;
+    v185 = (u64)v184;
+    v186 = (u64)((u64)v185 - (u64)(ADDRESS(c146) + 8u * 1u));
+    v187 = v186 < v181;
+    if (v187) { v19 = 0u; goto L41; }
     else { goto L40; }
 L40:;
-    v190 = v123 + v179 * 1u;
-    v191 = (u64)v190;
-    v192 = (u64)((u64)v191 - (u64)(ADDRESS(c146) + 8u * 1u));
-    v193 = v192 < v187;
-    if (v193) { v19 = 0u; goto L42; }
-    else { goto L41; }
+    memory_cpy(v184, (ADDRESS(c146) + 8u * 1u), v181);
+    goto L42;
 L41:;
-    memory_cpy(v190, (ADDRESS(c146) + 8u * 1u), v187);
-    goto L43;
+    v188 = v184 + v19 * 1u;
+    v189 = (ADDRESS(c146) + 8u * 1u) + v19 * 1u;
+    v190 = load8(v189);
+    store8(v188, v190);
+    v191 = (u64)((u64)v19 + (u64)1u);
+    v192 = v191 == v181;
+    if (v192) { goto L42; }
+    else { v19 = v191; goto L41; }
 L42:;
-    v194 = v190 + v19 * 1u;
-    v195 = (ADDRESS(c146) + 8u * 1u) + v19 * 1u;
-    v196 = load8(v195);
-    store8(v194, v196);
-    v197 = (u64)((u64)v19 + (u64)1u);
-    v198 = v197 == v187;
-    if (v198) { goto L43; }
-    else { v19 = v197; goto L42; }
+    v193 = (u64)((u64)v181 + (u64)v173);
+    store64(v118, v193);
+    v20 = v193; goto L43;
 L43:;
-    v199 = (u64)((u64)v187 + (u64)v179);
-    store64(v124, v199);
-    v20 = v199; goto L44;
+    v194 = v117 + v173 * 1u;
+    v195 = (u64)((u64)v20 - (u64)v173);
+    v196 = v194 + 48u * 1u;
+    v197 = (u64)((u64)v195 + (u64)UINT64_C(18446744073709551568));
+    v198 = v194 + 6u * 1u;
+    memory_set(v198, 0u, 42u);
+    store16(v194, 4621u);
+    v199 = (u16)(v195);
+    v200 = swap16(v199);
+    v201 = v194 + 2u * 1u;
+    store16(v201, v200);
+    v202 = v194 + 4u * 1u;
+    store16(v202, 0u);
+    v203 = v194 + 20u * 1u;
+    v204 = (u64)v203;
+    v205 = (u64)((u64)v204 - (u64)v119);
+    v206 = v205 < 8u;
+    if (v206) { goto L44; }
+    else { goto L45; }
 L44:;
-    v200 = v123 + v179 * 1u;
-    v201 = (u64)((u64)v20 - (u64)v179);
-    v202 = v200 + 48u * 1u;
-    v203 = (u64)((u64)v201 + (u64)UINT64_C(18446744073709551568));
-    v204 = v200 + 6u * 1u;
-    memory_set(v204, 0u, 42u);
-    store16(v200, 4621u);
-    v205 = (u16)(v201);
-    v206 = swap16(v205);
-    v207 = v200 + 2u * 1u;
-    store16(v207, v206);
-    v208 = v200 + 4u * 1u;
-    store16(v208, 0u);
-    v209 = v200 + 20u * 1u;
-    v210 = (u64)v209;
-    v211 = (u64)((u64)v210 - (u64)v125);
-    v212 = v211 < 8u;
-    if (v212) { goto L45; }
-    else { goto L46; }
-L45:;
+    store8(v203, v123);
+    v207 = v194 + 21u * 1u;
+    store8(v207, v125);
+    v208 = v194 + 22u * 1u;
+    store8(v208, v127);
+    v209 = v194 + 23u * 1u;
     store8(v209, v129);
-    v213 = v200 + 21u * 1u;
-    store8(v213, v131);
-    v214 = v200 + 22u * 1u;
-    store8(v214, v133);
-    v215 = v200 + 23u * 1u;
-    store8(v215, v135);
-    v216 = v200 + 24u * 1u;
-    store8(v216, v137);
-    v217 = v200 + 25u * 1u;
-    store8(v217, v139);
-    v218 = v200 + 26u * 1u;
-    store8(v218, v141);
-    v219 = v200 + 27u * 1u;
-    store8(v219, v143);
-    goto L47;
+    v210 = v194 + 24u * 1u;
+    store8(v210, v131);
+    v211 = v194 + 25u * 1u;
+    store8(v211, v133);
+    v212 = v194 + 26u * 1u;
+    store8(v212, v135);
+    v213 = v194 + 27u * 1u;
+    store8(v213, v137);
+    goto L46;
+L45:;
+    store64(v203, v78);
+    goto L46;
 L46:;
-    store64(v209, v79);
-    goto L47;
+    v214 = swap16(v163);
+    v215 = v194 + 28u * 1u;
+    store16(v215, v214);
+    v216 = v194 + 30u * 1u;
+    store16(v216, v153);
+    v217 = v194 + 32u * 1u;
+    store16(v217, 32516u);
+    v218 = v194 + 34u * 1u;
+    v219 = (u64)v218;
+    v220 = (u64)((u64)v219 - (u64)v120);
+    v221 = v220 < 8u;
+    if (v221) { goto L47; }
+    else { goto L48; }
 L47:;
-    v220 = swap16(v169);
-    v221 = v200 + 28u * 1u;
-    store16(v221, v220);
-    v222 = v200 + 30u * 1u;
-    store16(v222, v159);
-    v223 = v200 + 32u * 1u;
-    store16(v223, 32516u);
-    v224 = v200 + 34u * 1u;
-    v225 = (u64)v224;
-    v226 = (u64)((u64)v225 - (u64)v126);
-    v227 = v226 < 8u;
-    if (v227) { goto L48; }
-    else { goto L49; }
-L48:;
+    store8(v218, v138);
+    v222 = v194 + 35u * 1u;
+    store8(v222, v140);
+    v223 = v194 + 36u * 1u;
+    store8(v223, v142);
+    v224 = v194 + 37u * 1u;
     store8(v224, v144);
-    v228 = v200 + 35u * 1u;
-    store8(v228, v146);
-    v229 = v200 + 36u * 1u;
-    store8(v229, v148);
-    v230 = v200 + 37u * 1u;
-    store8(v230, v150);
-    v231 = v200 + 38u * 1u;
-    store8(v231, v152);
-    v232 = v200 + 39u * 1u;
-    store8(v232, v154);
-    v233 = v200 + 40u * 1u;
-    store8(v233, v156);
-    v234 = v200 + 41u * 1u;
-    store8(v234, v158);
-    goto L50;
+    v225 = v194 + 38u * 1u;
+    store8(v225, v146);
+    v226 = v194 + 39u * 1u;
+    store8(v226, v148);
+    v227 = v194 + 40u * 1u;
+    store8(v227, v150);
+    v228 = v194 + 41u * 1u;
+    store8(v228, v152);
+    goto L49;
+L48:;
+    store64(v218, v80);
+    goto L49;
 L49:;
-    store64(v224, v81);
-    goto L50;
+    v229 = v194 + 42u * 1u;
+    store16(v229, v154);
+    v230 = v194 + 44u * 1u;
+    store32(v230, v156);
+    if (v12) { goto L50; }
+    else { goto L51; }
 L50:;
-    v235 = v200 + 42u * 1u;
-    store16(v235, v160);
-    v236 = v200 + 44u * 1u;
-    store32(v236, v162);
-    if (v12) { goto L51; }
-    else { goto L52; }
+    f5(v196, v197, v14, v15, v16, v17);
+    goto L55;
 L51:;
-    f5(v202, v203, v14, v15, v16, v17);
-    goto L56;
+    v231 = v194 + 54u * 1u;
+    v232 = (u16)(v17);
+    store16(v196, 256u);
+    v233 = (u16)((u32)v232 + (u32)2u);
+    v234 = swap16(v233);
+    v235 = v194 + 50u * 1u;
+    store16(v235, v234);
+    v236 = swap16(v14);
+    v237 = v194 + 52u * 1u;
+    store16(v237, v236);
+    v238 = v17 == 0u;
+    if (v238) { goto L55; }
+    else { goto L52; }
 L52:;
-    v237 = v200 + 54u * 1u;
-    v238 = (u16)(v17);
-    store16(v202, 256u);
-    v239 = (u16)((u32)v238 + (u32)2u);
-    v240 = swap16(v239);
-    v241 = v200 + 50u * 1u;
-    store16(v241, v240);
-    v242 = swap16(v14);
-    v243 = v200 + 52u * 1u;
-    store16(v243, v242);
-    v244 = v17 == 0u;
-    if (v244) { goto L56; }
+    v239 = (u64)v231;
+    v240 = (u64)v16;
+    v241 = (u64)((u64)v239 - (u64)v240);
+    v242 = v241 < v17;
+    if (v242) { v21 = 0u; goto L54; }
     else { goto L53; }
 L53:;
-    v245 = (u64)v237;
-    v246 = (u64)v16;
-    v247 = (u64)((u64)v245 - (u64)v246);
-    v248 = v247 < v17;
-    if (v248) { v21 = 0u; goto L55; }
-    else { goto L54; }
+    memory_move(v231, v16, v17);
+    goto L55;
 L54:;
-    memory_move(v237, v16, v17);
-    goto L56;
+    v243 = v231 + v21 * 1u;
+    v244 = v16 + v21 * 1u;
+    v245 = load8(v244);
+    store8(v243, v245);
+    v246 = (u64)((u64)v21 + (u64)1u);
+    v247 = v246 == v17;
+    if (v247) { goto L55; }
+    else { v21 = v246; goto L54; }
 L55:;
-    v249 = v237 + v21 * 1u;
-    v250 = v16 + v21 * 1u;
-    v251 = load8(v250);
-    store8(v249, v251);
-    v252 = (u64)((u64)v21 + (u64)1u);
-    v253 = v252 == v17;
-    if (v253) { goto L56; }
-    else { v21 = v252; goto L55; }
+    v248 = (u8)(v181);
+    v249 = load64(v88);
+    v250 = v114 + v249 * 1u;
+    store8(v250, v248);
+    v251 = (u64)((u64)v249 + (u64)1u);
+    store64(v88, v251);
+    goto L57;
 L56:;
-    v254 = (u8)(v187);
-    v255 = load64(v122);
-    v256 = v120 + v255 * 1u;
-    store8(v256, v254);
-    v22 = v255; goto L58;
+    v252 = load_address(v115);
+    v253 = load64(v116);
+    v254 = f68(v22, v252, v253);
+    v255 = (u8)(v254);
+    v256 = load64(v88);
+    v257 = load_address(v114);
+    v258 = v257 + v256 * 1u;
+    store8(v258, v255);
+    v259 = (u64)((u64)v256 + (u64)1u);
+    store64(v88, v259);
+    v260 = load64(v116);
+    v261 = (u64)((u64)v260 + (u64)v254);
+    store64(v116, v261);
+    goto L57;
 L57:;
-    v257 = f70(v23, v121);
-    v258 = (u8)(v257);
-    v259 = load64(v122);
-    v260 = load_address(v120);
-    v261 = v260 + v259 * 1u;
-    store8(v261, v258);
-    v22 = v259; goto L58;
+    v262 = (u64)((u64)v11 + (u64)1u);
+    v263 = v262 == a5;
+    if (v263) { goto L58; }
+    else { v11 = v262; goto L23; }
 L58:;
-    v262 = (u64)((u64)v22 + (u64)1u);
-    store64(v122, v262);
-    v263 = (u64)((u64)v11 + (u64)1u);
-    v264 = v263 == a5;
-    if (v264) { goto L59; }
-    else { v11 = v263; goto L24; }
+    goto L59;
 L59:;
-    goto L60;
-L60:;
     return;
 }
 
-static u64 f70(address a0, address a1) {
-    u64 v2, v3, v10, v12, v13, v14, v15, v16, v17, v18, v21, v38, v39, v40, v64, v76;
-    u64 v77, v78, v102, v138;
-    address v4, v5, v6, v9, v20, v22, v29, v30, v32, v36, v37, v43, v44, v46, v47, v49;
-    address v50, v52, v53, v55, v56, v58, v59, v61, v62, v65, v68, v69, v72, v73, v74, v75;
-    address v81, v82, v84, v85, v87, v88, v90, v91, v93, v94, v96, v97, v99, v100, v103, v106;
-    address v107, v109, v111, v113, v121, v122, v123, v126, v127, v129, v133, v135, v137;
-    u8 v7, v8, v11, v19, v31, v41, v42, v45, v48, v51, v54, v57, v60, v63, v79, v80;
-    u8 v83, v86, v89, v92, v95, v98, v101, v108, v110, v112, v136;
-    u16 v23, v24, v25, v26, v27, v28, v33, v34, v35, v66, v67, v70, v71, v104, v105, v124;
-    u16 v125, v128, v130, v131, v132, v134;
-    u32 v114, v115, v116, v117, v118, v119, v120;
+static u64 f68(address a0, address a1, u64 a2) {
+    u64 v3, v4, v11, v13, v14, v15, v16, v17, v18, v19, v22, v39, v40, v41, v65, v77;
+    u64 v78, v79, v103, v139;
+    address v5, v6, v7, v10, v21, v23, v30, v31, v33, v37, v38, v44, v45, v47, v48, v50;
+    address v51, v53, v54, v56, v57, v59, v60, v62, v63, v66, v69, v70, v73, v74, v75, v76;
+    address v82, v83, v85, v86, v88, v89, v91, v92, v94, v95, v97, v98, v100, v101, v104, v107;
+    address v108, v110, v112, v114, v122, v123, v124, v127, v128, v130, v134, v136, v138, v140;
+    u8 v8, v9, v12, v20, v32, v42, v43, v46, v49, v52, v55, v58, v61, v64, v80, v81;
+    u8 v84, v87, v90, v93, v96, v99, v102, v109, v111, v113, v137;
+    u16 v24, v25, v26, v27, v28, v29, v34, v35, v36, v67, v68, v71, v72, v105, v106, v125;
+    u16 v126, v129, v131, v132, v133, v135;
+    u32 v115, v116, v117, v118, v119, v120, v121;
     u64 block0[24];
-    v4 = ADDRESS(block0);
-    memory_set(v4, 0u, 192u);
-    v5 = v4 + 184u * 1u;
-    v6 = a0 + 32u * 1u;
-    v7 = load8(v6);
-    v8 = v7 == 2u;
-    v9 = a0 + 48u * 1u;
-    v10 = load64(v9);
-    if (v8) { goto L1; }
+    v5 = ADDRESS(block0);
+    memory_set(v5, 0u, 192u);
+    v6 = v5 + 184u * 1u;
+    v7 = a0 + 32u * 1u;
+    v8 = load8(v7);
+    v9 = v8 == 2u;
+    v10 = a0 + 48u * 1u;
+    v11 = load64(v10);
+    if (v9) { goto L1; }
     else { goto L2; }
 L1:;
-    v11 = v10 == 0u;
-    v12 = (u64)((u64)v10 & (u64)1u);
-    v13 = (u64)((u64)v12 ^ (u64)1u);
-    v14 = (u64)((u64)v10 + (u64)13u);
-    v15 = (u64)((u64)v14 + (u64)v13);
-    v16 = v11 ? 12u : v15;
-    v2 = v16; goto L3;
+    v12 = v11 == 0u;
+    v13 = (u64)((u64)v11 & (u64)1u);
+    v14 = (u64)((u64)v13 ^ (u64)1u);
+    v15 = (u64)((u64)v11 + (u64)13u);
+    v16 = (u64)((u64)v15 + (u64)v14);
+    v17 = v12 ? 12u : v16;
+    v3 = v17; goto L3;
 L2:;
-    v17 = (u64)((u64)v10 + (u64)6u);
-    v2 = v17; goto L3;
+    v18 = (u64)((u64)v11 + (u64)6u);
+    v3 = v18; goto L3;
 L3:;
-    v18 = (u64)((u64)v2 + (u64)48u);
-    v19 = v18 > 184u;
-    if (v19) { v3 = 0u; goto L5; }
+    v19 = (u64)((u64)v3 + (u64)48u);
+    v20 = v19 > 184u;
+    if (v20) { v4 = 0u; goto L5; }
     else { goto L4; }
 L4:;
-    memory_cpy(v4, (ADDRESS(c146) + 8u * 1u), v18);
-    store64(v5, v18);
-    v3 = v18; goto L5;
+    memory_cpy(v5, (ADDRESS(c146) + 8u * 1u), v19);
+    store64(v6, v19);
+    v4 = v19; goto L5;
 L5:;
-    v20 = v4 + 48u * 1u;
-    v21 = (u64)((u64)v3 + (u64)UINT64_C(18446744073709551568));
-    v22 = v4 + 6u * 1u;
-    memory_set(v22, 0u, 42u);
-    v23 = load16(a0);
-    v24 = (u16)((u32)v23 >> (4u & 15u));
-    v25 = (u16)((u32)v24 & (u32)240u);
-    v26 = (u16)((u32)v25 | (u32)4621u);
-    store16(v4, v26);
-    v27 = (u16)(v3);
-    v28 = (u16)((u32)v27 << (8u & 15u));
-    v29 = v4 + 2u * 1u;
-    store16(v29, v28);
-    v30 = a0 + 2u * 1u;
-    v31 = load8(v30);
-    v32 = v4 + 4u * 1u;
-    v33 = (u16)((u32)v23 << (8u & 15u));
-    v34 = (u16)v31;
-    v35 = (u16)((u32)v33 | (u32)v34);
-    store16(v32, v35);
-    v36 = a0 + 4u * 1u;
-    v37 = v4 + 20u * 1u;
-    v38 = (u64)v37;
-    v39 = (u64)v36;
-    v40 = (u64)((u64)v38 - (u64)v39);
-    v41 = v40 < 8u;
-    if (v41) { goto L6; }
+    v21 = v5 + 48u * 1u;
+    v22 = (u64)((u64)v4 + (u64)UINT64_C(18446744073709551568));
+    v23 = v5 + 6u * 1u;
+    memory_set(v23, 0u, 42u);
+    v24 = load16(a0);
+    v25 = (u16)((u32)v24 >> (4u & 15u));
+    v26 = (u16)((u32)v25 & (u32)240u);
+    v27 = (u16)((u32)v26 | (u32)4621u);
+    store16(v5, v27);
+    v28 = (u16)(v4);
+    v29 = (u16)((u32)v28 << (8u & 15u));
+    v30 = v5 + 2u * 1u;
+    store16(v30, v29);
+    v31 = a0 + 2u * 1u;
+    v32 = load8(v31);
+    v33 = v5 + 4u * 1u;
+    v34 = (u16)((u32)v24 << (8u & 15u));
+    v35 = (u16)v32;
+    v36 = (u16)((u32)v34 | (u32)v35);
+    store16(v33, v36);
+    v37 = a0 + 4u * 1u;
+    v38 = v5 + 20u * 1u;
+    v39 = (u64)v38;
+    v40 = (u64)v37;
+    v41 = (u64)((u64)v39 - (u64)v40);
+    v42 = v41 < 8u;
+    if (v42) { goto L6; }
     else { goto L7; }
 L6:;
-    v42 = load8(v36);
-    store8(v37, v42);
-    v43 = v4 + 21u * 1u;
-    v44 = a0 + 5u * 1u;
-    v45 = load8(v44);
-    store8(v43, v45);
-    v46 = v4 + 22u * 1u;
-    v47 = a0 + 6u * 1u;
-    v48 = load8(v47);
-    store8(v46, v48);
-    v49 = v4 + 23u * 1u;
-    v50 = a0 + 7u * 1u;
-    v51 = load8(v50);
-    store8(v49, v51);
-    v52 = v4 + 24u * 1u;
-    v53 = a0 + 8u * 1u;
-    v54 = load8(v53);
-    store8(v52, v54);
-    v55 = v4 + 25u * 1u;
-    v56 = a0 + 9u * 1u;
-    v57 = load8(v56);
-    store8(v55, v57);
-    v58 = v4 + 26u * 1u;
-    v59 = a0 + 10u * 1u;
-    v60 = load8(v59);
-    store8(v58, v60);
-    v61 = v4 + 27u * 1u;
-    v62 = a0 + 11u * 1u;
-    v63 = load8(v62);
-    store8(v61, v63);
+    v43 = load8(v37);
+    store8(v38, v43);
+    v44 = v5 + 21u * 1u;
+    v45 = a0 + 5u * 1u;
+    v46 = load8(v45);
+    store8(v44, v46);
+    v47 = v5 + 22u * 1u;
+    v48 = a0 + 6u * 1u;
+    v49 = load8(v48);
+    store8(v47, v49);
+    v50 = v5 + 23u * 1u;
+    v51 = a0 + 7u * 1u;
+    v52 = load8(v51);
+    store8(v50, v52);
+    v53 = v5 + 24u * 1u;
+    v54 = a0 + 8u * 1u;
+    v55 = load8(v54);
+    store8(v53, v55);
+    v56 = v5 + 25u * 1u;
+    v57 = a0 + 9u * 1u;
+    v58 = load8(v57);
+    store8(v56, v58);
+    v59 = v5 + 26u * 1u;
+    v60 = a0 + 10u * 1u;
+    v61 = load8(v60);
+    store8(v59, v61);
+    v62 = v5 + 27u * 1u;
+    v63 = a0 + 11u * 1u;
+    v64 = load8(v63);
+    store8(v62, v64);
     goto L8;
 L7:;
-    v64 = load64(v36);
-    store64(v37, v64);
+    v65 = load64(v37);
+    store64(v38, v65);
     goto L8;
 L8:;
-    v65 = a0 + 12u * 1u;
-    v66 = load16(v65);
-    v67 = swap16(v66);
-    v68 = v4 + 28u * 1u;
-    store16(v68, v67);
-    v69 = a0 + 14u * 1u;
-    v70 = load16(v69);
-    v71 = swap16(v70);
-    v72 = v4 + 30u * 1u;
-    store16(v72, v71);
-    v73 = v4 + 32u * 1u;
-    store16(v73, 32516u);
-    v74 = a0 + 16u * 1u;
-    v75 = v4 + 34u * 1u;
-    v76 = (u64)v75;
-    v77 = (u64)v74;
-    v78 = (u64)((u64)v76 - (u64)v77);
-    v79 = v78 < 8u;
-    if (v79) { goto L9; }
+    v66 = a0 + 12u * 1u;
+    v67 = load16(v66);
+    v68 = swap16(v67);
+    v69 = v5 + 28u * 1u;
+    store16(v69, v68);
+    v70 = a0 + 14u * 1u;
+    v71 = load16(v70);
+    v72 = swap16(v71);
+    v73 = v5 + 30u * 1u;
+    store16(v73, v72);
+    v74 = v5 + 32u * 1u;
+    store16(v74, 32516u);
+    v75 = a0 + 16u * 1u;
+    v76 = v5 + 34u * 1u;
+    v77 = (u64)v76;
+    v78 = (u64)v75;
+    v79 = (u64)((u64)v77 - (u64)v78);
+    v80 = v79 < 8u;
+    if (v80) { goto L9; }
     else { goto L10; }
 L9:;
-    v80 = load8(v74);
-    store8(v75, v80);
-    v81 = v4 + 35u * 1u;
-    v82 = a0 + 17u * 1u;
-    v83 = load8(v82);
-    store8(v81, v83);
-    v84 = v4 + 36u * 1u;
-    v85 = a0 + 18u * 1u;
-    v86 = load8(v85);
-    store8(v84, v86);
-    v87 = v4 + 37u * 1u;
-    v88 = a0 + 19u * 1u;
-    v89 = load8(v88);
-    store8(v87, v89);
-    v90 = v4 + 38u * 1u;
-    v91 = a0 + 20u * 1u;
-    v92 = load8(v91);
-    store8(v90, v92);
-    v93 = v4 + 39u * 1u;
-    v94 = a0 + 21u * 1u;
-    v95 = load8(v94);
-    store8(v93, v95);
-    v96 = v4 + 40u * 1u;
-    v97 = a0 + 22u * 1u;
-    v98 = load8(v97);
-    store8(v96, v98);
-    v99 = v4 + 41u * 1u;
-    v100 = a0 + 23u * 1u;
-    v101 = load8(v100);
-    store8(v99, v101);
+    v81 = load8(v75);
+    store8(v76, v81);
+    v82 = v5 + 35u * 1u;
+    v83 = a0 + 17u * 1u;
+    v84 = load8(v83);
+    store8(v82, v84);
+    v85 = v5 + 36u * 1u;
+    v86 = a0 + 18u * 1u;
+    v87 = load8(v86);
+    store8(v85, v87);
+    v88 = v5 + 37u * 1u;
+    v89 = a0 + 19u * 1u;
+    v90 = load8(v89);
+    store8(v88, v90);
+    v91 = v5 + 38u * 1u;
+    v92 = a0 + 20u * 1u;
+    v93 = load8(v92);
+    store8(v91, v93);
+    v94 = v5 + 39u * 1u;
+    v95 = a0 + 21u * 1u;
+    v96 = load8(v95);
+    store8(v94, v96);
+    v97 = v5 + 40u * 1u;
+    v98 = a0 + 22u * 1u;
+    v99 = load8(v98);
+    store8(v97, v99);
+    v100 = v5 + 41u * 1u;
+    v101 = a0 + 23u * 1u;
+    v102 = load8(v101);
+    store8(v100, v102);
     goto L11;
 L10:;
-    v102 = load64(v74);
-    store64(v75, v102);
+    v103 = load64(v75);
+    store64(v76, v103);
     goto L11;
 L11:;
-    v103 = a0 + 24u * 1u;
-    v104 = load16(v103);
-    v105 = swap16(v104);
-    v106 = v4 + 42u * 1u;
-    store16(v106, v105);
-    v107 = a0 + 33u * 1u;
-    v108 = load8(v107);
-    v109 = a0 + 26u * 1u;
-    v110 = load8(v109);
-    v111 = a0 + 27u * 1u;
-    v112 = load8(v111);
-    v113 = v4 + 44u * 1u;
-    v114 = (u32)v108;
-    v115 = (u32)((u32)v114 << (16u & 31u));
-    v116 = (u32)v112;
-    v117 = (u32)((u32)v116 << (8u & 31u));
-    v118 = (u32)v110;
-    v119 = (u32)((u32)v115 | (u32)v118);
-    v120 = (u32)((u32)v119 | (u32)v117);
-    store32(v113, v120);
-    v121 = a0 + 34u * 1u;
-    if (v8) { goto L12; }
+    v104 = a0 + 24u * 1u;
+    v105 = load16(v104);
+    v106 = swap16(v105);
+    v107 = v5 + 42u * 1u;
+    store16(v107, v106);
+    v108 = a0 + 33u * 1u;
+    v109 = load8(v108);
+    v110 = a0 + 26u * 1u;
+    v111 = load8(v110);
+    v112 = a0 + 27u * 1u;
+    v113 = load8(v112);
+    v114 = v5 + 44u * 1u;
+    v115 = (u32)v109;
+    v116 = (u32)((u32)v115 << (16u & 31u));
+    v117 = (u32)v113;
+    v118 = (u32)((u32)v117 << (8u & 31u));
+    v119 = (u32)v111;
+    v120 = (u32)((u32)v116 | (u32)v119);
+    v121 = (u32)((u32)v120 | (u32)v118);
+    store32(v114, v121);
+    v122 = a0 + 34u * 1u;
+    if (v9) { goto L12; }
     else { goto L13; }
 L12:;
-    v122 = a0 + 36u * 1u;
-    v123 = a0 + 40u * 1u;
-    v124 = load16(v121);
+    v123 = a0 + 36u * 1u;
+    v124 = a0 + 40u * 1u;
     v125 = load16(v122);
-    v126 = load_address(v123);
-    f5(v20, v21, v124, v125, v126, v10);
+    v126 = load16(v123);
+    v127 = load_address(v124);
+    f5(v21, v22, v125, v126, v127, v11);
     goto L15;
 L13:;
-    v127 = a0 + 40u * 1u;
-    v128 = load16(v121);
-    v129 = load_address(v127);
-    v130 = (u16)(v10);
-    store16(v20, 256u);
-    v131 = (u16)((u32)v130 + (u32)2u);
-    v132 = swap16(v131);
-    v133 = v4 + 50u * 1u;
-    store16(v133, v132);
-    v134 = swap16(v128);
-    v135 = v4 + 52u * 1u;
-    store16(v135, v134);
-    v136 = v10 == 0u;
-    if (v136) { goto L15; }
+    v128 = a0 + 40u * 1u;
+    v129 = load16(v122);
+    v130 = load_address(v128);
+    v131 = (u16)(v11);
+    store16(v21, 256u);
+    v132 = (u16)((u32)v131 + (u32)2u);
+    v133 = swap16(v132);
+    v134 = v5 + 50u * 1u;
+    store16(v134, v133);
+    v135 = swap16(v129);
+    v136 = v5 + 52u * 1u;
+    store16(v136, v135);
+    v137 = v11 == 0u;
+    if (v137) { goto L15; }
     else { goto L14; }
 L14:;
-    v137 = v4 + 54u * 1u;
-    memory_cpy(v137, v129, v10);
+    v138 = v5 + 54u * 1u;
+    memory_cpy(v138, v130, v11);
     goto L15;
 L15:;
-    v138 = load64(v5);
-    f53(a1, v4, v138);
-    return v18;
+    v139 = load64(v6);
+    v140 = a1 + a2 * 1u;
+    switch (v139) {
+    case 54u: goto L16;
+    case 56u: goto L17;
+    case 80u: goto L18;
+    default: goto L19;
+    }
+L16:;
+    memory_cpy(v140, v5, 54u);
+    goto L20;
+L17:;
+    memory_cpy(v140, v5, 56u);
+    goto L20;
+L18:;
+    memory_cpy(v140, v5, 80u);
+    goto L20;
+L19:;
+    f51(v140, v5, v139);
+    goto L20;
+L20:;
+    return v19;
 }
 
-static void f71(address a0, address a1, u64 a2) {
+static void f69(address a0, address a1, u64 a2) {
     u64 v3, v4, v5, v6, v7, v9, v12, v14, v16, v17, v19, v21, v23, v24, v25, v28;
     u64 v29, v32, v41, v42, v43, v44, v46;
     address v8, v11, v13, v18, v20, v27, v30, v31, v33, v34, v36, v39, v40;
@@ -14956,7 +14784,7 @@ L14:;
     return;
 }
 
-static void f72(address a0, address a1, u8 a2, address a3) {
+static void f70(address a0, address a1, u8 a2, address a3) {
     address v4, v27, v28, v29, v30, v31, v33, v34, v35, v36, v37, v38, v39, v40, v50, v51;
     address v52, v78, v79, v80, v82, v83, v85, v86, v90, v92, v93, v96, v97, v98, v103, v104;
     address v106, v107, v108, v109, v112, v113, v114, v119, v120, v124, v126, v127, v130, v132, v133, v135;
@@ -15395,10 +15223,10 @@ L66:;
     store64(v138, v160);
     goto L69;
 L67:;
-    f73(a0, v12, a3);
+    f71(a0, v12, a3);
     goto L69;
 L68:;
-    f74(a0, v29, a1, v26, v25, a3);
+    f72(a0, v29, a1, v26, v25, a3);
     goto L69;
 L69:;
     return;
@@ -15427,7 +15255,7 @@ L70:;
     goto L69;
 }
 
-static void f73(address a0, u8 a1, address a2) {
+static void f71(address a0, u8 a1, address a2) {
     u64 v3, v4, v5, v6, v11, v19, v20, v27, v28, v29, v34, v36, v37, v38, v43, v52;
     u64 v53, v55, v63, v64, v71, v72, v73, v78, v80, v81, v82, v87, v96, v97;
     address v7, v9, v10, v12, v13, v15, v16, v17, v18, v21, v24, v25, v26, v31, v32, v40;
@@ -15593,7 +15421,7 @@ L15:;
     return;
 }
 
-static void f74(address a0, address a1, address a2, u8 a3, u8 a4, address a5) {
+static void f72(address a0, address a1, address a2, u8 a3, u8 a4, address a5) {
     u16 v6, v7, v21, v29, v30, v48, v50, v51, v59, v64, v82, v83, v100, v101, v107, v108;
     u16 v109, v110, v114, v142, v160, v161, v180, v198, v200, v201, v206, v224, v225;
     u64 v8, v9, v10, v12, v13, v14, v17, v18, v26, v28, v40, v42, v43, v44, v54, v55;
@@ -16007,187 +15835,212 @@ L41:;
     return;
 }
 
-static void f75(address a0, address a1) {
-    u64 v2, v3, v4, v5, v6, v8, v16, v20, v25, v27, v28, v29, v32, v33, v34, v39;
-    u64 v41, v42, v45, v46, v47, v52, v54, v55, v58, v59, v60, v65, v67, v68, v71, v72;
-    u64 v73, v78, v80, v83, v84;
-    address v7, v10, v11, v12, v13, v14, v15, v17, v18, v21, v26, v31, v36, v37, v44, v49;
-    address v50, v57, v62, v63, v70, v75, v76, v81, v82;
-    u8 v9, v22, v23, v24, v30, v35, v38, v40, v43, v48, v51, v53, v56, v61, v64, v66;
-    u8 v69, v74, v77, v79, v85;
-    u16 v19;
+static void f73(address a0, address a1) {
+    u64 v2, v3, v4, v5, v6, v8, v17, v21, v26, v28, v29, v30, v33, v34, v35, v40;
+    u64 v42, v43, v46, v47, v48, v53, v55, v56, v59, v60, v61, v66, v68, v69, v72, v73;
+    u64 v74, v79, v81, v84, v86, v88, v89, v90;
+    address v7, v10, v11, v12, v13, v14, v15, v16, v18, v19, v22, v27, v32, v37, v38, v45;
+    address v50, v51, v58, v63, v64, v71, v76, v77, v82, v83, v85, v87;
+    u8 v9, v23, v24, v25, v31, v36, v39, v41, v44, v49, v52, v54, v57, v62, v65, v67;
+    u8 v70, v75, v78, v80, v91;
+    u16 v20;
     v7 = a0 + 16u * 1u;
     v8 = load64(v7);
     v9 = v8 == 0u;
-    if (v9) { goto L26; }
+    if (v9) { goto L31; }
     else { goto L1; }
 L1:;
     v10 = a1 + 8u * 1u;
     v11 = a1 + 32u * 1u;
-    v12 = a1 + 16u * 1u;
-    v13 = a1 + 24u * 1u;
-    v14 = a1 + 664u * 1u;
+    v12 = a1 + 56u * 1u;
+    v13 = a1 + 16u * 1u;
+    v14 = a1 + 24u * 1u;
+    v15 = a1 + 664u * 1u;
     v2 = 0u; goto L2;
 L2:;
-    v15 = load_address(a0);
-    v16 = (u64)((u64)v2 * (u64)188u);
-    v17 = v15 + v16 * 1u;
-    v18 = v17 + 2u * 1u;
-    v19 = load16(v18);
-    v20 = (u64)v19;
-    v21 = v17 + 4u * 1u;
-    v22 = load8(a1);
-    v23 = v22 == 0u;
-    v24 = (u8)(v19);
-    v25 = load64(v12);
-    if (v23) { goto L3; }
+    v16 = load_address(a0);
+    v17 = (u64)((u64)v2 * (u64)188u);
+    v18 = v16 + v17 * 1u;
+    v19 = v18 + 2u * 1u;
+    v20 = load16(v19);
+    v21 = (u64)v20;
+    v22 = v18 + 4u * 1u;
+    v23 = load8(a1);
+    v24 = v23 == 0u;
+    v25 = (u8)(v20);
+    v26 = load64(v13);
+    if (v24) { goto L3; }
     else { goto L24; }
 L3:;
-    v26 = v10 + v25 * 1u;
-    store8(v26, v24);
-    v27 = (u64)((u64)v25 + (u64)1u);
-    store64(v12, v27);
-    v28 = load64(v14);
-    switch (v19) {
+    v27 = v10 + v26 * 1u;
+    store8(v27, v25);
+    v28 = (u64)((u64)v26 + (u64)1u);
+    store64(v13, v28);
+    v29 = load64(v15);
+    switch (v20) {
     case 54u: goto L4;
     case 56u: goto L9;
     case 80u: goto L14;
     default: goto L19;
     }
 L4:;
-    v29 = (u64)((u64)v28 + (u64)UINT64_C(18446744073709551029));
-    v30 = v29 < 54u;
-    if (v30) { goto L25; }
+    v30 = (u64)((u64)v29 + (u64)UINT64_C(18446744073709551029));
+    v31 = v30 < 54u;
+    if (v31) { goto L30; }
     else { goto L5; }
 L5:;
-    v31 = v13 + v28 * 1u;
-    v32 = (u64)v31;
-    v33 = (u64)v21;
-    v34 = (u64)((u64)v32 - (u64)v33);
-    v35 = v34 < 54u;
-    if (v35) { v3 = 0u; goto L7; }
+    v32 = v14 + v29 * 1u;
+    v33 = (u64)v32;
+    v34 = (u64)v22;
+    v35 = (u64)((u64)v33 - (u64)v34);
+    v36 = v35 < 54u;
+    if (v36) { v3 = 0u; goto L7; }
     else { goto L6; }
 L6:;
-    memory_move(v31, v21, 54u);
+    memory_move(v32, v22, 54u);
     goto L8;
 L7:;
-    v36 = v31 + v3 * 1u;
-    v37 = v21 + v3 * 1u;
-    v38 = load8(v37);
-    store8(v36, v38);
-    v39 = (u64)((u64)v3 + (u64)1u);
-    v40 = v39 == 54u;
-    if (v40) { goto L8; }
-    else { v3 = v39; goto L7; }
+    v37 = v32 + v3 * 1u;
+    v38 = v22 + v3 * 1u;
+    v39 = load8(v38);
+    store8(v37, v39);
+    v40 = (u64)((u64)v3 + (u64)1u);
+    v41 = v40 == 54u;
+    if (v41) { goto L8; }
+    else { v3 = v40; goto L7; }
 L8:;
-    v41 = (u64)((u64)v28 + (u64)54u);
-    store64(v14, v41);
-    goto L25;
+    v42 = (u64)((u64)v29 + (u64)54u);
+    store64(v15, v42);
+    goto L30;
 L9:;
-    v42 = (u64)((u64)v28 + (u64)UINT64_C(18446744073709551031));
-    v43 = v42 < 56u;
-    if (v43) { goto L25; }
+    v43 = (u64)((u64)v29 + (u64)UINT64_C(18446744073709551031));
+    v44 = v43 < 56u;
+    if (v44) { goto L30; }
     else { goto L10; }
 L10:;
-    v44 = v13 + v28 * 1u;
-    v45 = (u64)v44;
-    v46 = (u64)v21;
-    v47 = (u64)((u64)v45 - (u64)v46);
-    v48 = v47 < 56u;
-    if (v48) { v4 = 0u; goto L12; }
+    v45 = v14 + v29 * 1u;
+    v46 = (u64)v45;
+    v47 = (u64)v22;
+    v48 = (u64)((u64)v46 - (u64)v47);
+    v49 = v48 < 56u;
+    if (v49) { v4 = 0u; goto L12; }
     else { goto L11; }
 L11:;
-    memory_move(v44, v21, 56u);
+    memory_move(v45, v22, 56u);
     goto L13;
 L12:;
-    v49 = v44 + v4 * 1u;
-    v50 = v21 + v4 * 1u;
-    v51 = load8(v50);
-    store8(v49, v51);
-    v52 = (u64)((u64)v4 + (u64)1u);
-    v53 = v52 == 56u;
-    if (v53) { goto L13; }
-    else { v4 = v52; goto L12; }
+    v50 = v45 + v4 * 1u;
+    v51 = v22 + v4 * 1u;
+    v52 = load8(v51);
+    store8(v50, v52);
+    v53 = (u64)((u64)v4 + (u64)1u);
+    v54 = v53 == 56u;
+    if (v54) { goto L13; }
+    else { v4 = v53; goto L12; }
 L13:;
-    v54 = (u64)((u64)v28 + (u64)56u);
-    store64(v14, v54);
-    goto L25;
+    v55 = (u64)((u64)v29 + (u64)56u);
+    store64(v15, v55);
+    goto L30;
 L14:;
-    v55 = (u64)((u64)v28 + (u64)UINT64_C(18446744073709551055));
-    v56 = v55 < 80u;
-    if (v56) { goto L25; }
+    v56 = (u64)((u64)v29 + (u64)UINT64_C(18446744073709551055));
+    v57 = v56 < 80u;
+    if (v57) { goto L30; }
     else { goto L15; }
 L15:;
-    v57 = v13 + v28 * 1u;
-    v58 = (u64)v57;
-    v59 = (u64)v21;
-    v60 = (u64)((u64)v58 - (u64)v59);
-    v61 = v60 < 80u;
-    if (v61) { v5 = 0u; goto L17; }
+    v58 = v14 + v29 * 1u;
+    v59 = (u64)v58;
+    v60 = (u64)v22;
+    v61 = (u64)((u64)v59 - (u64)v60);
+    v62 = v61 < 80u;
+    if (v62) { v5 = 0u; goto L17; }
     else { goto L16; }
 L16:;
-    memory_move(v57, v21, 80u);
+    memory_move(v58, v22, 80u);
     goto L18;
 L17:;
-    v62 = v57 + v5 * 1u;
-    v63 = v21 + v5 * 1u;
-    v64 = load8(v63);
-    store8(v62, v64);
-    v65 = (u64)((u64)v5 + (u64)1u);
-    v66 = v65 == 80u;
-    if (v66) { goto L18; }
-    else { v5 = v65; goto L17; }
+    v63 = v58 + v5 * 1u;
+    v64 = v22 + v5 * 1u;
+    v65 = load8(v64);
+    store8(v63, v65);
+    v66 = (u64)((u64)v5 + (u64)1u);
+    v67 = v66 == 80u;
+    if (v67) { goto L18; }
+    else { v5 = v66; goto L17; }
 L18:;
-    v67 = (u64)((u64)v28 + (u64)80u);
-    store64(v14, v67);
-    goto L25;
+    v68 = (u64)((u64)v29 + (u64)80u);
+    store64(v15, v68);
+    goto L30;
 L19:;
-    v68 = (u64)((u64)640u - (u64)v28);
-    v69 = v68 < v20;
-    if (v69) { goto L25; }
+    v69 = (u64)((u64)640u - (u64)v29);
+    v70 = v69 < v21;
+    if (v70) { goto L30; }
     else { goto L20; }
 L20:;
-    v70 = v13 + v28 * 1u;
-    v71 = (u64)v70;
-    v72 = (u64)v21;
-    v73 = (u64)((u64)v71 - (u64)v72);
-    v74 = v73 < v20;
-    if (v74) { v6 = 0u; goto L22; }
+    v71 = v14 + v29 * 1u;
+    v72 = (u64)v71;
+    v73 = (u64)v22;
+    v74 = (u64)((u64)v72 - (u64)v73);
+    v75 = v74 < v21;
+    if (v75) { v6 = 0u; goto L22; }
     else { goto L21; }
 L21:;
-    memory_move(v70, v21, v20);
+    memory_move(v71, v22, v21);
     goto L23;
 L22:;
-    v75 = v70 + v6 * 1u;
-    v76 = v21 + v6 * 1u;
-    v77 = load8(v76);
-    store8(v75, v77);
-    v78 = (u64)((u64)v6 + (u64)1u);
-    v79 = v78 == v20;
-    if (v79) { goto L23; }
-    else { v6 = v78; goto L22; }
+    v76 = v71 + v6 * 1u;
+    v77 = v22 + v6 * 1u;
+    v78 = load8(v77);
+    store8(v76, v78);
+    v79 = (u64)((u64)v6 + (u64)1u);
+    v80 = v79 == v21;
+    if (v80) { goto L23; }
+    else { v6 = v79; goto L22; }
 L23:;
-    v80 = (u64)((u64)v28 + (u64)v20);
-    store64(v14, v80);
-    goto L25;
+    v81 = (u64)((u64)v29 + (u64)v21);
+    store64(v15, v81);
+    goto L30;
 L24:;
-    v81 = load_address(v10);
-    v82 = v81 + v25 * 1u;
-    store8(v82, v24);
-    v83 = (u64)((u64)v25 + (u64)1u);
-    store64(v12, v83);
-    f53(v11, v21, v20);
-    goto L25;
+    v82 = load_address(v10);
+    v83 = v82 + v26 * 1u;
+    store8(v83, v25);
+    v84 = (u64)((u64)v26 + (u64)1u);
+    store64(v13, v84);
+    v85 = load_address(v11);
+    v86 = load64(v12);
+    v87 = v85 + v86 * 1u;
+    switch (v20) {
+    case 54u: goto L25;
+    case 56u: goto L26;
+    case 80u: goto L27;
+    default: goto L28;
+    }
 L25:;
-    v84 = (u64)((u64)v2 + (u64)1u);
-    v85 = v84 == v8;
-    if (v85) { goto L26; }
-    else { v2 = v84; goto L2; }
+    memory_move(v87, v22, 54u);
+    goto L29;
 L26:;
+    memory_move(v87, v22, 56u);
+    goto L29;
+L27:;
+    memory_move(v87, v22, 80u);
+    goto L29;
+L28:;
+    f51(v87, v22, v21);
+    goto L29;
+L29:;
+    v88 = load64(v12);
+    v89 = (u64)((u64)v88 + (u64)v21);
+    store64(v12, v89);
+    goto L30;
+L30:;
+    v90 = (u64)((u64)v2 + (u64)1u);
+    v91 = v90 == v8;
+    if (v91) { goto L31; }
+    else { v2 = v90; goto L2; }
+L31:;
     return;
 }
 
-static void f76(address a0, address a1, address a2) {
+static void f74(address a0, address a1, address a2) {
     address v3, v15, v16, v17, v20, v22, v23, v24, v25, v26, v27, v28, v29, v30, v31, v33;
     address v34, v36, v38, v39, v42, v43, v44, v49, v50, v52, v53, v54, v56, v57, v60, v61;
     address v62, v65, v67, v68, v70, v71, v72, v73, v76, v77, v78, v79, v84, v85, v90, v92;
@@ -16438,14 +16291,14 @@ L38:;
     store64(v73, v95);
     goto L23;
 L39:;
-    f73(a0, v8, a2);
+    f71(a0, v8, a2);
     goto L23;
 L40:;
-    f74(a0, v16, a1, v14, v13, a2);
+    f72(a0, v16, a1, v14, v13, a2);
     goto L23;
 }
 
-static struct s2 f77(address a0, address a1, u64 a2) {
+static struct s2 f75(address a0, address a1, u64 a2) {
     u64 v3, v4, v14, v16, v19, v23, v24, v25, v27, v30, v32, v34, v58, v59, v60, v65;
     u64 v67;
     u8 v5, v8, v9, v17, v21, v22, v31, v33, v35, v36, v38, v39, v41, v42, v61, v64;
@@ -16460,7 +16313,7 @@ static struct s2 f77(address a0, address a1, u64 a2) {
     if (v9) { goto L1; }
     else { goto L2; }
 L1:;
-    v10 = f78(a0, a1, a2);
+    v10 = f76(a0, a1, a2);
     v6 = v10; goto L9;
 L2:;
     v11 = a0 + 426u * 1u;
@@ -16475,7 +16328,7 @@ L2:;
 L3:;
     v18 = a1 + v16 * 1u;
     v19 = (u64)((u64)a2 - (u64)v16);
-    v20 = f78(a0, v18, v19);
+    v20 = f76(a0, v18, v19);
     v21 = v20.m0;
     v22 = v21 == 1u;
     if (v22) { goto L4; }
@@ -16563,7 +16416,7 @@ L9:;
     return v6;
 }
 
-static struct s2 f78(address a0, address a1, u64 a2) {
+static struct s2 f76(address a0, address a1, u64 a2) {
     u64 v3, v5, v6, v8, v9, v10, v11, v12, v13, v16, v17, v21, v22, v23, v24, v26;
     u64 v27, v29, v30, v31, v32, v35, v37, v40, v44, v45, v46, v47, v48, v49, v57, v61;
     u64 v62, v66, v68, v72, v75, v79, v80, v81, v82, v83, v87, v88, v91, v99, v100, v104;
@@ -16778,7 +16631,7 @@ L28:;
     v150 = a0 + 384u * 1u;
     v151 = (u64)((u64)a2 + (u64)UINT64_C(18446744073709551604));
     memory_set(v53, 0u, 1176u);
-    f79(v53, a0);
+    f77(v53, a0);
     v152 = v53 + 1168u * 1u;
     v153 = load64(v152);
     v154 = v151 < v153;
@@ -17206,7 +17059,7 @@ L67:;
     return v409;
 }
 
-static void f79(address a0, address a1) {
+static void f77(address a0, address a1) {
     u64 v2, v4, v6, v7, v8, v9, v10, v13, v14, v15, v39, v70, v71, v74, v75, v79;
     u64 v80, v81, v105, v139, v140, v141, v165, v193, v197, v201, v205, v207, v210, v214, v216, v218;
     u64 v230, v231, v233, v234, v236, v237, v241, v242;
@@ -17600,7 +17453,7 @@ L21:;
     return;
 }
 
-static void f80(address a0, address a1) {
+static void f78(address a0, address a1) {
     u64 v2, v4, v5, v6, v91, v93, v94, v95, v96, v98, v101, v105, v109, v110, v111, v112;
     u64 v114, v117, v118, v121, v127, v136, v145, v154, v163, v172, v181, v190;
     address v3, v7, v8, v9, v10, v11, v12, v13, v14, v15, v16, v17, v18, v19, v20, v21;
@@ -18095,7 +17948,7 @@ L12:;
     return;
 }
 
-static void f81(address a0, address a1) {
+static void f79(address a0, address a1) {
     address v2, v3, v4, v12, v13, v15, v20, v21, v22;
     struct s1 v5;
     u8 v6, v7, v8, v9, v10, v11, v14, v17, v18, v19;
@@ -18108,10 +17961,10 @@ static void f81(address a0, address a1) {
     v4 = ADDRESS(block2);
     memory_set(v4, 0u, 384u);
     memory_set(v2, 0u, 1164u);
-    f82(a1, v2);
+    f80(a1, v2);
     f25(v4);
     memory_cpy(v3, v4, 384u);
-    v5 = f83(v3, v2, 1164u);
+    v5 = f81(v3, v2, 1164u);
     v6 = v5.m0;
     v7 = v6 == 0u;
     v8 = v5.m1;
@@ -18120,7 +17973,7 @@ static void f81(address a0, address a1) {
     if (v10) { goto L1; }
     else { goto L2; }
 L1:;
-    v11 = f88(v3, v2, 1164u);
+    v11 = f86(v3, v2, 1164u);
     goto L3;
 L2:;
     if (v7) { goto L3; }
@@ -18154,14 +18007,14 @@ L7:;
     goto L6;
 }
 
-static void f82(address a0, address a1) {
+static void f80(address a0, address a1) {
     address v2, v3;
     u64 v4;
     u8 v5;
     u64 block0[147];
     v2 = ADDRESS(block0);
     memory_set(v2, 0u, 1176u);
-    f79(v2, a0);
+    f77(v2, a0);
     v3 = v2 + 1168u * 1u;
     v4 = load64(v3);
     v5 = v4 > 1164u;
@@ -18174,7 +18027,7 @@ L2:;
     return;
 }
 
-static struct s1 f83(address a0, address a1, u64 a2) {
+static struct s1 f81(address a0, address a1, u64 a2) {
     u8 v3, v4, v7, v10, v12, v15, v18, v21, v23, v24, v26, v27, v28, v30, v31;
     address v5, v6, v8, v13, v14, v22, v25;
     u64 v9, v11, v16, v17, v19, v20;
@@ -18211,7 +18064,7 @@ L3:;
     else { goto L4; }
 L4:;
     v22 = v14 + 1u * 1u;
-    f84(v6, a1, v13, v11);
+    f82(v6, a1, v13, v11);
     v23 = load8(v6);
     v24 = v23 == 1u;
     if (v24) { goto L5; }
@@ -18223,11 +18076,11 @@ L5:;
     if (v26) { goto L6; }
     else { goto L7; }
 L6:;
-    v27 = f85(a0, v5, v22, v20);
+    v27 = f83(a0, v5, v22, v20);
     v28 = (u8)v27;
     v3 = v28; v4 = 0u; goto L8;
 L7:;
-    v29 = f86(a0, v5, v22, v20);
+    v29 = f84(a0, v5, v22, v20);
     v30 = v29.m0;
     v31 = v29.m1;
     v3 = v31; v4 = v30; goto L8;
@@ -18239,7 +18092,7 @@ L8:;
     return v33;
 }
 
-static void f84(address a0, address a1, address a2, u64 a3) {
+static void f82(address a0, address a1, address a2, u64 a3) {
     address v4, v5, v6, v8, v9, v10, v11, v13, v15, v19, v21, v23, v25, v27, v31, v36;
     address v42, v44, v46, v48, v50, v52, v54, v56, v81, v83, v85, v87, v89, v91, v93, v95;
     address v121, v123, v129, v133, v135, v141, v143, v145, v147, v160, v162, v164, v166, v168, v170, v174;
@@ -18574,7 +18427,7 @@ L3:;
     goto L1;
 }
 
-static u8 f85(address a0, address a1, address a2, u64 a3) {
+static u8 f83(address a0, address a1, address a2, u64 a3) {
     u64 v4, v6, v48, v68, v125, v147, v148, v149, v150, v151, v152, v153, v154, v155, v156, v157;
     u64 v158, v159, v160, v161, v162, v163, v164, v165, v166, v167, v168, v169, v179, v190, v304, v308;
     u64 v334, v335, v336, v337, v340, v343, v344, v347, v354, v356, v365, v378, v380;
@@ -19258,7 +19111,7 @@ L13:;
     return v297;
 }
 
-static struct s1 f86(address a0, address a1, address a2, u64 a3) {
+static struct s1 f84(address a0, address a1, address a2, u64 a3) {
     u64 v4, v8, v10, v13, v15, v17, v39, v40, v41, v42, v43, v44, v45, v46, v47, v48;
     u64 v49, v50, v51, v52, v53, v54, v55, v56, v57, v58, v59, v60, v61, v71, v82, v92;
     u8 v5, v6, v9, v14, v20, v22, v24, v26, v28, v30, v32, v34, v36, v38, v62, v64;
@@ -19368,7 +19221,7 @@ L3:;
     if (v83) { goto L4; }
     else { v4 = v82; goto L3; }
 L4:;
-    f87(v7, a1, v16, v8);
+    f85(v7, a1, v16, v8);
     v84 = load8(v7);
     v85 = v84 == 0u;
     if (v85) { goto L5; }
@@ -19408,7 +19261,7 @@ L9:;
     return v101;
 }
 
-static void f87(address a0, address a1, address a2, u64 a3) {
+static void f85(address a0, address a1, address a2, u64 a3) {
     address v4, v6, v14, v16, v17, v18, v19, v20, v21, v22, v23, v24, v25, v29, v30, v31;
     address v32, v33, v36, v37, v42, v60, v64, v67, v69, v71, v74, v75, v81, v83, v85, v87;
     address v89, v91, v93, v95, v97, v100, v102, v122, v124, v126, v128, v129, v130, v131, v132, v141;
@@ -19923,7 +19776,7 @@ L33:;
     goto L18;
 }
 
-static u8 f88(address a0, address a1, u64 a2) {
+static u8 f86(address a0, address a1, u64 a2) {
     u8 v3, v5, v8, v12, v14, v16, v17, v23, v27, v28, v29, v30, v31, v35, v36, v37;
     u8 v41, v42, v43, v44, v45, v46, v47, v48, v51, v52, v55, v56, v59, v60, v64, v65;
     u8 v66, v70, v71, v72, v73, v77, v78, v79, v80, v84, v85, v86, v87, v88, v89, v90;
@@ -19943,7 +19796,7 @@ static u8 f88(address a0, address a1, u64 a2) {
     v19 = ADDRESS(block1);
     v20 = ADDRESS(block2);
     memory_set(v19, 0u, 1176u);
-    f79(v19, a0);
+    f77(v19, a0);
     memory_cpy(v20, v19, 1176u);
     v21 = v20 + 1168u * 1u;
     v22 = load64(v21);
@@ -20160,7 +20013,7 @@ L27:;
     return v17;
 }
 
-static u32 f89(address a0, u16 a1, address a2, u64 a3, address a4, u8 a5, address a6, u64 a7, address a8) {
+static u32 f87(address a0, u16 a1, address a2, u64 a3, address a4, u8 a5, address a6, u64 a7, address a8) {
     address v9, v11, v14, v22, v31, v32, v33, v34, v35, v36, v37, v38, v39, v40, v41, v42;
     address v43, v44, v45, v46, v47, v48, v49, v50, v51, v54, v56, v58, v59, v60, v62, v63;
     address v68, v74, v75, v76, v79, v82, v83, v84, v86, v92, v94, v101, v103, v108, v109, v110;
@@ -20378,7 +20231,7 @@ L18:;
     goto L21;
 L19:;
     v140 = load_address(a0);
-    f90(v42, v140, a2, a3);
+    f88(v42, v140, a2, a3);
     v141 = load8(v42);
     v142 = v141 == 1u;
     if (v142) { goto L21; }
@@ -20571,10 +20424,10 @@ L43:;
     f44(v39, v251, a1, a2, a3, a6, a7);
     goto L47;
 L44:;
-    f60(v39, v251, a1, a2, a3, v57, a6, a7);
+    f58(v39, v251, a1, a2, a3, v57, a6, a7);
     goto L47;
 L45:;
-    f65(v39, v251, a1, a2, a3, v59, v61, a6, a7);
+    f63(v39, v251, a1, a2, a3, v59, v61, a6, a7);
     goto L47;
 L46:;
     UNREACHABLE;
@@ -20615,10 +20468,10 @@ L52:;
     f44(v34, v260, a1, a2, a3, a6, a7);
     goto L56;
 L53:;
-    f60(v34, v260, a1, a2, a3, v57, a6, a7);
+    f58(v34, v260, a1, a2, a3, v57, a6, a7);
     goto L56;
 L54:;
-    f65(v34, v260, a1, a2, a3, v59, v61, a6, a7);
+    f63(v34, v260, a1, a2, a3, v59, v61, a6, a7);
     goto L56;
 L55:;
     UNREACHABLE;
@@ -20634,7 +20487,7 @@ L57:;
     v266 = v35 + 16u * 1u;
     memory_cpy(v36, v266, 76u);
     v267 = a0 + 776u * 1u;
-    f71(v267, a6, v265);
+    f69(v267, a6, v265);
     v268 = a0 + 842u * 1u;
     v269 = load8(v268);
     v270 = (u8)((v269) & UINT64_C(1));
@@ -20669,10 +20522,10 @@ L61:;
     f44(v31, v279, a1, a2, a3, a6, a7);
     goto L65;
 L62:;
-    f60(v31, v279, a1, a2, a3, v57, a6, a7);
+    f58(v31, v279, a1, a2, a3, v57, a6, a7);
     goto L65;
 L63:;
-    f65(v31, v279, a1, a2, a3, v59, v61, a6, a7);
+    f63(v31, v279, a1, a2, a3, v59, v61, a6, a7);
     goto L65;
 L64:;
     UNREACHABLE;
@@ -20693,7 +20546,7 @@ L66:;
     else { v19 = v280; v20 = v282; v21 = v284; goto L68; }
 L67:;
     v288 = a0 + 776u * 1u;
-    f71(v288, a6, v282);
+    f69(v288, a6, v282);
     store8(v14, 1u);
     v289 = a0 + 842u * 1u;
     store8(v289, 1u);
@@ -20767,7 +20620,7 @@ L83:;
     return v30;
 }
 
-static void f90(address a0, address a1, address a2, u64 a3) {
+static void f88(address a0, address a1, address a2, u64 a3) {
     address v4, v7, v8, v9, v11, v13, v16, v18, v20, v22, v24, v29, v31, v33, v35, v37;
     address v39, v57, v58, v59, v60, v61, v62, v63, v64, v65, v66, v67;
     u8 v5, v6, v12, v14, v15, v19, v21, v23, v25, v26, v30, v32, v34, v36;
@@ -20790,7 +20643,7 @@ L1:;
     v12 = load8(v11);
     v13 = v4 + 25u * 1u;
     v14 = load8(v13);
-    v15 = f61(a1, v7);
+    v15 = f59(a1, v7);
     if (v15) { goto L5; }
     else { goto L4; }
 L2:;
@@ -20869,7 +20722,7 @@ L5:;
     goto L2;
 }
 
-static u64 f91(u8 a0, u8 a1) {
+static u64 f89(u8 a0, u8 a1) {
     u64 v2, v4, v5, v6, v12, v17, v18, v19, v20;
     address v3, v7, v8, v9, v10, v13, v15;
     u8 v11, v14, v16;
@@ -20971,7 +20824,7 @@ L22:;
     return v20;
 }
 
-static void f92(address a0, address a1, address a2, u64 a3, address a4) {
+static void f90(address a0, address a1, address a2, u64 a3, address a4) {
     u64 v5, v7, v10, v11, v13, v14, v16, v20, v21, v22, v79, v82, v88, v89, v90, v91;
     u64 v93, v95, v98, v99, v102, v302, v316, v317, v324, v325;
     address v6, v28, v29, v30, v31, v33, v35, v37, v39, v41, v44, v49, v52, v53, v80, v81;
@@ -21179,7 +21032,7 @@ L24:;
     default: v23 = v34; v24 = 3u; v25 = 1u; v26 = v32; v27 = v36; goto L71;
     }
 L25:;
-    v107 = f93(127u, a2, a3);
+    v107 = f91(127u, a2, a3);
     v108 = v107.m0;
     v109 = (u8)((v108) & UINT64_C(1));
     if (v109) { goto L26; }
@@ -21189,7 +21042,7 @@ L26:;
     v111 = (u8)(v110);
     v18 = 0u; v19 = v111; v20 = 1u; goto L66;
 L27:;
-    v112 = f93(32767u, a2, a3);
+    v112 = f91(32767u, a2, a3);
     v113 = v112.m0;
     v114 = (u8)((v113) & UINT64_C(1));
     if (v114) { goto L28; }
@@ -21202,7 +21055,7 @@ L28:;
     v119 = (u8)(v118);
     v18 = v119; v19 = v117; v20 = 2u; goto L66;
 L29:;
-    v120 = f94(a2, a3);
+    v120 = f92(a2, a3);
     v121 = v120.m0;
     v122 = (u8)((v121) & UINT64_C(1));
     if (v122) { goto L30; }
@@ -21213,7 +21066,7 @@ L30:;
     v125 = v124 ? v42 : 0u;
     v18 = 0u; v19 = v125; v20 = 1u; goto L66;
 L31:;
-    v126 = f94(a2, a3);
+    v126 = f92(a2, a3);
     v127 = v126.m0;
     v128 = (u8)((v127) & UINT64_C(1));
     if (v128) { goto L32; }
@@ -21223,7 +21076,7 @@ L32:;
     v130 = (u8)((u32)v129 & (u32)1u);
     v18 = 0u; v19 = v130; v20 = 1u; goto L66;
 L33:;
-    v131 = f96(a2, a3);
+    v131 = f94(a2, a3);
     v132 = v131.m0;
     v133 = v132 == 1u;
     v134 = v131.m1;
@@ -21488,7 +21341,7 @@ L60:;
     if (v303) { v15 = 254u; goto L39; }
     else { v16 = v302; goto L59; }
 L61:;
-    v304 = f96(a2, a3);
+    v304 = f94(a2, a3);
     v17 = v304; goto L62;
 L62:;
     v305 = v17.m0;
@@ -21499,7 +21352,7 @@ L63:;
     v307 = v17.m1;
     v18 = 0u; v19 = v307; v20 = 1u; goto L66;
 L64:;
-    v308 = f96(a2, a3);
+    v308 = f94(a2, a3);
     v309 = v308.m0;
     v310 = v309 == 1u;
     if (v310) { goto L65; }
@@ -21552,7 +21405,7 @@ L71:;
     return;
 }
 
-static struct s4 f93(u16 a0, address a1, u64 a2) {
+static struct s4 f91(u16 a0, address a1, u64 a2) {
     u64 v3, v5, v6, v7, v8, v48, v50, v60, v62, v63, v65, v66, v71, v79, v81, v82;
     u64 v84, v85;
     u32 v4, v15, v20, v22, v23, v24, v28, v30, v31, v32, v33, v34, v38, v39, v40, v41;
@@ -21706,7 +21559,7 @@ L21:;
     return v93;
 }
 
-static struct s1 f94(address a0, u64 a1) {
+static struct s1 f92(address a0, u64 a1) {
     u64 v2, v3, v4, v34, v58, v60, v61, v63, v64;
     u8 v5, v6, v8, v9, v10, v11, v12, v13, v15, v16, v17, v18, v19, v20, v22, v23;
     u8 v24, v25, v26, v27, v28, v29, v30, v31, v32, v33, v35, v37, v39, v40, v41, v42;
@@ -21828,7 +21681,7 @@ L14:;
     return v70;
 }
 
-static void f95(address a0, u8 a1, u8 a2) {
+static void f93(address a0, u8 a1, u8 a2) {
     u64 v3, v5, v9, v12, v14, v18, v20, v21, v24, v26, v27, v30, v32;
     address v4, v10, v11, v13, v19, v22, v23, v25, v28, v29, v31, v33, v34;
     u8 v6, v7, v8, v15, v16, v17;
@@ -21923,7 +21776,7 @@ L18:;
     UNREACHABLE;
 }
 
-static struct s1 f96(address a0, u64 a1) {
+static struct s1 f94(address a0, u64 a1) {
     u8 v2, v3, v4, v7, v8, v9, v10, v11, v12, v13, v15, v16, v18, v20, v21, v22;
     u8 v23, v24, v25, v26, v27, v28, v29, v30, v31, v32, v33, v34, v35, v36, v37, v38;
     u8 v39, v40, v41, v42, v43, v44, v45, v47, v48, v49, v50, v51, v53, v56, v60, v61;
@@ -22051,7 +21904,7 @@ L20:;
     return v67;
 }
 
-static struct s5 f97(address a0) {
+static struct s5 f95(address a0) {
     u64 v1, v10;
     address v2, v4, v6, v9;
     u8 v3, v5, v7;
@@ -22118,7 +21971,7 @@ L1:;
     v5 = load8(v4);
     v6 = a0 + 1u * 1u;
     v7 = load8(v6);
-    v8 = f98(v7, v5);
+    v8 = f96(v7, v5);
     v9 = v8.m0;
     v10 = v8.m1;
     v1 = v10; v2 = v9; goto L53;
@@ -22234,7 +22087,7 @@ L54:;
     UNREACHABLE;
 }
 
-static struct s5 f98(u8 a0, u8 a1) {
+static struct s5 f96(u8 a0, u8 a1) {
     u64 v2, v4, v6, v7;
     address v3, v5, v8, v9;
     struct s5 v10, v11;
@@ -22357,7 +22210,7 @@ L35:;
     UNREACHABLE;
 }
 
-static u64 f99(u16 a0, address a1) {
+static u64 f97(u16 a0, address a1) {
     u64 v2, v4, v12, v22;
     address v3, v6, v8, v13, v16, v19;
     u8 v5, v7, v9, v10, v11, v14, v15, v17, v18, v20, v21, v23;
@@ -22468,7 +22321,7 @@ L27:;
     UNREACHABLE;
 }
 
-static void f100(u8 a0, u8 a1, address a2) {
+static void f98(u8 a0, u8 a1, address a2) {
     u64 v3, v4, v5, v6, v7, v14, v19, v21, v23, v27, v29, v30, v31, v36, v42, v44;
     u64 v46, v50, v52, v53, v56, v64, v66, v74;
     address v8, v11, v12, v13, v15, v18, v20, v26, v28, v33, v34, v38, v41, v43, v49, v51;
@@ -22478,7 +22331,7 @@ static void f100(u8 a0, u8 a1, address a2) {
     u64 block0[3];
     v8 = ADDRESS(block0);
     memory_set(v8, 0u, 24u);
-    f95(v8, a0, a1);
+    f93(v8, a0, a1);
     v9 = load8(v8);
     v10 = v9 == 1u;
     if (v10) { goto L1; }
@@ -22608,7 +22461,7 @@ L18:;
     return;
 }
 
-static struct s5 f101(u16 a0, address a1, u64 a2) {
+static struct s5 f99(u16 a0, address a1, u64 a2) {
     u8 v3, v4, v9, v11, v12, v17, v22, v25, v27, v30, v31, v32, v33, v36, v38, v40;
     u8 v45, v48, v49, v51, v52;
     u64 v5, v6, v8, v10, v13, v14, v15, v16, v19, v21, v24, v26, v28, v29, v35, v37;
@@ -22692,7 +22545,7 @@ L19:;
 L20:;
     v3 = 11u; v4 = 4u; goto L21;
 L21:;
-    v10 = f91(v3, v4);
+    v10 = f89(v3, v4);
     v11 = a2 == v10;
     if (v11) { goto L23; }
     else { v7 = ADDRESS(c148); v8 = 0u; goto L53; }
@@ -22766,7 +22619,7 @@ L41:;
 L42:;
     v5 = 6u; v6 = 8u; goto L49;
 L43:;
-    v20 = f102(a1, a2);
+    v20 = f100(a1, a2);
     v21 = v20.m1;
     v22 = v21 == 0u;
     if (v22) { v7 = ADDRESS(c148); v8 = 0u; goto L53; }
@@ -22839,7 +22692,7 @@ L53:;
     return v63;
 }
 
-static struct s5 f102(address a0, u64 a1) {
+static struct s5 f100(address a0, u64 a1) {
     u64 v2, v3, v5, v7, v11, v13, v16, v20, v21, v23, v24, v26, v29, v31, v34, v36;
     u64 v40, v41, v43, v44, v47, v50, v52, v58, v60, v63, v66, v68, v71, v73;
     address v4, v6, v9, v10, v15, v18, v25, v28, v30, v33, v35, v38, v45, v46, v49, v51;
@@ -22947,7 +22800,7 @@ L10:;
     return v75;
 }
 
-static void f103(address a0, u8 a1, u8 a2, address a3, u64 a4) {
+static void f101(address a0, u8 a1, u8 a2, address a3, u64 a4) {
     u64 v5, v7, v8, v10, v11, v13, v14, v16, v17, v18, v20, v22, v24, v25, v26, v28;
     u64 v30, v33, v35, v36, v40, v42, v43, v44, v45, v49, v50, v52, v53, v54, v55, v56;
     u64 v58, v59, v60, v62, v63, v64, v75, v76, v78, v79, v80, v81, v82, v85, v87, v88;
@@ -23435,10 +23288,10 @@ L49:;
     v339.m1 = v22;
     v31 = v339; goto L60;
 L50:;
-    v340 = f102(a3, a4);
+    v340 = f100(a3, a4);
     v31 = v340; goto L60;
 L51:;
-    v341 = f102(a3, a4);
+    v341 = f100(a3, a4);
     v342 = v341.m0;
     v343 = v341.m1;
     v344 = v343 == 0u;
@@ -23578,7 +23431,7 @@ L66:;
     UNREACHABLE;
 }
 
-static void f104(u64 a0, address a1) {
+static void f102(u64 a0, address a1) {
     u64 v2, v3, v4, v5, v6, v7, v8, v11, v12, v13, v14, v20, v28, v30, v42, v44;
     u64 v45, v57, v68, v70, v72, v80, v85, v87, v89, v93;
     address v9, v21, v23, v25, v26, v27, v31, v33, v35, v36, v43, v46, v48, v50, v51, v58;
@@ -23725,7 +23578,7 @@ L13:;
     return;
 }
 
-static struct s5 f105(address a0, u64 a1) {
+static struct s5 f103(address a0, u64 a1) {
     u64 v2, v3, v4, v5, v6, v7, v8, v10, v11, v12, v13, v19, v27, v29, v41, v43;
     u64 v44, v56, v67, v69, v71, v79, v82;
     u8 v9, v21, v23, v31, v33, v36, v37, v38, v39, v40, v46, v48, v58, v60, v64, v65;
@@ -23857,7 +23710,7 @@ L11:;
     return v84;
 }
 
-static struct s4 f106(address a0, u64 a1) {
+static struct s4 f104(address a0, u64 a1) {
     u64 v2, v4, v5, v8, v12, v27;
     address v3, v9, v14, v16;
     u8 v6, v11, v13, v15, v17, v18, v19, v20, v21, v22, v23, v24, v25, v26, v28;
@@ -23970,7 +23823,7 @@ L26:;
     return v30;
 }
 
-static struct s4 f107(address a0, u64 a1) {
+static struct s4 f105(address a0, u64 a1) {
     u8 v2, v3, v4, v5, v7, v8, v9, v11, v12, v13, v14, v15, v16, v17, v18, v19;
     u8 v20, v21, v22, v23, v24, v25, v26, v27, v29, v31, v32, v33, v34, v35, v36, v37;
     u8 v38, v39, v40, v41, v42, v43, v44, v45, v46, v47;
@@ -24093,7 +23946,7 @@ L22:;
     return v53;
 }
 
-static void f108(address a0, address a1, u64 a2) {
+static void f106(address a0, address a1, u64 a2) {
     u8 v3, v6, v7, v8, v11, v12, v13, v18, v20, v21, v23, v24, v26, v29, v31, v32;
     u8 v33, v34, v35, v36, v37, v38, v39, v40, v41, v42, v43, v44, v45, v46, v47, v50;
     u8 v60, v62, v63, v64, v65, v66, v67, v68, v69, v70, v71, v72, v73, v74, v75, v76;
@@ -24283,7 +24136,7 @@ L34:;
     v3 = v13; v4 = v14; goto L5;
 }
 
-static u32 f109(address a0, u64 a1, address a2, u64 a3) {
+static u32 f107(address a0, u64 a1, address a2, u64 a3) {
     u32 v4, v6, v7, v9, v13, v14, v15, v17, v18, v19, v20, v22, v23, v24, v25, v27;
     u32 v28, v29, v30, v32, v33, v34, v35, v37, v38, v39, v40, v42, v43, v44, v45, v47;
     u32 v48, v49, v50, v52, v53, v54, v60, v61, v62, v64, v65, v66, v67, v69, v70, v71;
@@ -24403,7 +24256,7 @@ L4:;
     return v104;
 }
 
-static void f110(address a0, address a1, u64 a2) {
+static void f108(address a0, address a1, u64 a2) {
     u32 v3, v31, v32, v33, v34, v35, v36, v37, v38, v39, v40, v41, v73, v74, v75, v77;
     u32 v78, v79, v80, v82, v83, v84, v85, v87, v88, v89, v90, v92, v93, v94, v95, v97;
     u32 v98, v99, v100, v102, v103, v104, v105, v107, v108, v109, v110, v112, v113, v114, v117, v118;
@@ -24630,7 +24483,7 @@ L12:;
     goto L3;
 }
 
-static void f111(address a0, address a1, address a2, address a3, u64 a4, address a5, u64 a6, address a7, u64 a8) {
+static void f109(address a0, address a1, address a2, address a3, u64 a4, address a5, u64 a6, address a7, u64 a8) {
     u8 v9, v10, v12, v13, v18, v19, v20, v21, v24, v25, v26, v27, v35, v38, v41, v54;
     u8 v57, v65, v66, v67, v68, v70, v71, v73, v76, v79, v81, v92, v94, v118, v131, v133;
     u8 v135, v142, v147, v148, v152, v155, v157, v159, v180, v181, v183, v184, v198, v205, v207, v209;
@@ -24737,7 +24590,7 @@ L9:;
     store64(v75, v14);
     return;
 L10:;
-    v76 = f112(a1, v53);
+    v76 = f110(a1, v53);
     if (v76) { goto L11; }
     else { v12 = 1u; v13 = 1u; v14 = 0u; goto L9; }
 L11:;
@@ -25044,7 +24897,7 @@ L35:;
     v237 = (u64)((u64)v45 - (u64)v221);
     v238 = swap32(v224);
     store32(v46, v238);
-    v239 = f109(v46, 4u, v231, v237);
+    v239 = f107(v46, 4u, v231, v237);
     v240 = (u64)((u64)v45 + (u64)UINT64_C(18446744073709543398));
     v241 = v240 < 4u;
     if (v241) { goto L37; }
@@ -25065,7 +24918,7 @@ L37:;
     if (v247) { v12 = 1u; v13 = 2u; v14 = 0u; goto L9; }
     else { goto L38; }
 L38:;
-    v248 = f113(a1, v53);
+    v248 = f111(a1, v53);
     v249 = v248 == 0u;
     if (v249) { goto L39; }
     else { v12 = 1u; v13 = 3u; v14 = 0u; goto L9; }
@@ -25075,7 +24928,7 @@ L39:;
     v12 = 0u; v13 = 0u; v14 = v246; goto L9;
 }
 
-static u8 f112(address a0, address a1) {
+static u8 f110(address a0, address a1) {
     u64 v2, v3, v15, v18, v22, v25, v35, v36, v43, v50, v52, v55, v71, v76, v79, v87;
     u64 v90, v98, v104, v106, v114, v117;
     u8 v4, v5, v6, v8, v11, v12, v13, v19, v20, v26, v28, v29, v37, v38, v40, v41;
@@ -25338,7 +25191,7 @@ L40:;
     UNREACHABLE;
 }
 
-static u8 f113(address a0, address a1) {
+static u8 f111(address a0, address a1) {
     u16 v2, v3, v4, v19, v21, v23;
     u8 v5, v9, v10, v11, v15, v17, v33, v34, v36, v37, v38, v44, v45, v61, v62, v65;
     u8 v76, v78, v79, v81, v82, v83, v89, v90, v95, v97, v98, v99, v100, v101, v103, v104;
@@ -25413,7 +25266,7 @@ L5:;
     if (v44) { goto L6; }
     else { v6 = v43; goto L8; }
 L6:;
-    v45 = f114(v39);
+    v45 = f112(v39);
     if (v45) { goto L7; }
     else { v10 = 1u; goto L32; }
 L7:;
@@ -25445,7 +25298,7 @@ L8:;
     if (v61) { goto L9; }
     else { v7 = v60; goto L13; }
 L9:;
-    v62 = f115(v56);
+    v62 = f113(v56);
     if (v62) { goto L10; }
     else { goto L11; }
 L10:;
@@ -25574,7 +25427,7 @@ L33:;
     UNREACHABLE;
 }
 
-static u8 f114(address a0) {
+static u8 f112(address a0) {
     u8 v1, v5, v10, v14, v15, v21, v26;
     struct pair v2, v19, v23, v24;
     address v3, v6, v16, v28;
@@ -25627,7 +25480,7 @@ L6:;
     v1 = 1u; goto L1;
 }
 
-static u8 f115(address a0) {
+static u8 f113(address a0) {
     u8 v1, v5, v10, v14, v15, v19, v23;
     struct pair v2, v17, v20, v21;
     address v3, v6, v16, v25;
@@ -25677,7 +25530,7 @@ L6:;
     v1 = 1u; goto L1;
 }
 
-static void f116(address a0, address a1, address a2, u64 a3) {
+static void f114(address a0, address a1, address a2, u64 a3) {
     u8 v4, v7, v16, v17, v18, v23, v36, v37, v38, v39, v40, v42, v43, v44, v46, v47;
     u8 v48, v50, v51, v52, v53, v54, v55, v56, v61, v63, v65, v66, v67, v68, v70, v76;
     u8 v77, v81, v84, v88, v93, v100, v108, v110, v112, v113, v114, v115, v117, v123, v124, v125;
@@ -25819,7 +25672,7 @@ L14:;
     v97 = swap32(v96);
     v98 = swap32(v60);
     store32(v33, v98);
-    v99 = f109(v33, 4u, v57, v78);
+    v99 = f107(v33, 4u, v57, v78);
     v100 = v97 == v99;
     if (v100) { goto L33; }
     else { v17 = 0u; v18 = 0u; v19 = 0u; v20 = 0u; v21 = 0u; v22 = 0u; v23 = 1u; v24 = 0u; v25 = 0u; v26 = 0u; goto L63; }
@@ -26045,7 +25898,7 @@ L53:;
     if (v190) { goto L57; }
     else { goto L54; }
 L54:;
-    f117(v28, v143);
+    f115(v28, v143);
     v191 = load8(v28);
     v192 = v191 == 1u;
     if (v192) { goto L55; }
@@ -26064,7 +25917,7 @@ L55:;
     v199 = v31 + 8u * 1u;
     v200 = v30 + 6u * 1u;
     memory_cpy(v199, v200, 24u);
-    v201 = f112(a1, v31);
+    v201 = f110(a1, v31);
     if (v201) { goto L60; }
     else { v16 = 1u; goto L62; }
 L56:;
@@ -26091,7 +25944,7 @@ L60:;
     store8(v210, v194);
     v211 = v32 + 8u * 1u;
     memory_cpy(v211, v200, 24u);
-    v212 = f113(a1, v32);
+    v212 = f111(a1, v32);
     v213 = v212 == 0u;
     if (v213) { goto L61; }
     else { v16 = 2u; goto L62; }
@@ -26099,7 +25952,7 @@ L61:;
     v214 = load32(v59);
     v215 = swap32(v214);
     store32(v27, v215);
-    v216 = f109(v27, 4u, v57, v78);
+    v216 = f107(v27, 4u, v57, v78);
     store32(v59, v216);
     memory_cpy(v35, v30, 30u);
     memory_cpy(v34, v35, 30u);
@@ -26138,7 +25991,7 @@ L63:;
     goto L15;
 }
 
-static void f117(address a0, address a1) {
+static void f115(address a0, address a1) {
     u64 v2, v8, v11, v39, v40, v41, v42, v43, v44, v45, v46, v47, v48, v49, v50, v51;
     u64 v52, v53, v54, v55, v56, v57, v58, v59, v60, v61, v66, v67, v68, v73, v74, v75;
     u64 v77, v79, v81, v82, v83, v84, v85, v86, v87, v88, v89, v91, v109, v110, v111, v112;
@@ -26708,7 +26561,7 @@ L17:;
     goto L2;
 }
 
-static u8 f118(address a0, u64 a1, address a2) {
+static u8 f116(address a0, u64 a1, address a2) {
     address v3, v7, v8, v10, v14, v21, v24, v27, v30, v33, v36, v39, v42, v45, v48, v51;
     address v54, v57, v60, v63, v66, v69, v72, v75, v78, v81, v84, v87, v90, v93, v96, v99;
     address v102, v105, v108, v111, v114;
@@ -26947,7 +26800,7 @@ L38:;
     return v5;
 }
 
-static void f119(address a0, address a1, u64 a2) {
+static void f117(address a0, address a1, u64 a2) {
     u64 v3, v4, v5, v11, v12, v13, v32, v40, v42, v50, v62, v63, v79, v89, v98, v99;
     u16 v6, v7, v8, v9, v14, v15, v16, v17, v37, v38, v39, v47, v48, v49, v51, v56;
     u16 v57, v58, v59, v60, v68, v69, v70, v71, v84, v85, v86, v87, v94, v95, v96, v97;
@@ -27106,7 +26959,7 @@ L7:;
     return;
 }
 
-static u8 f120(u64 a0, address a1, u64 a2, address a3, u64 a4, u64 a5) {
+static u8 f118(u64 a0, address a1, u64 a2, address a3, u64 a4, u64 a5) {
     u64 v6, v8, v12, v13, v16, v17, v18, v19, v20, v21, v22, v24, v25, v26, v27, v28;
     u64 v31, v32, v35, v36, v37, v40, v41, v42, v43, v44, v45, v46, v47, v48, v49, v50;
     u64 v51, v52, v54, v55, v56, v58, v59, v61, v69, v72, v84, v86, v88, v90, v91, v92;
@@ -27252,7 +27105,7 @@ L13:;
     v7 = 1u; goto L10;
 }
 
-static void f121(address a0, u32 a1, address a2, u64 a3) {
+static void f119(address a0, u32 a1, address a2, u64 a3) {
     u64 v4, v5, v6, v7, v8, v9, v10, v12, v14, v15, v27, v44, v45, v46, v47, v48;
     u64 v49, v50, v51, v52, v53, v54, v55, v56, v57, v58, v59, v60, v61, v62, v63, v64;
     u64 v65, v66, v67, v68, v69, v70, v71, v72, v74, v75, v76, v94, v95, v96, v97, v98;
@@ -27546,7 +27399,7 @@ L7:;
     else { v6 = v5; goto L9; }
 L8:;
     v251 = (u64)((u64)v5 + (u64)32u);
-    v252 = f122(v16, v251, a3);
+    v252 = f120(v16, v251, a3);
     v253 = (u64)((u64)a3 - (u64)v252);
     v254 = v253 > 31u;
     if (v254) { v5 = v252; goto L7; }
@@ -27683,7 +27536,7 @@ L19:;
     v358 = (u64)((u64)v10 + (u64)1u);
     v359 = a2 + v358 * 1u;
     v360 = (u64)((u64)a3 - (u64)v358);
-    f108(v17, a2, v10);
+    f106(v17, a2, v10);
     v361 = load8(v17);
     v362 = v361 == 1u;
     if (v362) { goto L21; }
@@ -27738,7 +27591,7 @@ L27:;
     v11 = 1u; v12 = v366; v13 = v385; goto L20;
 }
 
-static u64 f122(address a0, u64 a1, u64 a2) {
+static u64 f120(address a0, u64 a1, u64 a2) {
     u64 v3, v4, v5, v10, v11, v28, v29, v30, v31, v32, v33, v34, v35, v36, v37, v38;
     u64 v39, v40, v41, v42, v43, v44, v45, v46, v47, v48, v49, v50, v51, v52, v53, v70;
     u64 v71, v72, v73, v74, v75, v76, v77, v78, v79, v80, v81, v82, v83, v84, v85, v86;
@@ -28132,7 +27985,7 @@ L4:;
     return v4;
 }
 
-static void f123(address a0, u16 a1, address a2, u64 a3) {
+static void f121(address a0, u16 a1, address a2, u64 a3) {
     u64 v4, v5, v8, v10, v11, v12, v15, v16, v21, v22, v25, v26, v27, v28, v31, v32;
     u64 v33, v36, v37, v40, v41, v46, v47, v50, v51, v52, v55, v56, v59, v60, v63, v64;
     u64 v67, v68, v71, v73, v74, v77, v79, v80, v84, v85, v113, v129, v131, v132, v134, v135;
@@ -28225,7 +28078,7 @@ static void f123(address a0, u16 a1, address a2, u64 a3) {
     v110 = v98 + 8u * 1u;
     store64(v110, 0u);
     store_address(v98, v100);
-    v111 = f101(a1, a2, a3);
+    v111 = f99(a1, a2, a3);
     v112 = v111.m0;
     v113 = v111.m1;
     v114 = v113 == 0u;
@@ -28249,7 +28102,7 @@ L2:;
     v127 = v100 + 16u * 1u;
     store_address(v100, v92);
     memory_set(v103, 0u, 16u);
-    v128 = f127(v100, 6u);
+    v128 = f125(v100, 6u);
     if (v128) { goto L3; }
     else { goto L7; }
 L3:;
@@ -28288,7 +28141,7 @@ L7:;
     v142 = (u8)(((u32)v128 ^ (u32)1u) & UINT64_C(1));
     v143 = (u8)v142;
     store8(v110, v143);
-    f124(a2, a3, v98);
+    f122(a2, a3, v98);
     v144 = load8(v110);
     v145 = v144 == 0u;
     if (v145) { goto L9; }
@@ -28312,7 +28165,7 @@ L10:;
     if (v154) { goto L11; }
     else { v4 = v151; v5 = v153; goto L13; }
 L11:;
-    v155 = f127(v146, 1u);
+    v155 = f125(v146, 1u);
     if (v155) { goto L12; }
     else { v6 = 1u; goto L14; }
 L12:;
@@ -28332,7 +28185,7 @@ L14:;
     v161 = (u8)v6;
     v89 = v161; goto L225;
 L15:;
-    v162 = f128(v146, ADDRESS(c314), 1u);
+    v162 = f126(v146, ADDRESS(c314), 1u);
     v89 = v162; goto L225;
 L16:;
     v163 = (u64)((u64)v8 * (u64)6u);
@@ -28362,7 +28215,7 @@ L17:;
     if (v183) { v9 = 0u; goto L19; }
     else { goto L18; }
 L18:;
-    v184 = f128(v180, ADDRESS(c148), 0u);
+    v184 = f126(v180, ADDRESS(c148), 0u);
     v9 = v184; goto L19;
 L19:;
     store8(v110, v9);
@@ -28370,7 +28223,7 @@ L19:;
     store8(v97, v165);
     store8(v115, v167);
     store8(v116, v169);
-    v186 = f97(v97);
+    v186 = f95(v97);
     v187 = v186.m0;
     v188 = v186.m1;
     if (v185) { goto L20; }
@@ -28390,7 +28243,7 @@ L21:;
     if (v196) { goto L22; }
     else { v10 = v192; v11 = v194; goto L24; }
 L22:;
-    v197 = f127(v180, v188);
+    v197 = f125(v180, v188);
     if (v197) { goto L23; }
     else { v13 = 1u; goto L28; }
 L23:;
@@ -28429,7 +28282,7 @@ L28:;
     v212 = (u8)v13;
     v14 = v212; goto L30;
 L29:;
-    v213 = f128(v180, v187, v188);
+    v213 = f126(v180, v187, v188);
     v14 = v213; goto L30;
 L30:;
     store8(v110, v14);
@@ -28450,7 +28303,7 @@ L32:;
     if (v221) { goto L33; }
     else { v15 = v218; v16 = v220; goto L35; }
 L33:;
-    v222 = f127(v180, 1u);
+    v222 = f125(v180, 1u);
     if (v222) { goto L34; }
     else { v17 = 1u; goto L36; }
 L34:;
@@ -28470,7 +28323,7 @@ L36:;
     v228 = (u8)v17;
     v18 = v228; goto L38;
 L37:;
-    v229 = f128(v180, ADDRESS(c316), 1u);
+    v229 = f126(v180, ADDRESS(c316), 1u);
     v18 = v229; goto L38;
 L38:;
     store8(v110, v18);
@@ -28507,7 +28360,7 @@ L43:;
     if (v242) { goto L44; }
     else { v21 = v238; v22 = v240; goto L46; }
 L44:;
-    v243 = f127(v233, 2u);
+    v243 = f125(v233, 2u);
     if (v243) { goto L45; }
     else { v23 = 1u; goto L50; }
 L45:;
@@ -28540,7 +28393,7 @@ L50:;
     v253 = (u8)v23;
     v24 = v253; goto L52;
 L51:;
-    v254 = f128(v233, ADDRESS(c294), 2u);
+    v254 = f126(v233, ADDRESS(c294), 2u);
     v24 = v254; goto L52;
 L52:;
     store8(v110, v24);
@@ -28552,13 +28405,13 @@ L53:;
 L54:;
     v256 = v177 + v25 * 1u;
     v257 = load8(v256);
-    f125(v257, v98);
+    f123(v257, v98);
     v258 = (u64)((u64)v25 + (u64)1u);
     v259 = v258 == v232;
     if (v259) { goto L214; }
     else { v25 = v258; goto L54; }
 L55:;
-    f103(v96, v173, v175, v177, v178);
+    f101(v96, v173, v175, v177, v178);
     v260 = load8(v96);
     v261 = load8(v117);
     v262 = load8(v118);
@@ -28586,11 +28439,11 @@ L55:;
     default: goto L213;
     }
 L56:;
-    f129(v270, v98);
+    f127(v270, v98);
     goto L214;
 L57:;
     memory_set(v95, 0u, 40u);
-    v272 = f105(v95, v270);
+    v272 = f103(v95, v270);
     v273 = v272.m0;
     v274 = v272.m1;
     v275 = v19 == 0u;
@@ -28613,7 +28466,7 @@ L59:;
     if (v285) { goto L60; }
     else { v26 = v281; v27 = v283; goto L62; }
 L60:;
-    v286 = f127(v276, v274);
+    v286 = f125(v276, v274);
     if (v286) { goto L61; }
     else { v29 = 1u; goto L66; }
 L61:;
@@ -28652,7 +28505,7 @@ L66:;
     v301 = (u8)v29;
     v30 = v301; goto L68;
 L67:;
-    v302 = f128(v276, v273, v274);
+    v302 = f126(v276, v273, v274);
     v30 = v302; goto L68;
 L68:;
     store8(v110, v30);
@@ -28685,7 +28538,7 @@ L73:;
     if (v316) { goto L74; }
     else { v31 = v312; v32 = v314; goto L76; }
 L74:;
-    v317 = f127(v307, v304);
+    v317 = f125(v307, v304);
     if (v317) { goto L75; }
     else { v34 = 1u; goto L80; }
 L75:;
@@ -28723,7 +28576,7 @@ L80:;
     v332 = (u8)v34;
     v35 = v332; goto L82;
 L81:;
-    v333 = f128(v307, v305, v304);
+    v333 = f126(v307, v305, v304);
     v35 = v333; goto L82;
 L82:;
     store8(v110, v35);
@@ -28751,7 +28604,7 @@ L85:;
     if (v346) { goto L86; }
     else { v36 = v343; v37 = v345; goto L88; }
 L86:;
-    v347 = f127(v338, 1u);
+    v347 = f125(v338, 1u);
     if (v347) { goto L87; }
     else { v38 = 1u; goto L89; }
 L87:;
@@ -28771,14 +28624,14 @@ L89:;
     v353 = (u8)v38;
     v39 = v353; goto L91;
 L90:;
-    v354 = f128(v338, ADDRESS(c315), 1u);
+    v354 = f126(v338, ADDRESS(c315), 1u);
     v39 = v354; goto L91;
 L91:;
     store8(v110, v39);
     goto L92;
 L92:;
     v355 = (u64)((u64)v334 >> (16u & 63u));
-    f129(v355, v98);
+    f127(v355, v98);
     v356 = load8(v110);
     v357 = v356 == 0u;
     if (v357) { goto L93; }
@@ -28799,7 +28652,7 @@ L94:;
     if (v366) { goto L95; }
     else { v40 = v363; v41 = v365; goto L97; }
 L95:;
-    v367 = f127(v358, 1u);
+    v367 = f125(v358, 1u);
     if (v367) { goto L96; }
     else { v42 = 1u; goto L98; }
 L96:;
@@ -28819,7 +28672,7 @@ L98:;
     v373 = (u8)v42;
     v43 = v373; goto L100;
 L99:;
-    v374 = f128(v358, ADDRESS(c318), 1u);
+    v374 = f126(v358, ADDRESS(c318), 1u);
     v43 = v374; goto L100;
 L100:;
     store8(v110, v43);
@@ -28832,7 +28685,7 @@ L102:;
     v377 = (u32)((u32)v44 * (u32)10u);
     v378 = (u32)((u32)v377 >> (16u & 31u));
     v379 = (u64)v378;
-    f129(v379, v98);
+    f127(v379, v98);
     v380 = (u32)((u32)v377 & (u32)65534u);
     v381 = v380 == 0u;
     v382 = (u8)((u32)v45 + (u32)255u);
@@ -28842,27 +28695,27 @@ L102:;
     else { v44 = v380; v45 = v382; goto L102; }
 L103:;
     v385 = (u8)(v270);
-    f125(v261, v98);
-    f125(v262, v98);
-    f125(v263, v98);
-    f125(v265, v98);
-    f125(v267, v98);
-    f125(v268, v98);
-    f125(v269, v98);
-    f125(v385, v98);
+    f123(v261, v98);
+    f123(v262, v98);
+    f123(v263, v98);
+    f123(v265, v98);
+    f123(v267, v98);
+    f123(v268, v98);
+    f123(v269, v98);
+    f123(v385, v98);
     goto L214;
 L104:;
-    f125(v262, v98);
-    f125(v263, v98);
-    f125(v265, v98);
-    f125(v267, v98);
-    f125(v268, v98);
-    f125(v269, v98);
+    f123(v262, v98);
+    f123(v263, v98);
+    f123(v265, v98);
+    f123(v267, v98);
+    f123(v268, v98);
+    f123(v269, v98);
     v386 = (u8)(v270);
-    f125(v386, v98);
+    f123(v386, v98);
     v387 = (u64)((u64)v270 >> (8u & 63u));
     v388 = (u8)(v387);
-    f125(v388, v98);
+    f123(v388, v98);
     v389 = load8(v110);
     v390 = v389 == 0u;
     if (v390) { goto L105; }
@@ -28883,7 +28736,7 @@ L106:;
     if (v399) { goto L107; }
     else { v46 = v396; v47 = v398; goto L109; }
 L107:;
-    v400 = f127(v391, 1u);
+    v400 = f125(v391, 1u);
     if (v400) { goto L108; }
     else { v48 = 1u; goto L110; }
 L108:;
@@ -28903,7 +28756,7 @@ L110:;
     v406 = (u8)v48;
     v49 = v406; goto L112;
 L111:;
-    v407 = f128(v391, ADDRESS(c319), 1u);
+    v407 = f126(v391, ADDRESS(c319), 1u);
     v49 = v407; goto L112;
 L112:;
     store8(v110, v49);
@@ -28911,11 +28764,11 @@ L112:;
 L113:;
     v408 = (u64)((u64)v270 >> (16u & 63u));
     v409 = (u64)((u64)v408 & (u64)65535u);
-    f129(v409, v98);
+    f127(v409, v98);
     goto L214;
 L114:;
     memory_set(v94, 0u, 24u);
-    f95(v94, v261, v262);
+    f93(v94, v261, v262);
     v410 = load8(v94);
     v411 = v410 == 1u;
     if (v411) { goto L115; }
@@ -28943,7 +28796,7 @@ L117:;
     if (v424) { goto L118; }
     else { v50 = v420; v51 = v422; goto L120; }
 L118:;
-    v425 = f127(v415, v413);
+    v425 = f125(v415, v413);
     if (v425) { goto L119; }
     else { v53 = 1u; goto L124; }
 L119:;
@@ -28982,7 +28835,7 @@ L124:;
     v440 = (u8)v53;
     v54 = v440; goto L126;
 L125:;
-    v441 = f128(v415, v412, v413);
+    v441 = f126(v415, v412, v413);
     v54 = v441; goto L126;
 L126:;
     store8(v110, v54);
@@ -29008,7 +28861,7 @@ L129:;
     if (v452) { goto L130; }
     else { v55 = v448; v56 = v450; goto L132; }
 L130:;
-    v453 = f127(v443, 2u);
+    v453 = f125(v443, 2u);
     if (v453) { goto L131; }
     else { v57 = 1u; goto L136; }
 L131:;
@@ -29041,13 +28894,13 @@ L136:;
     v463 = (u8)v57;
     v58 = v463; goto L138;
 L137:;
-    v464 = f128(v443, ADDRESS(c294), 2u);
+    v464 = f126(v443, ADDRESS(c294), 2u);
     v58 = v464; goto L138;
 L138:;
     store8(v110, v58);
     goto L139;
 L139:;
-    f125(v262, v98);
+    f123(v262, v98);
     goto L140;
 L140:;
     goto L214;
@@ -29072,7 +28925,7 @@ L143:;
     if (v475) { goto L144; }
     else { v59 = v471; v60 = v473; goto L146; }
 L144:;
-    v476 = f127(v466, 6u);
+    v476 = f125(v466, 6u);
     if (v476) { goto L145; }
     else { v61 = 1u; goto L150; }
 L145:;
@@ -29113,14 +28966,14 @@ L150:;
     v490 = (u8)v61;
     v62 = v490; goto L152;
 L151:;
-    v491 = f128(v466, ADDRESS(c320), 6u);
+    v491 = f126(v466, ADDRESS(c320), 6u);
     v62 = v491; goto L152;
 L152:;
     store8(v110, v62);
     goto L153;
 L153:;
     v492 = (u64)v262;
-    f129(v492, v98);
+    f127(v492, v98);
     v493 = load8(v110);
     v494 = v493 == 0u;
     if (v494) { goto L154; }
@@ -29142,7 +28995,7 @@ L155:;
     if (v504) { goto L156; }
     else { v63 = v500; v64 = v502; goto L158; }
 L156:;
-    v505 = f127(v495, 12u);
+    v505 = f125(v495, 12u);
     if (v505) { goto L157; }
     else { v65 = 1u; goto L162; }
 L157:;
@@ -29195,13 +29048,13 @@ L162:;
     v525 = (u8)v65;
     v66 = v525; goto L164;
 L163:;
-    v526 = f128(v495, ADDRESS(c321), 12u);
+    v526 = f126(v495, ADDRESS(c321), 12u);
     v66 = v526; goto L164;
 L164:;
     store8(v110, v66);
     goto L165;
 L165:;
-    f125(v263, v98);
+    f123(v263, v98);
     v527 = load8(v110);
     v528 = v527 == 0u;
     if (v528) { goto L166; }
@@ -29223,7 +29076,7 @@ L167:;
     if (v538) { goto L168; }
     else { v67 = v534; v68 = v536; goto L170; }
 L168:;
-    v539 = f127(v529, 12u);
+    v539 = f125(v529, 12u);
     if (v539) { goto L169; }
     else { v69 = 1u; goto L174; }
 L169:;
@@ -29276,14 +29129,14 @@ L174:;
     v559 = (u8)v69;
     v70 = v559; goto L176;
 L175:;
-    v560 = f128(v529, ADDRESS(c322), 12u);
+    v560 = f126(v529, ADDRESS(c322), 12u);
     v70 = v560; goto L176;
 L176:;
     store8(v110, v70);
     goto L177;
 L177:;
-    f125(v267, v98);
-    f125(v265, v98);
+    f123(v267, v98);
+    f123(v265, v98);
     goto L214;
 L178:;
     v561 = (address)v270;
@@ -29314,10 +29167,10 @@ L181:;
     if (v574) { goto L182; }
     else { goto L183; }
 L182:;
-    v575 = f126(v571, v93, 1u);
+    v575 = f124(v571, v93, 1u);
     v72 = v575; goto L184;
 L183:;
-    v576 = f128(v571, v93, 1u);
+    v576 = f126(v571, v93, 1u);
     v72 = v576; goto L184;
 L184:;
     store8(v110, v72);
@@ -29342,7 +29195,7 @@ L187:;
     if (v586) { goto L188; }
     else { v73 = v582; v74 = v584; goto L190; }
 L188:;
-    v587 = f127(v577, 2u);
+    v587 = f125(v577, 2u);
     if (v587) { goto L189; }
     else { v75 = 1u; goto L194; }
 L189:;
@@ -29375,13 +29228,13 @@ L194:;
     v597 = (u8)v75;
     v76 = v597; goto L196;
 L195:;
-    v598 = f128(v577, ADDRESS(c323), 2u);
+    v598 = f126(v577, ADDRESS(c323), 2u);
     v76 = v598; goto L196;
 L196:;
     store8(v110, v76);
     goto L197;
 L197:;
-    f125(v564, v98);
+    f123(v564, v98);
     goto L198;
 L198:;
     v599 = (u64)((u64)v71 + (u64)1u);
@@ -29390,7 +29243,7 @@ L198:;
     else { v71 = v599; goto L179; }
 L199:;
     v601 = (address)v270;
-    f124(v601, v271, v98);
+    f122(v601, v271, v98);
     goto L214;
 L200:;
     v602 = v271 < 8u;
@@ -29401,28 +29254,28 @@ L201:;
     v77 = v271; v78 = v603; goto L202;
 L202:;
     v604 = load8(v78);
-    f125(v604, v98);
+    f123(v604, v98);
     v605 = v78 + 1u * 1u;
     v606 = load8(v605);
-    f125(v606, v98);
+    f123(v606, v98);
     v607 = v78 + 2u * 1u;
     v608 = load8(v607);
-    f125(v608, v98);
+    f123(v608, v98);
     v609 = v78 + 3u * 1u;
     v610 = load8(v609);
-    f125(v610, v98);
+    f123(v610, v98);
     v611 = v78 + 4u * 1u;
     v612 = load8(v611);
-    f125(v612, v98);
+    f123(v612, v98);
     v613 = v78 + 5u * 1u;
     v614 = load8(v613);
-    f125(v614, v98);
+    f123(v614, v98);
     v615 = v78 + 6u * 1u;
     v616 = load8(v615);
-    f125(v616, v98);
+    f123(v616, v98);
     v617 = v78 + 7u * 1u;
     v618 = load8(v617);
-    f125(v618, v98);
+    f123(v618, v98);
     v619 = v78 + 8u * 1u;
     v620 = (u64)((u64)v77 + (u64)UINT64_C(18446744073709551608));
     v621 = v620 > 7u;
@@ -29449,7 +29302,7 @@ L205:;
     if (v632) { goto L206; }
     else { v79 = v629; v80 = v631; goto L208; }
 L206:;
-    v633 = f127(v624, 1u);
+    v633 = f125(v624, 1u);
     if (v633) { goto L207; }
     else { v81 = 1u; goto L209; }
 L207:;
@@ -29469,7 +29322,7 @@ L209:;
     v639 = (u8)v81;
     v82 = v639; goto L211;
 L210:;
-    v640 = f128(v624, ADDRESS(c316), 1u);
+    v640 = f126(v624, ADDRESS(c316), 1u);
     v82 = v640; goto L211;
 L211:;
     store8(v110, v82);
@@ -29501,7 +29354,7 @@ L217:;
     if (v651) { goto L218; }
     else { v84 = v648; v85 = v650; goto L220; }
 L218:;
-    v652 = f127(v643, 1u);
+    v652 = f125(v643, 1u);
     if (v652) { goto L219; }
     else { v86 = 1u; goto L221; }
 L219:;
@@ -29521,7 +29374,7 @@ L221:;
     v658 = (u8)v86;
     v87 = v658; goto L223;
 L222:;
-    v659 = f128(v643, ADDRESS(c314), 1u);
+    v659 = f126(v643, ADDRESS(c314), 1u);
     v87 = v659; goto L223;
 L223:;
     store8(v110, v87);
@@ -29560,7 +29413,7 @@ L229:;
     return;
 }
 
-static void f124(address a0, u64 a1, address a2) {
+static void f122(address a0, u64 a1, address a2) {
     u64 v3, v4, v7, v14, v17, v19, v22, v23, v24, v31;
     u8 v5, v6, v8, v10, v11, v15, v20, v21, v27, v28, v30, v32;
     address v9, v12, v13, v16, v18, v25, v26, v29;
@@ -29589,7 +29442,7 @@ L3:;
     if (v20) { goto L4; }
     else { v3 = v17; v4 = v19; goto L6; }
 L4:;
-    v21 = f127(v12, 1u);
+    v21 = f125(v12, 1u);
     if (v21) { goto L5; }
     else { v5 = 1u; goto L7; }
 L5:;
@@ -29609,7 +29462,7 @@ L7:;
     v27 = (u8)v5;
     v6 = v27; goto L9;
 L8:;
-    v28 = f128(v12, ADDRESS(c315), 1u);
+    v28 = f126(v12, ADDRESS(c315), 1u);
     v6 = v28; goto L9;
 L9:;
     store8(v9, v6);
@@ -29617,7 +29470,7 @@ L9:;
 L10:;
     v29 = a0 + v7 * 1u;
     v30 = load8(v29);
-    f125(v30, a2);
+    f123(v30, a2);
     v31 = (u64)((u64)v7 + (u64)1u);
     v32 = v31 == a1;
     if (v32) { goto L11; }
@@ -29626,7 +29479,7 @@ L11:;
     return;
 }
 
-static void f125(u8 a0, address a1) {
+static void f123(u8 a0, address a1) {
     u8 v2, v3, v7, v8, v9, v10, v11, v12, v13, v17, v18, v19, v20, v21, v22, v23;
     u8 v24, v25, v29, v30, v31;
     address v4, v5, v6, v14, v15, v26, v27;
@@ -29655,10 +29508,10 @@ L1:;
     if (v17) { goto L2; }
     else { goto L3; }
 L2:;
-    v18 = f126(v14, v5, 1u);
+    v18 = f124(v14, v5, 1u);
     v2 = v18; goto L4;
 L3:;
-    v19 = f128(v14, v5, 1u);
+    v19 = f126(v14, v5, 1u);
     v2 = v19; goto L4;
 L4:;
     store8(v6, v2);
@@ -29680,10 +29533,10 @@ L5:;
     if (v29) { goto L6; }
     else { goto L7; }
 L6:;
-    v30 = f126(v26, v4, 1u);
+    v30 = f124(v26, v4, 1u);
     v3 = v30; goto L8;
 L7:;
-    v31 = f128(v26, v4, 1u);
+    v31 = f126(v26, v4, 1u);
     v3 = v31; goto L8;
 L8:;
     store8(v6, v3);
@@ -29692,7 +29545,7 @@ L9:;
     return;
 }
 
-static u8 f126(address a0, address a1, u64 a2) {
+static u8 f124(address a0, address a1, u64 a2) {
     u64 v3, v4, v5, v6, v7, v15, v27, v41, v51, v54, v56, v57, v60, v61, v62, v65;
     u64 v66, v67, v72;
     u8 v8, v9, v10, v12, v14, v16, v18, v19, v20, v21, v23, v24, v25, v26, v28, v30;
@@ -29797,7 +29650,7 @@ L15:;
     if (v58) { goto L16; }
     else { v5 = v54; v6 = v56; goto L18; }
 L16:;
-    v59 = f127(a0, a2);
+    v59 = f125(a0, a2);
     if (v59) { goto L17; }
     else { v8 = 1u; goto L22; }
 L17:;
@@ -29839,7 +29692,7 @@ L23:;
     return v9;
 }
 
-static u8 f127(address a0, u64 a1) {
+static u8 f125(address a0, u64 a1) {
     u8 v2, v7, v12, v16, v17, v21, v25;
     struct pair v3, v19, v22, v23;
     address v4, v8, v18, v27;
@@ -29890,7 +29743,7 @@ L6:;
     v2 = 1u; goto L1;
 }
 
-static u8 f128(address a0, address a1, u64 a2) {
+static u8 f126(address a0, address a1, u64 a2) {
     u64 v3, v4, v5, v6, v7, v15, v17, v18, v23, v25, v33, v34, v41, v43;
     u8 v8, v9, v13, v14, v16, v20, v21, v22, v24, v26, v27, v28, v29, v30, v31, v32;
     u8 v36, v38, v39, v42, v44, v45, v46, v47;
@@ -29933,13 +29786,13 @@ L6:;
     if (v26) { goto L8; }
     else { v5 = v25; goto L7; }
 L7:;
-    v27 = f126(a0, ADDRESS(c339), 4u);
+    v27 = f124(a0, ADDRESS(c339), 4u);
     v28 = (u8)((v27) & UINT64_C(1));
     if (v28) { v8 = 1u; goto L16; }
     else { goto L6; }
 L8:;
     store8(v10, 1u);
-    v29 = f126(a0, v19, v17);
+    v29 = f124(a0, v19, v17);
     v30 = (u8)((v29) & UINT64_C(1));
     if (v30) { v8 = 1u; goto L16; }
     else { v6 = v15; goto L9; }
@@ -29973,19 +29826,19 @@ L13:;
     if (v44) { goto L15; }
     else { v7 = v43; goto L14; }
 L14:;
-    v45 = f126(a0, ADDRESS(c339), 4u);
+    v45 = f124(a0, ADDRESS(c339), 4u);
     v46 = (u8)((v45) & UINT64_C(1));
     if (v46) { v8 = 1u; goto L16; }
     else { goto L13; }
 L15:;
     store8(v37, 0u);
-    v47 = f126(a0, v35, v33);
+    v47 = f124(a0, v35, v33);
     v8 = v47; goto L16;
 L16:;
     return v8;
 }
 
-static void f129(u64 a0, address a1) {
+static void f127(u64 a0, address a1) {
     u64 v2, v3, v4, v5, v6, v7, v8, v13, v14, v15, v16, v22, v30, v32, v44, v46;
     u64 v47, v59, v70, v72, v74, v82, v88, v91, v93, v94, v97, v98, v99;
     u8 v9, v10, v12, v24, v26, v34, v36, v39, v40, v41, v42, v43, v49, v51, v61, v63;
@@ -30125,7 +29978,7 @@ L11:;
     if (v95) { goto L12; }
     else { v7 = v91; v8 = v93; goto L14; }
 L12:;
-    v96 = f127(v86, v82);
+    v96 = f125(v86, v82);
     if (v96) { goto L13; }
     else { v9 = 1u; goto L15; }
 L13:;
@@ -30145,7 +29998,7 @@ L15:;
     v102 = (u8)v9;
     v10 = v102; goto L17;
 L16:;
-    v103 = f128(v86, v81, v82);
+    v103 = f126(v86, v81, v82);
     v10 = v103; goto L17;
 L17:;
     store8(v83, v10);
@@ -30154,7 +30007,7 @@ L18:;
     return;
 }
 
-static void f130(address a0, u64 a1) {
+static void f128(address a0, u64 a1) {
     u64 v2, v3, v4, v5, v6, v8, v10, v12, v14, v15, v16, v18, v20, v22, v48, v61;
     u64 v62, v63, v65, v69, v71, v74, v78, v82, v85, v87, v90, v92, v100, v101, v121, v125;
     u64 v137, v138, v141, v147, v159, v163, v186, v188, v190, v192, v195, v197, v200, v205, v208, v210;
@@ -30284,7 +30137,7 @@ L9:;
     store16(v57, 1u);
     v76 = (u16)(v3);
     store16(v58, v76);
-    v77 = f112(v56, v44);
+    v77 = f110(v56, v44);
     if (v77) { v5 = v2; goto L20; }
     else { goto L10; }
 L10:;
@@ -30377,7 +30230,7 @@ L23:;
     v114 = v43 + 18u * 1u;
     store16(v114, 65535u);
     v115 = a0 + 8u * 1u;
-    v116 = f112(v115, v43);
+    v116 = f110(v115, v43);
     if (v116) { goto L24; }
     else { goto L27; }
 L24:;
@@ -30389,7 +30242,7 @@ L24:;
     v119 = load_address(v118);
     v120 = a0 + 192u * 1u;
     v121 = load64(v120);
-    f111(v42, v115, v41, ADDRESS(c148), 0u, ADDRESS(c148), 0u, v119, v121);
+    f109(v42, v115, v41, ADDRESS(c148), 0u, ADDRESS(c148), 0u, v119, v121);
     v122 = load8(v42);
     v123 = v122 == 0u;
     if (v123) { goto L25; }
@@ -30467,7 +30320,7 @@ L35:;
     v152 = v40 + 18u * 1u;
     store16(v152, v149);
     v153 = a0 + 8u * 1u;
-    v154 = f112(v153, v40);
+    v154 = f110(v153, v40);
     if (v154) { goto L36; }
     else { goto L39; }
 L36:;
@@ -30479,7 +30332,7 @@ L36:;
     v157 = load_address(v156);
     v158 = a0 + 192u * 1u;
     v159 = load64(v158);
-    f111(v39, v153, v38, ADDRESS(c148), 0u, ADDRESS(c148), 0u, v157, v159);
+    f109(v39, v153, v38, ADDRESS(c148), 0u, ADDRESS(c148), 0u, v157, v159);
     v160 = load8(v39);
     v161 = v160 == 0u;
     if (v161) { goto L37; }
@@ -30529,7 +30382,7 @@ L42:;
     store8(v37, 2u);
     v182 = (u16)(v8);
     store16(v179, v182);
-    v183 = f112(v178, v37);
+    v183 = f110(v178, v37);
     if (v183) { goto L43; }
     else { goto L50; }
 L43:;
@@ -30622,11 +30475,11 @@ L57:;
     store8(v36, 4u);
     v226 = v36 + 18u * 1u;
     store16(v226, 65535u);
-    v227 = f112(v225, v36);
+    v227 = f110(v225, v36);
     if (v227) { goto L58; }
     else { goto L59; }
 L58:;
-    f131(a0, a1);
+    f129(a0, a1);
     goto L19;
 L59:;
     v228 = a0 + 172u * 1u;
@@ -30747,7 +30600,7 @@ L76:;
     store8(v35, 2u);
     v286 = (u16)(v16);
     store16(v283, v286);
-    v287 = f112(v282, v35);
+    v287 = f110(v282, v35);
     if (v287) { goto L77; }
     else { goto L84; }
 L77:;
@@ -30840,7 +30693,7 @@ L91:;
     store8(v34, 4u);
     v330 = v34 + 18u * 1u;
     store16(v330, 65535u);
-    v331 = f112(v329, v34);
+    v331 = f110(v329, v34);
     if (v331) { goto L98; }
     else { goto L92; }
 L92:;
@@ -30852,7 +30705,7 @@ L92:;
     store8(v333, 7u);
     v334 = v33 + 18u * 1u;
     store16(v334, 65535u);
-    v335 = f112(v329, v33);
+    v335 = f110(v329, v33);
     if (v335) { goto L93; }
     else { goto L96; }
 L93:;
@@ -30864,7 +30717,7 @@ L93:;
     v338 = load_address(v337);
     v339 = a0 + 192u * 1u;
     v340 = load64(v339);
-    f111(v32, v329, v31, ADDRESS(c148), 0u, ADDRESS(c148), 0u, v338, v340);
+    f109(v32, v329, v31, ADDRESS(c148), 0u, ADDRESS(c148), 0u, v338, v340);
     v341 = load8(v32);
     v342 = v341 == 0u;
     if (v342) { goto L94; }
@@ -30914,7 +30767,7 @@ L99:;
     store8(v359, 3u);
     v360 = v30 + 18u * 1u;
     store16(v360, 65535u);
-    v361 = f112(v329, v30);
+    v361 = f110(v329, v30);
     if (v361) { goto L100; }
     else { goto L103; }
 L100:;
@@ -30926,7 +30779,7 @@ L100:;
     v364 = load_address(v363);
     v365 = a0 + 192u * 1u;
     v366 = load64(v365);
-    f111(v29, v329, v28, ADDRESS(c148), 0u, ADDRESS(c148), 0u, v364, v366);
+    f109(v29, v329, v28, ADDRESS(c148), 0u, ADDRESS(c148), 0u, v364, v366);
     v367 = load8(v29);
     v368 = v367 == 0u;
     if (v368) { goto L101; }
@@ -30962,7 +30815,7 @@ L103:;
 L104:;
     goto L19;
 L105:;
-    f131(a0, a1);
+    f129(a0, a1);
     goto L19;
 L106:;
     v381 = a0 + 104u * 1u;
@@ -31007,7 +30860,7 @@ L112:;
     v400 = v27 + 18u * 1u;
     store16(v400, v397);
     v401 = a0 + 8u * 1u;
-    v402 = f112(v401, v27);
+    v402 = f110(v401, v27);
     v403 = (u16)v24;
     if (v402) { goto L113; }
     else { goto L116; }
@@ -31020,7 +30873,7 @@ L113:;
     v406 = load_address(v405);
     v407 = a0 + 192u * 1u;
     v408 = load64(v407);
-    f111(v26, v401, v25, ADDRESS(c148), 0u, ADDRESS(c148), 0u, v406, v408);
+    f109(v26, v401, v25, ADDRESS(c148), 0u, ADDRESS(c148), 0u, v406, v408);
     v409 = load8(v26);
     v410 = v409 == 0u;
     if (v410) { goto L114; }
@@ -31071,7 +30924,7 @@ L119:;
     UNREACHABLE;
 }
 
-static void f131(address a0, u64 a1) {
+static void f129(address a0, u64 a1) {
     address v2, v3, v4, v5, v9, v10, v11, v13, v14, v15, v16, v20, v22, v23, v24, v25;
     address v26, v27, v28, v29, v30, v31, v32, v33, v34, v35;
     u64 v6, v7, v17, v21;
@@ -31096,7 +30949,7 @@ L1:;
     v10 = v4 + 18u * 1u;
     store16(v10, 65535u);
     v11 = a0 + 8u * 1u;
-    v12 = f112(v11, v4);
+    v12 = f110(v11, v4);
     if (v12) { goto L2; }
     else { goto L5; }
 L2:;
@@ -31108,7 +30961,7 @@ L2:;
     v15 = load_address(v14);
     v16 = a0 + 192u * 1u;
     v17 = load64(v16);
-    f111(v3, v11, v2, ADDRESS(c148), 0u, ADDRESS(c148), 0u, v15, v17);
+    f109(v3, v11, v2, ADDRESS(c148), 0u, ADDRESS(c148), 0u, v15, v17);
     v18 = load8(v3);
     v19 = v18 == 0u;
     if (v19) { goto L3; }
@@ -31157,7 +31010,7 @@ L8:;
     return;
 }
 
-static void f132(address a0, address a1, u64 a2) {
+static void f130(address a0, address a1, u64 a2) {
     u16 v3, v6, v9, v10, v12, v13, v56, v57, v58, v59, v64, v65, v66, v67, v75, v76;
     u16 v77, v78, v102, v103, v105, v106;
     address v4, v14, v19, v24, v26, v28, v30, v32, v34, v36, v38, v40, v42, v44, v46, v52;
@@ -31302,7 +31155,7 @@ L8:;
     return;
 }
 
-static void f133(address a0, u16 a1, u8 a2) {
+static void f131(address a0, u16 a1, u8 a2) {
     u64 v3, v6, v10, v11, v14, v15, v19, v24, v26, v29, v31, v38, v43, v45, v48, v50;
     u64 v57, v61, v64;
     u8 v4, v8, v12, v16, v22, v30, v32, v35, v36, v37, v39, v41, v49, v51, v54, v55;
@@ -31444,7 +31297,7 @@ L22:;
     return;
 }
 
-static void f134(address a0, u64 a1, u8 a2, u16 a3, address a4, u64 a5) {
+static void f132(address a0, u64 a1, u8 a2, u16 a3, address a4, u64 a5) {
     u16 v6, v8, v10, v12, v17, v19, v20, v22, v42, v63, v102, v133, v139, v185, v215, v235;
     u16 v240, v259, v291, v310;
     u64 v7, v9, v11, v13, v14, v21, v23, v46, v47, v51, v53, v57, v59, v61, v64, v66;
@@ -31591,7 +31444,7 @@ L10:;
     store8(v76, 1u);
     goto L11;
 L11:;
-    f130(a0, a1);
+    f128(a0, a1);
     goto L90;
 L12:;
     store16(v39, 13u);
@@ -31661,7 +31514,7 @@ L21:;
     store8(v111, 1u);
     goto L22;
 L22:;
-    f130(a0, a1);
+    f128(a0, a1);
     goto L90;
 L23:;
     memory_set(v38, 0u, 32u);
@@ -31673,7 +31526,7 @@ L23:;
     v114 = v38 + 18u * 1u;
     store16(v114, v42);
     v115 = a0 + 8u * 1u;
-    v116 = f112(v115, v38);
+    v116 = f110(v115, v38);
     if (v116) { goto L24; }
     else { goto L27; }
 L24:;
@@ -31685,7 +31538,7 @@ L24:;
     v119 = load_address(v118);
     v120 = a0 + 192u * 1u;
     v121 = load64(v120);
-    f111(v37, v115, v36, ADDRESS(c148), 0u, ADDRESS(c148), 0u, v119, v121);
+    f109(v37, v115, v36, ADDRESS(c148), 0u, ADDRESS(c148), 0u, v119, v121);
     v122 = load8(v37);
     v123 = v122 == 0u;
     if (v123) { goto L25; }
@@ -31754,7 +31607,7 @@ L33:;
     v143 = v35 + 18u * 1u;
     store16(v143, 65535u);
     v144 = a0 + 8u * 1u;
-    v145 = f112(v144, v35);
+    v145 = f110(v144, v35);
     if (v145) { goto L34; }
     else { goto L37; }
 L34:;
@@ -31766,7 +31619,7 @@ L34:;
     v148 = load_address(v147);
     v149 = a0 + 192u * 1u;
     v150 = load64(v149);
-    f111(v34, v144, v33, ADDRESS(c148), 0u, ADDRESS(c148), 0u, v148, v150);
+    f109(v34, v144, v33, ADDRESS(c148), 0u, ADDRESS(c148), 0u, v148, v150);
     v151 = load8(v34);
     v152 = v151 == 0u;
     if (v152) { goto L35; }
@@ -31817,7 +31670,7 @@ L40:;
     v166 = v32 + 18u * 1u;
     store16(v166, v133);
     v167 = a0 + 8u * 1u;
-    v168 = f112(v167, v32);
+    v168 = f110(v167, v32);
     if (v168) { goto L41; }
     else { goto L44; }
 L41:;
@@ -31829,7 +31682,7 @@ L41:;
     v171 = load_address(v170);
     v172 = a0 + 192u * 1u;
     v173 = load64(v172);
-    f111(v31, v167, v30, ADDRESS(c148), 0u, ADDRESS(c148), 0u, v171, v173);
+    f109(v31, v167, v30, ADDRESS(c148), 0u, ADDRESS(c148), 0u, v171, v173);
     v174 = load8(v31);
     v175 = v174 == 0u;
     if (v175) { goto L42; }
@@ -31891,7 +31744,7 @@ L47:;
     v194 = load_address(v193);
     v195 = a0 + 192u * 1u;
     v196 = load64(v195);
-    f111(v29, v192, v28, ADDRESS(c148), 0u, ADDRESS(c148), 0u, v194, v196);
+    f109(v29, v192, v28, ADDRESS(c148), 0u, ADDRESS(c148), 0u, v194, v196);
     v197 = load8(v29);
     v198 = v197 == 0u;
     if (v198) { goto L48; }
@@ -31926,7 +31779,7 @@ L51:;
     v213 = load8(v212);
     v15 = v213; goto L52;
 L52:;
-    f135(a0, a1, v185, v15);
+    f133(a0, a1, v185, v15);
     goto L90;
 L53:;
     v214 = a5 < 258u ? a5 : 258u;
@@ -31961,7 +31814,7 @@ L56:;
     v224 = load_address(v223);
     v225 = a0 + 192u * 1u;
     v226 = load64(v225);
-    f111(v27, v222, v26, a4, v214, ADDRESS(c148), 0u, v224, v226);
+    f109(v27, v222, v26, a4, v214, ADDRESS(c148), 0u, v224, v226);
     v227 = load8(v27);
     v228 = v227 == 0u;
     if (v228) { goto L57; }
@@ -31991,7 +31844,7 @@ L60:;
     else { goto L62; }
 L61:;
     v238 = load8(v236);
-    f135(a0, a1, v235, v238);
+    f133(a0, a1, v235, v238);
     goto L90;
 L62:;
     v239 = a5 < 258u ? a5 : 258u;
@@ -32026,7 +31879,7 @@ L65:;
     v249 = load_address(v248);
     v250 = a0 + 192u * 1u;
     v251 = load64(v250);
-    f111(v25, v247, v24, a4, v239, ADDRESS(c148), 0u, v249, v251);
+    f109(v25, v247, v24, a4, v239, ADDRESS(c148), 0u, v249, v251);
     v252 = load8(v25);
     v253 = v252 == 0u;
     if (v253) { goto L66; }
@@ -32071,7 +31924,7 @@ L71:;
     store8(v271, 1u);
     goto L72;
 L72:;
-    f130(a0, a1);
+    f128(a0, a1);
     goto L90;
 L73:;
     store16(v39, 13u);
@@ -32174,7 +32027,7 @@ L86:;
     store8(v323, 1u);
     goto L87;
 L87:;
-    f130(a0, a1);
+    f128(a0, a1);
     goto L90;
 L88:;
     store16(v39, 13u);
@@ -32195,7 +32048,7 @@ L91:;
     UNREACHABLE;
 }
 
-static void f135(address a0, u64 a1, u16 a2, u8 a3) {
+static void f133(address a0, u64 a1, u16 a2, u8 a3) {
     u16 v4, v6, v17, v41;
     u64 v5, v7, v11, v12, v14, v20, v31, v35, v37, v39, v42, v44, v48, v52;
     address v8, v9, v10, v15, v16, v19, v22, v23, v26, v27, v28, v29, v30, v32, v33, v34;
@@ -32287,7 +32140,7 @@ L11:;
     store8(v54, 1u);
     goto L12;
 L12:;
-    f130(a0, a1);
+    f128(a0, a1);
     goto L14;
 L13:;
     v55 = a0 + 172u * 1u;
@@ -32305,7 +32158,7 @@ L14:;
     return;
 }
 
-static u8 f136(address a0) {
+static u8 f134(address a0) {
     u64 v1, v6, v11, v13, v15, v16, v18, v20, v24, v25, v27, v29, v32, v34, v38, v40;
     u64 v41, v43, v45, v49, v50, v52, v54, v57, v59;
     struct pair v2, v3, v26, v30, v31, v51, v55, v56;
@@ -32318,7 +32171,7 @@ static u8 f136(address a0) {
     else { v1 = v6; goto L3; }
 L1:;
     v8 = a0 + 48u * 1u;
-    v9 = f137(v8);
+    v9 = f135(v8);
     v10 = (u8)((v9) & UINT64_C(1));
     if (v10) { v4 = 1u; goto L17; }
     else { goto L2; }
@@ -32422,7 +32275,7 @@ L17:;
     return v4;
 }
 
-static u8 f137(address a0) {
+static u8 f135(address a0) {
     u64 v1, v2, v3, v5, v7, v8, v9, v10, v12, v13, v14, v15, v19, v22, v23, v24;
     u64 v25, v32, v34, v35, v36, v39, v40, v47, v118, v119, v121, v124, v127, v128, v131, v133;
     u64 v134, v135, v136, v138, v139, v141, v142, v144, v150, v151, v153, v155, v158, v160, v162, v163;
@@ -32747,7 +32600,7 @@ L30:;
     if (v190) { goto L31; }
     else { v9 = v7; v10 = 0u; goto L33; }
 L31:;
-    v191 = f138(a0, v3);
+    v191 = f136(a0, v3);
     if (v191) { goto L32; }
     else { goto L36; }
 L32:;
@@ -32938,7 +32791,7 @@ L44:;
     return v16;
 }
 
-static u8 f138(address a0, u64 a1) {
+static u8 f136(address a0, u64 a1) {
     u8 v2, v7, v12, v16, v17, v23, v28;
     struct pair v3, v21, v25, v26;
     address v4, v8, v18, v30;
@@ -32992,7 +32845,7 @@ L6:;
     v2 = 1u; goto L1;
 }
 
-static void f139(address a0, address a1, u64 a2, address a3, address a4, u16 a5, u16 a6) {
+static void f137(address a0, address a1, u64 a2, address a3, address a4, u16 a5, u16 a6) {
     u8 v7, v16, v19, v24, v30, v31, v32, v36, v41, v53, v54, v55, v57, v58, v59, v61;
     u8 v62, v63, v65, v66, v67, v68, v70, v71, v73, v74, v75, v77, v78, v79, v80, v84;
     u8 v86, v90, v92, v94, v96, v98, v100, v102, v104, v106, v108, v110, v112, v114, v116, v118;
@@ -33611,7 +33464,7 @@ L50:;
     goto L37;
 }
 
-static struct s1 f140(address a0, u64 a1) {
+static struct s1 f138(address a0, u64 a1) {
     u64 v2, v3, v5, v12, v14, v23, v26, v27, v35, v36, v38;
     address v4, v6, v9, v13, v15, v17, v19, v20, v21, v22, v29, v30, v32, v39;
     u8 v7, v8, v10, v11, v18, v24, v25, v28, v34, v37, v40;
@@ -33690,7 +33543,7 @@ L10:;
     return v42;
 }
 
-static void f141(address a0, address a1, u64 a2, address a3, u64 a4, address a5, u64 a6) {
+static void f139(address a0, address a1, u64 a2, address a3, u64 a4, address a5, u64 a6) {
     u64 v7, v9, v15, v34, v38, v40, v45, v54, v57, v60;
     u8 v8, v10, v13, v16, v19, v20, v22, v24, v28, v30, v41, v42, v43, v44, v48, v55;
     u8 v58, v59, v61, v62;
@@ -33703,7 +33556,7 @@ static void f141(address a0, address a1, u64 a2, address a3, u64 a4, address a5,
     v12 = ADDRESS(block1);
     memory_set(v11, 0u, 16u);
     memory_set(v12, 0u, 7u);
-    f142(v11, a1, a2, a3, a4, a5, a6);
+    f140(v11, a1, a2, a3, a4, a5, a6);
     v13 = load8(v11);
     v14 = v11 + 8u * 1u;
     v15 = load64(v14);
@@ -33712,7 +33565,7 @@ static void f141(address a0, address a1, u64 a2, address a3, u64 a4, address a5,
     else { goto L3; }
 L1:;
     v17 = (address)v15;
-    v18 = f152(a5, a6, v17);
+    v18 = f149(a5, a6, v17);
     v19 = v18.m0;
     v20 = v19 == 0u;
     if (v20) { goto L4; }
@@ -33819,7 +33672,7 @@ L16:;
     goto L2;
 }
 
-static void f142(address a0, address a1, u64 a2, address a3, u64 a4, address a5, u64 a6) {
+static void f140(address a0, address a1, u64 a2, address a3, u64 a4, address a5, u64 a6) {
     u8 v7, v8, v9, v10, v11, v19, v20, v21, v23, v24, v25, v26, v28, v29, v30, v32;
     u8 v33, v34, v36, v37, v38, v39, v41, v42, v44, v45, v47, v48, v49, v50, v52, v54;
     u8 v55, v60, v62, v63, v65, v68, v69, v70, v78, v79, v82, v84, v87, v88, v89;
@@ -33843,7 +33696,7 @@ static void f142(address a0, address a1, u64 a2, address a3, u64 a4, address a5,
     memory_set(v15, 0u, 48u);
     f25(v14);
     memory_cpy(v13, v14, 384u);
-    v18 = f140(a3, a4);
+    v18 = f138(a3, a4);
     v19 = v18.m0;
     v20 = v19 == 1u;
     if (v20) { goto L1; }
@@ -33894,7 +33747,7 @@ L7:;
     if (v45) { goto L8; }
     else { v7 = 2u; v8 = 2u; goto L13; }
 L8:;
-    v46 = f143(a5, a6, v13);
+    v46 = f141(a5, a6, v13);
     v47 = v46.m0;
     v48 = v47 == 0u;
     if (v48) { goto L9; }
@@ -33923,7 +33776,7 @@ L11:;
 L12:;
     store64(v16, v22);
     v61 = (u16)(v58);
-    f150(v15, v16, v61, a3, a4);
+    f147(v15, v16, v61, a3, a4);
     v62 = load8(v15);
     v63 = v62 == 0u;
     if (v63) { goto L16; }
@@ -33955,7 +33808,7 @@ L15:;
 L16:;
     v76 = v15 + 8u * 1u;
     memory_cpy(v17, v13, 384u);
-    v77 = f151(v17, v76);
+    v77 = f148(v17, v76);
     v78 = v77.m0;
     v79 = v78 == 0u;
     v80 = v77.m1;
@@ -33979,7 +33832,7 @@ L18:;
     v9 = 1u; v10 = 3u; v11 = 0u; v12 = 0u; goto L15;
 }
 
-static struct s1 f143(address a0, u64 a1, address a2) {
+static struct s1 f141(address a0, u64 a1, address a2) {
     u8 v3, v4, v6, v9, v12, v14, v19, v22, v25, v30, v35, v36, v37, v38, v40, v41;
     u8 v47, v48, v49, v50, v51, v52, v53;
     address v5, v7, v10, v15, v16, v26, v27, v31, v32, v33, v39, v43;
@@ -34035,7 +33888,7 @@ L5:;
     store_address(v32, v27);
     v33 = v5 + 16u * 1u;
     store64(v33, v29);
-    v34 = f144(a0, a1, a2);
+    v34 = f142(a0, a1, a2);
     v35 = v34.m0;
     v36 = v35 == 0u;
     if (v36) { goto L6; }
@@ -34053,7 +33906,7 @@ L7:;
     v43 = a2 + v42 * 1u;
     v44 = load64(v43);
     v45 = (u16)(v44);
-    v46 = f145(v5, v45);
+    v46 = f143(v5, v45);
     v47 = v46.m0;
     v48 = v46.m1;
     v49 = v47 != 0u;
@@ -34070,7 +33923,7 @@ L8:;
     return v55;
 }
 
-static struct s1 f144(address a0, u64 a1, address a2) {
+static struct s1 f142(address a0, u64 a1, address a2) {
     u8 v3, v4, v5, v6, v8, v12, v14, v16, v17, v29, v30, v32, v33, v34, v36, v37;
     u8 v38, v40, v41, v42, v43, v45, v46, v47, v48, v49, v50, v51, v52, v53;
     address v7, v9, v18, v19, v20, v21, v22, v23, v24, v25, v26, v27, v28, v31, v35, v39;
@@ -34137,7 +33990,7 @@ L3:;
     if (v43) { goto L4; }
     else { v5 = 0u; v6 = 0u; goto L9; }
 L4:;
-    v44 = f83(a2, v9, v10);
+    v44 = f81(a2, v9, v10);
     v45 = v44.m0;
     v46 = v45 == 0u;
     if (v46) { goto L5; }
@@ -34148,7 +34001,7 @@ L5:;
     if (v48) { goto L6; }
     else { v3 = 0u; goto L7; }
 L6:;
-    v49 = f88(a2, v9, v10);
+    v49 = f86(a2, v9, v10);
     v3 = v49; goto L7;
 L7:;
     v50 = (u8)v3;
@@ -34166,189 +34019,95 @@ L9:;
     return v55;
 }
 
-static struct s1 f145(address a0, u16 a1) {
-    u8 v2, v5, v6, v8, v12, v13, v16, v17, v18, v20;
-    address v3, v4, v7, v9, v11, v14, v19;
-    u64 v10, v15;
-    struct s1 v21, v22;
+static struct s1 f143(address a0, u16 a1) {
+    u8 v2, v3, v22, v27, v32, v33, v36, v37, v38, v40;
+    address v4, v5, v6, v7, v8, v9, v10, v11, v12, v13, v14, v15, v16, v17, v18, v19;
+    address v20, v21, v29, v30, v31, v34, v39;
+    u64 v23, v24, v26, v28, v35;
+    struct pair v25;
+    struct s1 v41, v42;
     u64 block0[162];
-    u64 block1[163];
-    v3 = ADDRESS(block0);
-    v4 = ADDRESS(block1);
-    memory_set(v4, 0u, 1304u);
-    f146(v4, a1);
-    v5 = load8(v4);
-    v6 = v5 == 0u;
-    if (v6) { goto L1; }
-    else { v2 = 0u; goto L3; }
-L1:;
-    v7 = v4 + 8u * 1u;
-    v8 = load8(v7);
-    v9 = v4 + 16u * 1u;
-    v10 = (u64)v8;
-    store64(v3, v10);
-    v11 = v3 + 8u * 1u;
-    memory_cpy(v11, v9, 1288u);
-    v12 = f147(a0, v3);
-    v13 = load8(v3);
-    v14 = v3 + 24u * 1u;
-    v15 = load64(v14);
-    v16 = v13 != 1u;
-    v17 = v15 == 0u;
-    v18 = v16 ? 1u : v17;
-    if (v18) { v2 = v12; goto L3; }
-    else { goto L2; }
-L2:;
-    v19 = load_address(v11);
-    portable_rattle_dealloc(v19);
-    v2 = v12; goto L3;
-L3:;
-    v20 = (u8)v2;
-    v21 = (struct s1){ 0 };
-    v21.m0 = v5;
-    v22 = v21;
-    v22.m1 = v20;
-    return v22;
-}
-
-static void f146(address a0, u16 a1) {
-    u64 v2, v3, v4, v31, v32, v34, v38;
-    address v5, v6, v7, v8, v9, v10, v11, v12, v14, v15, v16, v17, v18, v19, v20, v21;
-    address v22, v23, v24, v25, v26, v27, v28, v29, v30, v39, v40, v41, v42, v43, v44, v45;
-    address v46, v47, v48, v49, v50, v51, v52, v53, v54, v55, v56, v57;
-    u8 v13, v35, v36, v37;
-    struct pair v33;
-    u64 block0[18];
-    u64 block1[20];
-    u64 block2[20];
-    u64 block3[20];
-    u64 block4[20];
-    u64 block5[20];
-    u64 block6[20];
-    u64 block7[20];
-    v5 = ADDRESS(block0);
-    v6 = ADDRESS(block1);
-    v7 = ADDRESS(block2);
-    v8 = ADDRESS(block3);
-    v9 = ADDRESS(block4);
-    v10 = ADDRESS(block5);
-    v11 = ADDRESS(block6);
-    v12 = ADDRESS(block7);
-    memory_set(v5, 0u, 144u);
+    v4 = ADDRESS(block0);
+    v5 = v4 + 17u * 1u;
+    memory_set(v5, 0u, 159u);
+    v6 = v4 + 177u * 1u;
     memory_set(v6, 0u, 159u);
+    v7 = v4 + 337u * 1u;
     memory_set(v7, 0u, 159u);
+    v8 = v4 + 497u * 1u;
     memory_set(v8, 0u, 159u);
+    v9 = v4 + 657u * 1u;
     memory_set(v9, 0u, 159u);
+    v10 = v4 + 817u * 1u;
     memory_set(v10, 0u, 159u);
+    v11 = v4 + 977u * 1u;
     memory_set(v11, 0u, 159u);
+    v12 = v4 + 1137u * 1u;
     memory_set(v12, 0u, 159u);
-    v13 = a1 < 9u;
-    if (v13) { goto L2; }
+    v13 = v4 + 8u * 1u;
+    v14 = v4 + 16u * 1u;
+    memory_set(v4, 0u, 16u);
+    store8(v14, 1u);
+    v15 = v4 + 176u * 1u;
+    store8(v15, 1u);
+    v16 = v4 + 336u * 1u;
+    store8(v16, 1u);
+    v17 = v4 + 496u * 1u;
+    store8(v17, 1u);
+    v18 = v4 + 656u * 1u;
+    store8(v18, 1u);
+    v19 = v4 + 816u * 1u;
+    store8(v19, 1u);
+    v20 = v4 + 976u * 1u;
+    store8(v20, 1u);
+    v21 = v4 + 1136u * 1u;
+    store8(v21, 1u);
+    v22 = a1 > 8u;
+    if (v22) { goto L1; }
     else { goto L3; }
 L1:;
-    return;
+    v23 = (u64)a1;
+    v24 = (u64)((u64)v23 * (u64)160u);
+    v25 = portable_rattle_alloc(v24, 8u);
+    v26 = v25.m0;
+    v27 = (u8)((v26) & UINT64_C(1));
+    if (v27) { goto L2; }
+    else { v2 = 0u; v3 = 1u; goto L5; }
 L2:;
-    store8(a0, 0u);
-    v14 = a0 + 8u * 1u;
-    v15 = a0 + 24u * 1u;
-    memory_set(v14, 0u, 16u);
-    store64(v15, 1u);
-    v16 = a0 + 32u * 1u;
-    v17 = a0 + 184u * 1u;
-    memory_set(v16, 0u, 152u);
-    store8(v17, 1u);
-    v18 = a0 + 185u * 1u;
-    memory_set(v18, 0u, 159u);
-    v19 = a0 + 344u * 1u;
-    store8(v19, 1u);
-    v20 = a0 + 345u * 1u;
-    memory_set(v20, 0u, 159u);
-    v21 = a0 + 504u * 1u;
-    store8(v21, 1u);
-    v22 = a0 + 505u * 1u;
-    memory_set(v22, 0u, 159u);
-    v23 = a0 + 664u * 1u;
-    store8(v23, 1u);
-    v24 = a0 + 665u * 1u;
-    memory_set(v24, 0u, 159u);
-    v25 = a0 + 824u * 1u;
-    store8(v25, 1u);
-    v26 = a0 + 825u * 1u;
-    memory_set(v26, 0u, 159u);
-    v27 = a0 + 984u * 1u;
-    store8(v27, 1u);
-    v28 = a0 + 985u * 1u;
-    memory_set(v28, 0u, 159u);
-    v29 = a0 + 1144u * 1u;
-    store8(v29, 1u);
-    v30 = a0 + 1145u * 1u;
-    memory_set(v30, 0u, 159u);
-    goto L1;
+    v28 = v25.m1;
+    v29 = (address)v28;
+    v30 = v4 + 24u * 1u;
+    v31 = v4 + 32u * 1u;
+    store64(v4, 1u);
+    store_address(v13, v29);
+    store64(v14, 0u);
+    store64(v30, v23);
+    memory_set(v31, 0u, 1264u);
+    goto L3;
 L3:;
-    v31 = (u64)a1;
-    v32 = (u64)((u64)v31 * (u64)160u);
-    v33 = portable_rattle_alloc(v32, 8u);
-    v34 = v33.m0;
-    v35 = (u8)((v34) & UINT64_C(1));
-    v36 = (u8)(((u32)v35 ^ (u32)1u) & UINT64_C(1));
-    v37 = (u8)v36;
-    if (v35) { goto L4; }
-    else { v2 = 0u; v3 = 0u; v4 = 0u; goto L5; }
+    v32 = f144(a0, v4);
+    v33 = load8(v4);
+    v34 = v4 + 24u * 1u;
+    v35 = load64(v34);
+    v36 = v33 != 1u;
+    v37 = v35 == 0u;
+    v38 = v36 ? 1u : v37;
+    if (v38) { v2 = v32; v3 = 0u; goto L5; }
+    else { goto L4; }
 L4:;
-    v38 = v33.m1;
-    memory_set(v5, 0u, 144u);
-    memory_set(v6, 0u, 159u);
-    memory_set(v7, 0u, 159u);
-    memory_set(v8, 0u, 159u);
-    memory_set(v9, 0u, 159u);
-    memory_set(v10, 0u, 159u);
-    memory_set(v11, 0u, 159u);
-    memory_set(v12, 0u, 159u);
-    v2 = v38; v3 = v31; v4 = 1u; goto L5;
+    v39 = load_address(v13);
+    portable_rattle_dealloc(v39);
+    v2 = v32; v3 = 0u; goto L5;
 L5:;
-    store8(a0, v37);
-    v39 = a0 + 8u * 1u;
-    store64(v39, v4);
-    v40 = a0 + 16u * 1u;
-    store64(v40, v2);
-    v41 = a0 + 24u * 1u;
-    store64(v41, 0u);
-    v42 = a0 + 32u * 1u;
-    store64(v42, v3);
-    v43 = a0 + 40u * 1u;
-    memory_cpy(v43, v5, 144u);
-    v44 = a0 + 184u * 1u;
-    store8(v44, 0u);
-    v45 = a0 + 185u * 1u;
-    memory_cpy(v45, v6, 159u);
-    v46 = a0 + 344u * 1u;
-    store8(v46, 0u);
-    v47 = a0 + 345u * 1u;
-    memory_cpy(v47, v7, 159u);
-    v48 = a0 + 504u * 1u;
-    store8(v48, 0u);
-    v49 = a0 + 505u * 1u;
-    memory_cpy(v49, v8, 159u);
-    v50 = a0 + 664u * 1u;
-    store8(v50, 0u);
-    v51 = a0 + 665u * 1u;
-    memory_cpy(v51, v9, 159u);
-    v52 = a0 + 824u * 1u;
-    store8(v52, 0u);
-    v53 = a0 + 825u * 1u;
-    memory_cpy(v53, v10, 159u);
-    v54 = a0 + 984u * 1u;
-    store8(v54, 0u);
-    v55 = a0 + 985u * 1u;
-    memory_cpy(v55, v11, 159u);
-    v56 = a0 + 1144u * 1u;
-    store8(v56, 0u);
-    v57 = a0 + 1145u * 1u;
-    memory_cpy(v57, v12, 159u);
-    goto L1;
+    v40 = (u8)v2;
+    v41 = (struct s1){ 0 };
+    v41.m0 = v3;
+    v42 = v41;
+    v42.m1 = v40;
+    return v42;
 }
 
-static u8 f147(address a0, address a1) {
+static u8 f144(address a0, address a1) {
     u8 v2, v5, v7, v8, v9, v10, v11, v12, v13, v14, v15, v16, v19, v20, v23, v37;
     u8 v38, v40, v43, v44, v45, v46, v47, v48, v49, v50, v51, v52, v53, v54, v55, v56;
     u8 v57, v58, v59, v60, v64, v65, v66, v67, v68, v69, v70, v71, v72, v73, v74, v75;
@@ -34386,7 +34145,7 @@ L3:;
     v34 = v18 + 16u * 1u;
     v35 = v18 + 48u * 1u;
     v36 = v18 + 56u * 1u;
-    f148(v18, v25, v22, a1);
+    f145(v18, v25, v22, a1);
     v37 = load8(v18);
     v38 = v37 == 1u;
     if (v38) { goto L4; }
@@ -34409,7 +34168,7 @@ L5:;
     v50 = load8(v26);
     v3 = v41; v4 = v39; v5 = 1u; v6 = v42; v7 = v43; v8 = v44; v9 = v45; v10 = v46; v11 = v47; v12 = v48; v13 = v49; v14 = v50; goto L6;
 L6:;
-    f148(v18, v3, v4, a1);
+    f145(v18, v3, v4, a1);
     v51 = load8(v18);
     v52 = v51 == 1u;
     if (v52) { goto L7; }
@@ -34493,7 +34252,7 @@ L19:;
     v2 = v91; goto L1;
 }
 
-static void f148(address a0, address a1, u64 a2, address a3) {
+static void f145(address a0, address a1, u64 a2, address a3) {
     u8 v4, v12, v13, v18, v28, v31, v34, v38, v42, v45, v48, v51, v52, v54, v57, v60;
     u8 v63, v66, v70, v73, v76, v79, v82, v86, v89, v90, v91, v92, v93, v94, v95, v96;
     u8 v97, v98, v101, v105, v111, v114, v115, v124, v128, v131, v135, v138, v139, v141, v143, v144;
@@ -34871,7 +34630,7 @@ L50:;
 L51:;
     v186 = a3 + v21 * 1u;
     v187 = load64(v186);
-    v188 = f149(v4, v51, v22, v187);
+    v188 = f146(v4, v51, v22, v187);
     if (v188) { goto L54; }
     else { goto L55; }
 L52:;
@@ -34913,98 +34672,99 @@ L55:;
     goto L2;
 }
 
-static u8 f149(u8 a0, u8 a1, address a2, u64 a3) {
-    u64 v4, v14, v21, v25;
-    address v5, v11, v13, v18, v20, v26;
-    u8 v6, v7, v8, v9, v10, v12, v15, v16, v17, v19, v22, v23, v24, v27;
+static u8 f146(u8 a0, u8 a1, address a2, u64 a3) {
+    address v4, v9, v13, v15, v20, v22;
+    u64 v5, v10, v16, v23;
+    u8 v6, v7, v8, v11, v12, v14, v17, v18, v19, v21, v24, v25, v26, v27;
     v7 = a3 == 0u;
     if (v7) { v6 = 1u; goto L16; }
     else { goto L1; }
 L1:;
     v8 = a1 == 3u;
-    v4 = a3; v5 = a2; goto L2;
+    v4 = a2; v5 = a3; goto L2;
 L2:;
-    v9 = load8(v5);
-    v10 = v9 == 1u;
+    v9 = v4 + 160u * 1u;
+    v10 = (u64)((u64)v5 + (u64)UINT64_C(18446744073709551615));
+    v11 = load8(v4);
+    v12 = v11 == 1u;
     if (a0) { goto L3; }
     else { goto L9; }
 L3:;
-    if (v10) { goto L4; }
+    if (v12) { goto L4; }
     else { v6 = 0u; goto L16; }
 L4:;
-    v11 = v5 + 8u * 1u;
-    v12 = load8(v11);
-    switch (v12) {
+    v13 = v4 + 8u * 1u;
+    v14 = load8(v13);
+    switch (v14) {
     case 0u: goto L5;
     case 1u: goto L7;
-    case 2u: goto L15;
+    case 2u: goto L13;
     default: goto L8;
     }
 L5:;
     if (v8) { v6 = 0u; goto L16; }
     else { goto L6; }
 L6:;
-    v13 = v5 + 152u * 1u;
-    v14 = load64(v13);
-    v15 = (u8)((v14) & UINT64_C(1));
-    v16 = v14 > 26u;
-    v17 = (u8)(((u32)v16 | (u32)v15) & UINT64_C(1));
-    if (v17) { v6 = 0u; goto L16; }
-    else { goto L15; }
+    v15 = v4 + 152u * 1u;
+    v16 = load64(v15);
+    v17 = (u8)((v16) & UINT64_C(1));
+    v18 = v16 > 26u;
+    v19 = (u8)(((u32)v18 | (u32)v17) & UINT64_C(1));
+    if (v19) { v6 = 0u; goto L16; }
+    else { goto L13; }
 L7:;
-    if (v8) { goto L15; }
+    if (v8) { goto L13; }
     else { v6 = 0u; goto L16; }
 L8:;
     UNREACHABLE;
 L9:;
-    if (v10) { v6 = 0u; goto L16; }
+    if (v12) { v6 = 0u; goto L16; }
     else { goto L10; }
 L10:;
-    v18 = v5 + 8u * 1u;
-    v19 = load8(v18);
-    switch (v19) {
+    v20 = v4 + 8u * 1u;
+    v21 = load8(v20);
+    switch (v21) {
     case 0u: goto L11;
     case 1u: goto L14;
-    case 2u: goto L15;
-    default: goto L13;
+    case 2u: goto L13;
+    default: goto L15;
     }
 L11:;
     if (v8) { v6 = 0u; goto L16; }
     else { goto L12; }
 L12:;
-    v20 = v5 + 152u * 1u;
-    v21 = load64(v20);
-    v22 = (u8)((v21) & UINT64_C(1));
-    v23 = v21 > 130u;
-    v24 = (u8)(((u32)v23 | (u32)v22) & UINT64_C(1));
-    if (v24) { v6 = 0u; goto L16; }
-    else { goto L15; }
+    v22 = v4 + 152u * 1u;
+    v23 = load64(v22);
+    v24 = (u8)((v23) & UINT64_C(1));
+    v25 = v23 > 130u;
+    v26 = (u8)(((u32)v25 | (u32)v24) & UINT64_C(1));
+    if (v26) { v6 = 0u; goto L16; }
+    else { goto L13; }
 L13:;
-    UNREACHABLE;
+    v27 = v10 == 0u;
+    if (v27) { v6 = 1u; goto L16; }
+    else { v4 = v9; v5 = v10; goto L2; }
 L14:;
-    if (v8) { goto L15; }
+    if (v8) { goto L13; }
     else { v6 = 0u; goto L16; }
 L15:;
-    v25 = (u64)((u64)v4 + (u64)UINT64_C(18446744073709551615));
-    v26 = v5 + 160u * 1u;
-    v27 = v25 == 0u;
-    if (v27) { v6 = 1u; goto L16; }
-    else { v4 = v25; v5 = v26; goto L2; }
+    UNREACHABLE;
 L16:;
     return v6;
 }
 
-static void f150(address a0, address a1, u16 a2, address a3, u64 a4) {
+static void f147(address a0, address a1, u16 a2, address a3, u64 a4) {
     u64 v5, v6, v7, v8, v10, v12, v15, v18, v20, v29, v34, v37, v39, v41, v45, v52;
-    u64 v54, v57, v59, v61, v62, v65, v67, v71, v73, v75, v79, v94, v97, v106, v109, v112;
-    u8 v9, v17, v24, v30, v32, v33, v38, v44, v53, v58, v66, v72, v78, v95, v96, v100;
+    u64 v54, v57, v59, v61, v62, v63, v65, v67, v70, v72, v75, v79, v94, v97, v106, v109;
+    u64 v112;
+    u8 v9, v17, v24, v30, v32, v33, v38, v44, v53, v58, v66, v71, v78, v95, v96, v100;
     u8 v107, v110, v111, v113;
     address v11, v14, v16, v19, v21, v23, v25, v26, v27, v28, v40, v42, v43, v46, v47, v48;
-    address v49, v50, v51, v60, v68, v74, v76, v77, v80, v81, v82, v83, v84, v85, v86, v87;
-    address v88, v89, v90, v91, v92, v93, v98, v99, v101, v102, v103, v104, v105, v108, v114, v115;
-    address v116, v117, v118, v119;
+    address v49, v50, v51, v60, v68, v73, v74, v76, v77, v80, v81, v82, v83, v84, v85, v86;
+    address v87, v88, v89, v90, v91, v92, v93, v98, v99, v101, v102, v103, v104, v105, v108, v114;
+    address v115, v116, v117, v118, v119;
     u16 v13, v22, v31;
-    struct pair v35, v36, v55, v56, v63, v64, v69, v70;
+    struct pair v35, v36, v55, v56, v64, v69;
     u64 block0[1];
     u64 block1[96];
     v14 = ADDRESS(block0);
@@ -35095,10 +34855,10 @@ L10:;
     v60 = (address)v59;
     v61 = (u64)a2;
     v62 = (u64)((u64)v61 * (u64)80u);
+    v63 = (u64)((u64)v62 + (u64)UINT64_C(18446744073709551615));
     v7 = 0u; goto L11;
 L11:;
-    v63 = portable_rattle_alloc(v61, 1u);
-    v64 = v63;
+    v64 = portable_rattle_alloc(v61, 1u);
     v65 = v64.m0;
     v66 = (u8)((v65) & UINT64_C(1));
     v67 = v64.m1;
@@ -35107,17 +34867,19 @@ L11:;
     else { goto L15; }
 L12:;
     v69 = portable_rattle_alloc(v62, 1u);
-    v70 = v69;
-    v71 = v70.m0;
-    v72 = (u8)((v71) & UINT64_C(1));
-    if (v72) { goto L14; }
+    v70 = v69.m0;
+    v71 = (u8)((v70) & UINT64_C(1));
+    if (v71) { goto L14; }
     else { goto L13; }
 L13:;
     portable_rattle_dealloc(v68);
     goto L15;
 L14:;
-    v73 = v70.m1;
-    v74 = (address)v73;
+    v72 = v69.m1;
+    v73 = (address)v72;
+    memory_set(v73, 0u, v63);
+    v74 = v73 + v63 * 1u;
+    store8(v74, 0u);
     v75 = (u64)((u64)v7 * (u64)12u);
     v76 = v16 + v75 * 1u;
     v77 = v76 + 10u * 1u;
@@ -35134,9 +34896,9 @@ L14:;
     v84 = v80 + 1456u * 1u;
     store64(v84, v61);
     v85 = v80 + 1464u * 1u;
-    store_address(v85, v74);
+    store_address(v85, v73);
     v86 = v80 + 1472u * 1u;
-    store64(v86, 0u);
+    store64(v86, v62);
     v87 = v80 + 1480u * 1u;
     store64(v87, v62);
     v88 = v80 + 1488u * 1u;
@@ -35214,7 +34976,7 @@ L23:;
     return;
 }
 
-static struct s3 f151(address a0, address a1) {
+static struct s3 f148(address a0, address a1) {
     u64 v2, v16, v18, v20, v24, v26, v28, v30, v32, v51, v60, v63, v66;
     u8 v3, v11, v31, v47, v48, v49, v50, v54, v61, v64, v65, v67, v68;
     address v4, v5, v6, v7, v8, v9, v10, v12, v13, v14, v15, v17, v19, v21, v22, v23;
@@ -35351,29 +35113,29 @@ L13:;
     return v70;
 }
 
-static struct s1 f152(address a0, u64 a1, address a2) {
-    u8 v3, v7, v10, v13, v15, v20, v23, v26, v31, v36, v37, v42, v43, v45, v49, v50;
-    u8 v53, v54, v55;
-    address v4, v5, v6, v8, v11, v16, v17, v27, v28, v32, v33, v34, v35, v39, v44, v46;
-    address v48, v51, v56;
-    u64 v9, v12, v14, v18, v19, v21, v22, v24, v25, v29, v30, v38, v40, v47, v52;
-    u16 v41;
-    struct s1 v57, v58;
+static struct s1 f149(address a0, u64 a1, address a2) {
+    u8 v3, v4, v7, v10, v13, v15, v20, v23, v26, v31, v53, v54, v59, v64, v69, v70;
+    u8 v73, v74, v75;
+    address v5, v6, v8, v11, v16, v17, v27, v28, v32, v33, v34, v35, v36, v37, v38, v39;
+    address v40, v41, v42, v43, v44, v45, v46, v47, v48, v49, v50, v51, v52, v56, v66, v67;
+    address v68, v71, v76;
+    u64 v9, v12, v14, v18, v19, v21, v22, v24, v25, v29, v30, v55, v57, v60, v61, v63;
+    u64 v65, v72;
+    u16 v58;
+    struct pair v62;
+    struct s1 v77, v78;
     u64 block0[3];
     u64 block1[162];
-    u64 block2[163];
-    v4 = ADDRESS(block0);
-    v5 = ADDRESS(block1);
-    v6 = ADDRESS(block2);
-    memory_set(v6, 0u, 1304u);
+    v5 = ADDRESS(block0);
+    v6 = ADDRESS(block1);
     v7 = a1 < 12u;
-    if (v7) { goto L6; }
+    if (v7) { goto L8; }
     else { goto L1; }
 L1:;
     v8 = a0 + 12u * 1u;
     v9 = (u64)((u64)a1 + (u64)UINT64_C(18446744073709551604));
     v10 = v9 < 75u;
-    if (v10) { goto L6; }
+    if (v10) { goto L8; }
     else { goto L2; }
 L2:;
     v11 = a0 + 86u * 1u;
@@ -35382,7 +35144,7 @@ L2:;
     v14 = (u64)v13;
     v15 = v12 > v14;
     if (v15) { goto L3; }
-    else { goto L6; }
+    else { goto L8; }
 L3:;
     v16 = a0 + 87u * 1u;
     v17 = v16 + v14 * 1u;
@@ -35392,13 +35154,13 @@ L3:;
     v21 = (u64)v20;
     v22 = (u64)((u64)v21 * (u64)15u);
     v23 = v19 < v22;
-    if (v23) { goto L6; }
+    if (v23) { goto L8; }
     else { goto L4; }
 L4:;
     v24 = (u64)((u64)v14 + (u64)76u);
     v25 = (u64)((u64)v24 + (u64)v22);
     v26 = v9 == v25;
-    if (v26) { goto L6; }
+    if (v26) { goto L8; }
     else { goto L5; }
 L5:;
     v27 = v8 + v25 * 1u;
@@ -35406,58 +35168,102 @@ L5:;
     v29 = (u64)((u64)v25 ^ (u64)UINT64_C(18446744073709551615));
     v30 = (u64)((u64)v9 + (u64)v29);
     v31 = load8(v27);
-    store8(v4, v31);
-    v32 = v4 + 1u * 1u;
+    store8(v5, v31);
+    v32 = v5 + 1u * 1u;
     memory_set(v32, 0u, 7u);
-    v33 = v4 + 8u * 1u;
+    v33 = v5 + 8u * 1u;
     store_address(v33, v28);
-    v34 = v4 + 16u * 1u;
+    v34 = v5 + 16u * 1u;
     store64(v34, v30);
-    v35 = a2 + 240u * 1u;
-    v36 = load8(v35);
-    v37 = v36 == 0u;
-    v38 = v37 ? 376u : 256u;
-    v39 = a2 + v38 * 1u;
-    v40 = load64(v39);
-    v41 = (u16)(v40);
-    f146(v6, v41);
-    v42 = load8(v6);
-    v43 = v42 == 0u;
-    if (v43) { goto L7; }
-    else { v3 = 0u; goto L9; }
+    v35 = v6 + 8u * 1u;
+    v36 = v6 + 16u * 1u;
+    memory_set(v6, 0u, 16u);
+    store8(v36, 1u);
+    v37 = v6 + 17u * 1u;
+    memory_set(v37, 0u, 159u);
+    v38 = v6 + 176u * 1u;
+    store8(v38, 1u);
+    v39 = v6 + 177u * 1u;
+    memory_set(v39, 0u, 159u);
+    v40 = v6 + 336u * 1u;
+    store8(v40, 1u);
+    v41 = v6 + 337u * 1u;
+    memory_set(v41, 0u, 159u);
+    v42 = v6 + 496u * 1u;
+    store8(v42, 1u);
+    v43 = v6 + 497u * 1u;
+    memory_set(v43, 0u, 159u);
+    v44 = v6 + 656u * 1u;
+    store8(v44, 1u);
+    v45 = v6 + 657u * 1u;
+    memory_set(v45, 0u, 159u);
+    v46 = v6 + 816u * 1u;
+    store8(v46, 1u);
+    v47 = v6 + 817u * 1u;
+    memory_set(v47, 0u, 159u);
+    v48 = v6 + 976u * 1u;
+    store8(v48, 1u);
+    v49 = v6 + 977u * 1u;
+    memory_set(v49, 0u, 159u);
+    v50 = v6 + 1136u * 1u;
+    store8(v50, 1u);
+    v51 = v6 + 1137u * 1u;
+    memory_set(v51, 0u, 159u);
+    v52 = a2 + 240u * 1u;
+    v53 = load8(v52);
+    v54 = v53 == 0u;
+    v55 = v54 ? 376u : 256u;
+    v56 = a2 + v55 * 1u;
+    v57 = load64(v56);
+    v58 = (u16)(v57);
+    v59 = v58 > 8u;
+    if (v59) { goto L6; }
+    else { goto L9; }
 L6:;
+    v60 = (u64)((u64)v57 & (u64)65535u);
+    v61 = (u64)((u64)v60 * (u64)160u);
+    v62 = portable_rattle_alloc(v61, 8u);
+    v63 = v62.m0;
+    v64 = (u8)((v63) & UINT64_C(1));
+    if (v64) { goto L7; }
+    else { v3 = 0u; v4 = 1u; goto L11; }
+L7:;
+    v65 = v62.m1;
+    v66 = (address)v65;
+    v67 = v6 + 24u * 1u;
+    v68 = v6 + 32u * 1u;
+    store64(v6, 1u);
+    store_address(v35, v66);
+    store64(v36, 0u);
+    store64(v67, v60);
+    memory_set(v68, 0u, 1264u);
+    goto L9;
+L8:;
     TRAP;
     UNREACHABLE;
-L7:;
-    v44 = v6 + 8u * 1u;
-    v45 = load8(v44);
-    v46 = v6 + 16u * 1u;
-    v47 = (u64)v45;
-    store64(v5, v47);
-    v48 = v5 + 8u * 1u;
-    memory_cpy(v48, v46, 1288u);
-    v49 = f153(v4, v5, a2);
-    v50 = load8(v5);
-    v51 = v5 + 24u * 1u;
-    v52 = load64(v51);
-    v53 = v50 != 1u;
-    v54 = v52 == 0u;
-    v55 = v53 ? 1u : v54;
-    if (v55) { v3 = v49; goto L9; }
-    else { goto L8; }
-L8:;
-    v56 = load_address(v48);
-    portable_rattle_dealloc(v56);
-    v3 = v49; goto L9;
 L9:;
-    v57 = (struct s1){ 0 };
-    v57.m0 = v42;
-    v58 = v57;
-    v58.m1 = v3;
-    return v58;
+    v69 = f150(v5, v6, a2);
+    v70 = load8(v6);
+    v71 = v6 + 24u * 1u;
+    v72 = load64(v71);
+    v73 = v70 != 1u;
+    v74 = v72 == 0u;
+    v75 = v73 ? 1u : v74;
+    if (v75) { v3 = v69; v4 = 0u; goto L11; }
+    else { goto L10; }
+L10:;
+    v76 = load_address(v35);
+    portable_rattle_dealloc(v76);
+    v3 = v69; v4 = 0u; goto L11;
+L11:;
+    v77 = (struct s1){ 0 };
+    v77.m0 = v4;
+    v78 = v77;
+    v78.m1 = v3;
+    return v78;
 }
 
-static u8 f153(address a0, address a1, address a2) {
+static u8 f150(address a0, address a1, address a2) {
     address v3, v8, v9, v13, v14, v17, v19, v20, v21, v22, v23, v24, v25, v26, v27, v28;
     address v29, v32, v36, v37, v41, v44, v46, v49;
     u64 v4, v7, v10, v18, v33, v38, v39, v43, v45, v50;
@@ -35489,7 +35295,7 @@ L1:;
     v29 = v13 + 16u * 1u;
     v3 = v20; v4 = v18; v5 = 0u; v6 = 0u; goto L2;
 L2:;
-    f148(v14, v3, v4, a1);
+    f145(v14, v3, v4, a1);
     v30 = load8(v14);
     v31 = v30 == 1u;
     if (v31) { goto L3; }
@@ -35537,7 +35343,7 @@ L9:;
     else { v9 = v44; v10 = v45; goto L7; }
 L10:;
     v53 = load16(v28);
-    f69(a2, v21, v53, v29, v8, v38);
+    f67(a2, v21, v53, v29, v8, v38);
     v11 = 0u; goto L11;
 L11:;
     v54 = (u8)((u32)v11 + (u32)v5);
@@ -35552,7 +35358,7 @@ L13:;
     return v12;
 }
 
-static void f154(address a0, address a1, address a2, u64 a3, address a4, u64 a5) {
+static void f151(address a0, address a1, address a2, u64 a3, address a4, u64 a5) {
     u64 v6, v17, v18, v36, v39, v41, v43, v49, v60, v71, v74, v80, v99, v101, v105, v109;
     u64 v157, v160, v264, v266, v314, v330, v333, v334;
     address v7, v16, v19, v20, v21, v22, v23, v24, v25, v26, v27, v28, v29, v30, v31, v32;
@@ -35918,7 +35724,7 @@ L9:;
     memory_cpy(v244, v245, 384u);
     v11 = v10; v12 = v9; v13 = v8; v14 = 1u; v15 = v234; goto L11;
 L10:;
-    f87(v20, v32, v7, a3);
+    f85(v20, v32, v7, a3);
     v246 = load8(v20);
     v247 = v20 + 1u * 1u;
     v248 = load8(v247);
@@ -35965,7 +35771,7 @@ L13:;
     memory_set(v273, 0u, 416u);
     goto L12;
 L14:;
-    v274 = f140(a4, a5);
+    v274 = f138(a4, a5);
     v275 = v274.m0;
     v276 = v274.m1;
     v277 = v275 == 1u;
@@ -36155,7 +35961,7 @@ L35:;
     goto L12;
 }
 
-static u8 f155(address a0) {
+static u8 f152(address a0) {
     u8 v1, v5, v10, v14, v15, v21, v26;
     struct pair v2, v19, v23, v24;
     address v3, v6, v16, v28;
@@ -36208,7 +36014,7 @@ L6:;
     v1 = 1u; goto L1;
 }
 
-static u8 f156(address a0) {
+static u8 f153(address a0) {
     u8 v1, v5, v10, v14, v15, v21, v26;
     struct pair v2, v19, v23, v24;
     address v3, v6, v16, v28;
@@ -36261,7 +36067,7 @@ L6:;
     v1 = 1u; goto L1;
 }
 
-static u8 f157(address a0) {
+static u8 f154(address a0) {
     u8 v1, v5, v10, v14, v15, v21, v26;
     struct pair v2, v19, v23, v24;
     address v3, v6, v16, v28;
@@ -36314,7 +36120,7 @@ L6:;
     v1 = 1u; goto L1;
 }
 
-static u8 f158(address a0) {
+static u8 f155(address a0) {
     u64 v1, v3, v7, v10, v13, v16, v18, v20, v22, v24, v27, v29, v31, v33, v35, v37;
     u16 v2, v4, v26;
     u8 v5, v11, v14, v21, v25, v28, v30, v32, v36, v38;
@@ -36384,7 +36190,7 @@ L10:;
     else { v1 = v37; goto L2; }
 }
 
-static u8 f159(address a0) {
+static u8 f156(address a0) {
     u64 v1, v2, v5, v6, v9, v10, v12, v15, v17, v20, v22;
     u8 v3, v7, v11, v13, v18, v23, v24;
     address v4, v8, v14, v16, v19, v21;
@@ -36431,7 +36237,7 @@ L7:;
     return v3;
 }
 
-static u8 f160(address a0) {
+static u8 f157(address a0) {
     u16 v1, v6, v34;
     u64 v2, v5, v12, v14, v22, v23, v27, v29, v30, v32;
     u8 v3, v7, v13, v17, v18, v20, v21, v24, v25, v31, v33, v35;
@@ -36500,7 +36306,7 @@ L10:;
     else { v3 = 1u; goto L9; }
 }
 
-static void f161(address a0) {
+static void f158(address a0) {
     u64 v1, v4, v6, v8, v11, v15, v20;
     address v2, v3, v5, v9, v10, v12, v13, v14, v17, v18;
     u8 v7, v16, v19, v21, v22;
@@ -36552,7 +36358,7 @@ L8:;
     return;
 }
 
-static u32 f162(address a0, address a1) {
+static u32 f159(address a0, address a1) {
     u64 v2, v10, v12, v16, v18, v22, v24, v28, v30, v32, v34, v36, v38, v56, v58, v67;
     u64 v72, v76, v82;
     u32 v3;
@@ -36725,7 +36531,7 @@ L18:;
     return v3;
 }
 
-static void f163(address a0, address a1, address a2, address a3, u64 a4) {
+static void f160(address a0, address a1, address a2, address a3, u64 a4) {
     u64 v5, v13, v15, v16, v23, v37, v39, v40, v44, v46;
     address v6, v7, v8, v9, v10, v14, v19, v20, v21, v22, v24, v25, v30, v35, v41, v42;
     address v43, v45, v49, v51, v53, v55, v56, v57, v58, v59;
@@ -36800,9 +36606,9 @@ L4:;
     if (v47) { goto L5; }
     else { v5 = v46; goto L4; }
 L5:;
-    f164(v9, a2);
+    f161(v9, a2);
     memory_set(v6, 0u, 80u);
-    f165(v6, a1, v9, v8, a4);
+    f162(v6, a1, v9, v8, a4);
     v48 = load8(v6);
     v49 = v6 + 1u * 1u;
     v50 = load8(v49);
@@ -36824,7 +36630,7 @@ L5:;
     goto L2;
 }
 
-static void f164(address a0, address a1) {
+static void f161(address a0, address a1) {
     u64 v2, v4, v30, v34, v64, v68, v81, v82, v84, v85;
     u16 v3, v8, v23, v27, v42, v56, v66, v73, v74, v87, v88, v90, v91, v98, v99, v103;
     u16 v105, v106;
@@ -37103,7 +36909,7 @@ L3:;
     return;
 }
 
-static void f165(address a0, address a1, address a2, address a3, u64 a4) {
+static void f162(address a0, address a1, address a2, address a3, u64 a4) {
     address v5, v13, v21, v22, v23, v24, v25, v34, v38, v40, v44, v46, v51, v53, v55, v59;
     address v61, v63, v67, v71, v81, v82, v85, v87, v90, v93, v100, v101, v103, v106, v108, v110;
     address v112, v126, v127, v129, v133, v134, v138, v166, v167, v169, v174, v176, v178, v182, v184, v186;
@@ -37248,7 +37054,7 @@ L13:;
     else { goto L14; }
 L14:;
     v100 = a1 + 192u * 1u;
-    f166(v22, a2, a1, v100);
+    f163(v22, a2, a1, v100);
     v101 = v22 + 20u * 1u;
     v102 = load64(v101);
     v103 = v22 + 34u * 1u;
@@ -37325,7 +37131,7 @@ L25:;
     else { v14 = v139; v15 = v140; goto L23; }
 L26:;
     memory_cpy(v23, v21, 72u);
-    f166(v24, a2, a1, v100);
+    f163(v24, a2, a1, v100);
     memory_cpy(v100, v24, 36u);
     v142 = load8(a2);
     v143 = load8(v34);
@@ -37544,7 +37350,7 @@ L37:;
     goto L36;
 }
 
-static void f166(address a0, address a1, address a2, address a3) {
+static void f163(address a0, address a1, address a2, address a3) {
     u64 v4, v6, v7, v8, v18, v20, v24, v26, v28, v30, v49, v50, v51, v52, v53, v54;
     u64 v55, v56, v57, v58, v59, v60, v64, v66, v67, v69, v71, v90, v91, v92, v93, v94;
     u64 v95, v96, v97, v98, v99, v100, v101, v103, v107, v109;
@@ -37712,7 +37518,7 @@ L6:;
     return;
 }
 
-static void f167(address a0, address a1, address a2, address a3, u64 a4) {
+static void f164(address a0, address a1, address a2, address a3, u64 a4) {
     u64 v5, v16, v18, v19, v26, v40, v42, v43, v47, v49;
     u8 v6, v14, v15, v20, v25, v29, v30, v31, v32, v34, v35, v36, v37, v39, v41, v50;
     u8 v51, v53, v55, v57, v60, v64, v65, v67, v68, v69;
@@ -37755,7 +37561,7 @@ L2:;
     memory_set(v24, 0u, 72u);
     goto L1;
 L3:;
-    f164(v10, a2);
+    f161(v10, a2);
     memory_set(v8, 0u, 1536u);
     v25 = a4 == 0u;
     if (v25) { goto L5; }
@@ -37794,7 +37600,7 @@ L4:;
     else { v5 = v49; goto L4; }
 L5:;
     memory_set(v7, 0u, 80u);
-    f165(v7, v12, v10, v8, a4);
+    f162(v7, v12, v10, v8, a4);
     v51 = load8(v7);
     v52 = v7 + 1u * 1u;
     v53 = load8(v52);
@@ -37811,9 +37617,9 @@ L5:;
 L6:;
     memory_cpy(v9, v58, 72u);
     v61 = a1 + 8u * 1u;
-    f165(v11, v61, v10, v8, a4);
+    f162(v11, v61, v10, v8, a4);
     v62 = a1 + 392u * 1u;
-    f165(v11, v62, v10, v8, a4);
+    f162(v11, v62, v10, v8, a4);
     v63 = a1 + 840u * 1u;
     v64 = load8(v63);
     v65 = (u8)((v64) & UINT64_C(1));
@@ -37844,7 +37650,7 @@ L9:;
     goto L1;
 }
 
-static void f168(address a0, address a1, u8 a2, u16 a3, u16 a4, address a5, u64 a6) {
+static void f165(address a0, address a1, u8 a2, u16 a3, u16 a4, address a5, u64 a6) {
     u8 v7, v8, v9, v10, v11, v12, v13, v14, v15, v16, v17, v24, v25, v27, v28, v33;
     u8 v37, v38, v43, v44, v45, v54, v55, v56, v57, v58, v59, v63, v64, v65, v66, v71;
     u8 v72, v73, v74, v75, v78, v79, v82, v83, v86, v90;
@@ -38161,7 +37967,7 @@ L54:;
     goto L2;
 }
 
-static void f169(address a0, address a1, u16 a2, address a3, u64 a4) {
+static void f166(address a0, address a1, u16 a2, address a3, u64 a4) {
     u16 v5, v7, v8, v9, v10, v27, v35, v37, v41, v43, v49, v86, v87, v88, v89, v90;
     u16 v91, v92, v93, v127, v139, v140, v141, v142, v143, v144, v145, v146, v147;
     u64 v6, v24, v26, v33, v47, v70, v71, v81, v83, v85, v102, v104, v117, v124, v126;
@@ -38209,7 +38015,7 @@ L3:;
     memory_set(v29, 0u, 153u);
     goto L2;
 L4:;
-    f90(v17, a1, a3, a4);
+    f88(v17, a1, a3, a4);
     v30 = load8(v17);
     v31 = v30 == 1u;
     if (v31) { goto L5; }
@@ -38318,7 +38124,7 @@ L9:;
     store_address(v98, v84);
     v99 = v13 + 16u * 1u;
     store64(v99, v85);
-    v100 = f66(v13);
+    v100 = f64(v13);
     if (v100) { goto L10; }
     else { goto L16; }
 L10:;
@@ -38373,7 +38179,7 @@ L15:;
 L16:;
     v6 = 0u; v7 = 0u; v8 = 0u; v9 = 0u; v10 = 0u; v11 = 0u; v12 = 0u; goto L19;
 L17:;
-    v129 = f67(a1, v14);
+    v129 = f65(a1, v14);
     v130 = v129 < 2u;
     if (v130) { goto L18; }
     else { v6 = 0u; v7 = 0u; v8 = 0u; v9 = 0u; v10 = 0u; v11 = 0u; v12 = 0u; goto L19; }
@@ -38424,7 +38230,7 @@ L19:;
     goto L2;
 }
 
-static void f170(address a0, address a1, u16 a2, address a3, u64 a4) {
+static void f167(address a0, address a1, u16 a2, address a3, u64 a4) {
     address v5, v7, v8, v9, v10, v11, v12, v13, v16, v19, v20, v21, v22, v23, v27, v29;
     address v31, v37, v40, v41, v42, v44, v47, v52, v53, v55, v56, v59, v60, v61, v62, v63;
     address v65, v67, v70, v71, v72, v73;
@@ -38511,7 +38317,7 @@ L9:;
 L10:;
     return;
 L11:;
-    f169(v11, v7, a2, a3, a4);
+    f166(v11, v7, a2, a3, a4);
     v51 = load8(v11);
     store8(a0, v51);
     v52 = a0 + 1u * 1u;
@@ -38533,7 +38339,7 @@ L12:;
     memory_move(v19, v61, 384u);
     memory_cpy(v61, v9, 384u);
     v62 = load_address(a1);
-    f169(v12, v62, a2, a3, a4);
+    f166(v12, v62, a2, a3, a4);
     v63 = load_address(a1);
     memory_cpy(v8, v63, 384u);
     memory_move(v63, v61, 384u);
@@ -41614,10 +41420,10 @@ L14:;
     f44(v10, v49, v32, v93, v92, v18, a3);
     goto L18;
 L15:;
-    f60(v10, v49, v32, v93, v92, v38, v18, a3);
+    f58(v10, v49, v32, v93, v92, v38, v18, a3);
     goto L18;
 L16:;
-    f65(v10, v49, v32, v93, v92, v40, v42, v18, a3);
+    f63(v10, v49, v32, v93, v92, v40, v42, v18, a3);
     goto L18;
 L17:;
     UNREACHABLE;
@@ -41630,7 +41436,7 @@ L18:;
     v99 = v10 + 16u * 1u;
     memory_cpy(v11, v99, 76u);
     v100 = v26 + 776u * 1u;
-    f71(v100, v18, v98);
+    f69(v100, v18, v98);
     v101 = load_address(v26);
     v102 = v101 + 424u * 1u;
     v103 = v26 + 841u * 1u;
@@ -42121,22 +41927,22 @@ L32:;
     v203 = load_address(v202);
     v14 = v201; v15 = v203; goto L38;
 L33:;
-    f57(v38, 1u, a1, v26, v78, v23);
+    f55(v38, 1u, a1, v26, v78, v23);
     v204 = load64(v75);
     store64(a6, v204);
     v16 = 1u; goto L44;
 L34:;
-    f57(v38, 2u, a1, v26, v78, v23);
+    f55(v38, 2u, a1, v26, v78, v23);
     v205 = load64(v75);
     store64(a6, v205);
     v16 = 2u; goto L44;
 L35:;
-    f57(v38, 3u, a1, v26, v78, v23);
+    f55(v38, 3u, a1, v26, v78, v23);
     v206 = load64(v75);
     store64(a6, v206);
     v16 = 3u; goto L44;
 L36:;
-    f57(v38, 4u, a1, v26, v78, v23);
+    f55(v38, 4u, a1, v26, v78, v23);
     v207 = load64(v75);
     store64(a6, v207);
     v16 = 4u; goto L44;
@@ -42149,22 +41955,22 @@ L37:;
 L38:;
     v210 = v12 + 1448u * 1u;
     v211 = load64(v210);
-    f56(v14, v211, v15, v18, a1, v23);
+    f54(v14, v211, v15, v18, a1, v23);
     v212 = load64(v75);
     store64(a6, v212);
     v16 = 6u; goto L44;
 L39:;
-    f57(v38, 7u, a1, v26, v78, v23);
+    f55(v38, 7u, a1, v26, v78, v23);
     v213 = load64(v75);
     store64(a6, v213);
     v16 = 7u; goto L44;
 L40:;
-    f57(v38, 8u, a1, v26, v78, v23);
+    f55(v38, 8u, a1, v26, v78, v23);
     v214 = load64(v75);
     store64(a6, v214);
     v16 = 8u; goto L44;
 L41:;
-    f57(v38, 9u, a1, v26, v78, v23);
+    f55(v38, 9u, a1, v26, v78, v23);
     v215 = load64(v75);
     store64(a6, v215);
     v16 = 9u; goto L44;
@@ -42181,9 +41987,9 @@ u32 portable_ptpm_clock_handle_shared(address a0, u16 a1, address a2, u64 a3, ad
     u64 v39, v40, v41, v42, v44, v45, v58, v61, v76, v78, v81, v84, v85, v89, v95, v96;
     u64 v99, v100, v101, v103, v124, v134, v143, v146, v160, v162, v170, v175, v194, v195, v201, v203;
     u64 v205, v220, v221, v265, v268, v273, v275, v277, v286, v290, v291, v292, v297, v301, v306, v316;
-    u64 v323, v329, v333, v336, v339, v341, v347, v352, v357, v373, v379, v381, v384, v394, v395, v398;
-    u64 v399, v406, v449, v451, v464, v475, v476, v478, v482, v483, v484, v486, v494, v495, v497, v501;
-    u64 v503, v504, v505, v512, v513, v514, v515;
+    u64 v326, v331, v334, v340, v345, v350, v366, v372, v374, v377, v387, v388, v391, v392, v399, v442;
+    u64 v444, v457, v468, v469, v471, v475, v476, v477, v479, v487, v488, v490, v494, v496, v497, v498;
+    u64 v505, v506, v507, v508;
     address v10, v16, v18, v19, v21, v23, v31, v38, v47, v48, v49, v50, v51, v52, v53, v54;
     address v55, v56, v59, v62, v63, v64, v67, v70, v71, v73, v77, v82, v87, v88, v91, v92;
     address v93, v97, v98, v105, v106, v109, v110, v113, v117, v119, v123, v125, v127, v133, v135, v137;
@@ -42191,27 +41997,27 @@ u32 portable_ptpm_clock_handle_shared(address a0, u16 a1, address a2, u64 a3, ad
     address v200, v202, v204, v210, v211, v212, v213, v214, v215, v218, v223, v225, v227, v228, v229, v230;
     address v231, v232, v233, v234, v235, v236, v240, v241, v242, v244, v246, v248, v249, v250, v252, v253;
     address v258, v260, v262, v263, v264, v267, v269, v272, v278, v279, v280, v281, v282, v283, v285, v294;
-    address v295, v299, v300, v303, v304, v307, v310, v311, v312, v314, v315, v318, v319, v321, v322, v327;
-    address v328, v331, v332, v335, v338, v342, v344, v346, v349, v350, v351, v353, v356, v360, v364, v367;
-    address v368, v369, v370, v371, v372, v378, v382, v383, v385, v387, v388, v389, v390, v391, v392, v393;
-    address v400, v402, v404, v405, v411, v412, v413, v414, v415, v416, v417, v419, v421, v422, v423, v427;
-    address v428, v429, v431, v433, v435, v436, v437, v439, v440, v445, v447, v448, v450, v458, v460, v463;
-    address v466, v472, v473, v474, v479, v480, v485, v492, v493, v498, v499, v502, v508, v510, v516, v521;
-    address v522;
+    address v295, v299, v300, v303, v304, v307, v310, v312, v313, v314, v315, v318, v319, v320, v321, v322;
+    address v325, v328, v329, v330, v333, v335, v337, v339, v342, v343, v344, v346, v349, v353, v357, v360;
+    address v361, v362, v363, v364, v365, v371, v375, v376, v378, v380, v381, v382, v383, v384, v385, v386;
+    address v393, v395, v397, v398, v404, v405, v406, v407, v408, v409, v410, v412, v414, v415, v416, v420;
+    address v421, v422, v424, v426, v428, v429, v430, v432, v433, v438, v440, v441, v443, v451, v453, v456;
+    address v459, v465, v466, v467, v472, v473, v478, v485, v486, v491, v492, v495, v501, v503, v509, v514;
+    address v515;
     u16 v14, v25, v26, v36, v79, v83, v129, v130, v131, v132, v139, v140, v141, v151, v152, v153;
     u16 v154, v163, v176, v177, v178, v179, v180, v181, v187, v188, v189, v190, v206, v207, v208, v209;
-    u16 v243, v245, v247, v251, v259, v270, v305, v354, v375, v386, v407, v408, v409, v410, v430, v432;
-    u16 v434, v438, v446, v469, v487, v489, v491, v506;
+    u16 v243, v245, v247, v251, v259, v270, v305, v347, v368, v379, v400, v401, v402, v403, v423, v425;
+    u16 v427, v431, v439, v462, v480, v482, v484, v499;
     u8 v24, v28, v29, v33, v43, v57, v60, v65, v66, v68, v69, v72, v74, v75, v80, v86;
     u8 v90, v94, v102, v104, v107, v108, v111, v112, v114, v115, v116, v118, v120, v121, v122, v126;
     u8 v128, v136, v138, v144, v148, v150, v155, v156, v157, v158, v159, v164, v166, v168, v172, v174;
     u8 v184, v186, v192, v193, v197, v199, v217, v219, v222, v224, v226, v237, v239, v261, v266, v271;
-    u8 v274, v276, v284, v287, v288, v289, v293, v296, v298, v302, v308, v309, v313, v317, v320, v324;
-    u8 v325, v326, v330, v334, v337, v340, v343, v345, v348, v355, v358, v359, v361, v362, v363, v365;
-    u8 v366, v374, v376, v377, v380, v396, v397, v401, v403, v418, v420, v424, v426, v452, v453, v454;
-    u8 v455, v456, v457, v459, v461, v462, v465, v467, v468, v470, v471, v477, v481, v488, v490, v496;
-    u8 v500, v507, v509, v511, v517, v518, v519, v520;
-    u32 v46, v238, v254, v255, v256, v257, v425, v441, v442, v443, v444, v523, v524, v525;
+    u8 v274, v276, v284, v287, v288, v289, v293, v296, v298, v302, v308, v309, v311, v317, v323, v324;
+    u8 v327, v332, v336, v338, v341, v348, v351, v352, v354, v355, v356, v358, v359, v367, v369, v370;
+    u8 v373, v389, v390, v394, v396, v411, v413, v417, v419, v445, v446, v447, v448, v449, v450, v452;
+    u8 v454, v455, v458, v460, v461, v463, v464, v470, v474, v481, v483, v489, v493, v500, v502, v504;
+    u8 v510, v511, v512, v513;
+    u32 v46, v238, v254, v255, v256, v257, v418, v434, v435, v436, v437, v516, v517, v518;
     struct s1 v216;
     u64 block0[3];
     u64 block1[9];
@@ -42246,20 +42052,20 @@ u32 portable_ptpm_clock_handle_shared(address a0, u16 a1, address a2, u64 a3, ad
     v65 = load8(v64);
     v66 = (u8)((v65) & UINT64_C(1));
     if (v66) { goto L1; }
-    else { v46 = 32u; goto L114; }
+    else { v46 = 32u; goto L116; }
 L1:;
     v67 = load_address(a0);
     v68 = load8(v67);
     v69 = v68 == 1u;
     if (v69) { goto L2; }
-    else { v46 = 32u; goto L114; }
+    else { v46 = 32u; goto L116; }
 L2:;
     v70 = v67 + 8u * 1u;
     v71 = load_address(v70);
     memory_set(a6, 0u, 24u);
     memory_set(v56, 0u, 24u);
     v72 = a1 == 0u;
-    if (v72) { goto L113; }
+    if (v72) { goto L115; }
     else { goto L3; }
 L3:;
     v73 = v71 + 240u * 1u;
@@ -42270,7 +42076,7 @@ L3:;
     v78 = load64(v77);
     v79 = (u16)(v78);
     v80 = a1 > v79;
-    if (v80) { goto L113; }
+    if (v80) { goto L115; }
     else { goto L4; }
 L4:;
     v81 = (u64)((u64)v78 & (u64)65535u);
@@ -42312,7 +42118,7 @@ L8:;
     v9 = v103; goto L9;
 L9:;
     v104 = v9 > a5;
-    if (v104) { goto L112; }
+    if (v104) { goto L114; }
     else { goto L10; }
 L10:;
     store_address(v56, v62);
@@ -42337,7 +42143,7 @@ L11:;
     v115 = (u8)((u32)v112 | (u32)v114);
     v116 = v115 == 0u;
     if (v116) { goto L12; }
-    else { v24 = 1u; goto L79; }
+    else { v24 = 1u; goto L81; }
 L12:;
     v117 = v110 + 4u * 1u;
     v118 = load8(v117);
@@ -42349,7 +42155,7 @@ L12:;
 L13:;
     v122 = f45(v71, v53);
     if (v122) { goto L14; }
-    else { v24 = 1u; goto L79; }
+    else { v24 = 1u; goto L81; }
 L14:;
     v123 = v110 + 20u * 1u;
     v124 = load64(v123);
@@ -42361,7 +42167,7 @@ L14:;
     v130 = (u16)((u32)v129 << (8u & 15u));
     v131 = (u16)v128;
     v132 = (u16)((u32)v130 | (u32)v131);
-    v14 = v132; v15 = v124; goto L60;
+    v14 = v132; v15 = v124; goto L62;
 L15:;
     v133 = v110 + 20u * 1u;
     v134 = load64(v133);
@@ -42375,7 +42181,7 @@ L15:;
     v142 = v71 + 384u * 1u;
     v143 = load64(v142);
     v144 = v134 == v143;
-    if (v144) { v24 = 2u; goto L79; }
+    if (v144) { v24 = 2u; goto L81; }
     else { goto L16; }
 L16:;
     v145 = v110 + 34u * 1u;
@@ -42392,11 +42198,11 @@ L16:;
     v156 = v146 == UINT64_C(18446744073709551615);
     v157 = (u8)(((u32)v156 | (u32)v155) & UINT64_C(1));
     if (v157) { goto L17; }
-    else { v24 = 3u; goto L79; }
+    else { v24 = 3u; goto L81; }
 L17:;
     switch (v154) {
     case 65535u: goto L19;
-    case 0u: v24 = 3u; goto L79;
+    case 0u: v24 = 3u; goto L81;
     default: goto L18;
     }
 L18:;
@@ -42407,14 +42213,14 @@ L18:;
     v162 = load64(v161);
     v163 = (u16)(v162);
     v164 = v154 > v163;
-    if (v164) { v24 = 3u; goto L79; }
+    if (v164) { v24 = 3u; goto L81; }
     else { goto L19; }
 L19:;
     v165 = v53 + 16u * 1u;
     v166 = load8(v165);
     switch (v166) {
-    case 2u: v24 = 4u; goto L79;
-    case 4u: v24 = 4u; goto L79;
+    case 2u: v24 = 4u; goto L81;
+    case 4u: v24 = 4u; goto L81;
     case 0u: goto L21;
     case 1u: goto L21;
     case 3u: goto L21;
@@ -42440,7 +42246,7 @@ L22:;
     v178 = (u16)((u32)v177 << (8u & 15u));
     v179 = (u16)v174;
     v180 = (u16)((u32)v178 | (u32)v179);
-    v25 = v180; v26 = v176; v27 = v175; v28 = v168; goto L80;
+    v25 = v180; v26 = v176; v27 = v175; v28 = v168; goto L82;
 L23:;
     v181 = (u16)((u32)v140 | (u32)v141);
     store64(v51, v134);
@@ -42489,15 +42295,15 @@ L23:;
     v216 = f47(v142, v51, v190, v52);
     v217 = v216.m0;
     switch (v217) {
-    case 0u: v25 = v190; v26 = v181; v27 = v203; v28 = v192; goto L80;
+    case 0u: v25 = v190; v26 = v181; v27 = v203; v28 = v192; goto L82;
     case 1u: goto L27;
-    case 2u: v14 = v181; v15 = v134; goto L60;
-    case 3u: v24 = 8u; goto L79;
+    case 2u: v14 = v181; v15 = v134; goto L62;
+    case 3u: v24 = 8u; goto L81;
     case 4u: goto L24;
     default: goto L25;
     }
 L24:;
-    v24 = 7u; goto L79;
+    v24 = 7u; goto L81;
 L25:;
     UNREACHABLE;
 L26:;
@@ -42505,7 +42311,7 @@ L26:;
     v219 = load8(v218);
     v220 = (u64)v219;
     v221 = (u64)((u64)v220 << (8u & 63u));
-    v32 = 0u; v33 = 0u; v34 = v221; goto L91;
+    v32 = 0u; v33 = 0u; v34 = v221; goto L93;
 L27:;
     v222 = v216.m1;
     v223 = v110 + 44u * 1u;
@@ -42570,14 +42376,14 @@ L27:;
     v259 = swap16(v209);
     v260 = v50 + 52u * 1u;
     store16(v260, v259);
-    f72(v71, v49, v222, v50);
+    f70(v71, v49, v222, v50);
     v261 = load8(v235);
     v262 = v71 + 392u * 1u;
     v263 = load_address(v262);
     v264 = v71 + 400u * 1u;
     v265 = load64(v264);
     v266 = v265 == 0u;
-    if (v266) { goto L59; }
+    if (v266) { goto L61; }
     else { v10 = v263; v11 = v265; v12 = 0u; goto L28; }
 L28:;
     v267 = v10 + 2144u * 1u;
@@ -42596,7 +42402,7 @@ L29:;
 L30:;
     v275 = (u64)((u64)v12 + (u64)1u);
     v276 = v268 == 0u;
-    if (v276) { goto L59; }
+    if (v276) { goto L61; }
     else { v10 = v267; v11 = v268; v12 = v275; goto L28; }
 L31:;
     v277 = (u64)((u64)v12 * (u64)2144u);
@@ -42651,7 +42457,7 @@ L37:;
     v301 = load64(v106);
     v302 = v301 == 1u;
     if (v302) { goto L38; }
-    else { goto L49; }
+    else { goto L52; }
 L38:;
     v303 = load_address(v56);
     v304 = v303 + 2u * 1u;
@@ -42661,15 +42467,15 @@ L38:;
     v308 = load8(v300);
     v309 = v308 == 0u;
     v310 = v278 + 1440u * 1u;
+    v311 = (u8)(v305);
     if (v309) { goto L39; }
     else { goto L46; }
 L39:;
-    v311 = v278 + 1456u * 1u;
-    v312 = v278 + 1441u * 1u;
-    memory_set(v312, 0u, 7u);
-    v313 = (u8)(v305);
+    v312 = v278 + 1456u * 1u;
+    v313 = v278 + 1441u * 1u;
+    memory_set(v313, 0u, 7u);
     v314 = v278 + 1448u * 1u;
-    store8(v310, v313);
+    store8(v310, v311);
     store64(v314, 1u);
     v315 = v278 + 2096u * 1u;
     v316 = load64(v315);
@@ -42684,472 +42490,475 @@ L40:;
     default: goto L44;
     }
 L41:;
-    memory_move(v311, v307, 54u);
-    goto L59;
+    memory_move(v312, v307, 54u);
+    goto L61;
 L42:;
-    memory_move(v311, v307, 56u);
-    goto L59;
+    memory_move(v312, v307, 56u);
+    goto L61;
 L43:;
-    memory_move(v311, v307, 80u);
-    goto L59;
+    memory_move(v312, v307, 80u);
+    goto L61;
 L44:;
-    f51(v311, v307, v306);
-    goto L59;
+    f51(v312, v307, v306);
+    goto L61;
 L45:;
-    f52(v311, v307, v306);
-    goto L59;
+    f52(v312, v307, v306);
+    goto L61;
 L46:;
     v318 = v278 + 1464u * 1u;
-    v319 = v278 + 1448u * 1u;
-    v320 = (u8)(v305);
+    v319 = v278 + 1488u * 1u;
+    v320 = v278 + 1448u * 1u;
     v321 = load_address(v310);
-    store8(v321, v320);
-    store64(v319, 1u);
-    v322 = v278 + 1472u * 1u;
-    v323 = load64(v322);
-    v324 = v323 == 0u;
-    if (v324) { goto L48; }
-    else { goto L47; }
+    store8(v321, v311);
+    store64(v320, 1u);
+    v322 = load_address(v318);
+    switch (v305) {
+    case 54u: goto L47;
+    case 56u: goto L48;
+    case 80u: goto L49;
+    default: goto L50;
+    }
 L47:;
-    store64(v322, 0u);
-    goto L48;
+    memory_move(v322, v307, 54u);
+    goto L51;
 L48:;
-    f53(v318, v307, v306);
-    goto L59;
+    memory_move(v322, v307, 56u);
+    goto L51;
 L49:;
-    v325 = load8(v300);
-    v326 = v325 == 0u;
-    if (v326) { goto L50; }
-    else { goto L54; }
+    memory_move(v322, v307, 80u);
+    goto L51;
 L50:;
-    v327 = v278 + 1456u * 1u;
-    v328 = v278 + 1448u * 1u;
-    v329 = load64(v328);
-    v330 = v329 == 0u;
-    if (v330) { goto L52; }
-    else { goto L51; }
+    f51(v322, v307, v306);
+    goto L51;
 L51:;
-    v331 = v278 + 1440u * 1u;
-    memory_set(v331, 0u, v329);
-    store64(v328, 0u);
-    goto L52;
+    store64(v319, v306);
+    goto L61;
 L52:;
-    v332 = v278 + 2096u * 1u;
-    v333 = load64(v332);
-    v334 = v333 == 0u;
-    if (v334) { goto L58; }
-    else { goto L53; }
-L53:;
-    memory_set(v327, 0u, v333);
-    store64(v332, 0u);
-    goto L58;
-L54:;
-    v335 = v278 + 1448u * 1u;
-    v336 = load64(v335);
-    v337 = v336 == 0u;
-    if (v337) { goto L56; }
-    else { goto L55; }
-L55:;
-    store64(v335, 0u);
-    goto L56;
-L56:;
-    v338 = v278 + 1472u * 1u;
-    v339 = load64(v338);
-    v340 = v339 == 0u;
-    if (v340) { goto L58; }
+    v323 = load8(v300);
+    v324 = v323 == 0u;
+    v325 = v278 + 1448u * 1u;
+    v326 = load64(v325);
+    v327 = v326 == 0u;
+    if (v324) { goto L53; }
     else { goto L57; }
+L53:;
+    v328 = v278 + 1456u * 1u;
+    if (v327) { goto L55; }
+    else { goto L54; }
+L54:;
+    v329 = v278 + 1440u * 1u;
+    memory_set(v329, 0u, v326);
+    store64(v325, 0u);
+    goto L55;
+L55:;
+    v330 = v278 + 2096u * 1u;
+    v331 = load64(v330);
+    v332 = v331 == 0u;
+    if (v332) { goto L60; }
+    else { goto L56; }
+L56:;
+    memory_set(v328, 0u, v331);
+    store64(v330, 0u);
+    goto L60;
 L57:;
-    store64(v338, 0u);
-    goto L58;
+    v333 = v278 + 1488u * 1u;
+    if (v327) { goto L59; }
+    else { goto L58; }
 L58:;
-    f75(v56, v300);
+    store64(v325, 0u);
     goto L59;
 L59:;
-    v341 = load64(v106);
-    v32 = v341; v33 = 5u; v34 = 0u; goto L91;
+    store64(v333, 0u);
+    goto L60;
 L60:;
-    v342 = v110 + 44u * 1u;
-    v343 = load8(v342);
-    v344 = v110 + 45u * 1u;
-    v345 = load8(v344);
-    v346 = v71 + 400u * 1u;
-    v347 = load64(v346);
-    v348 = v347 == 0u;
-    if (v348) { goto L65; }
-    else { goto L61; }
+    f73(v56, v300);
+    goto L61;
 L61:;
-    v349 = v71 + 392u * 1u;
-    v350 = load_address(v349);
-    v16 = v350; v17 = v347; goto L62;
+    v334 = load64(v106);
+    v32 = v334; v33 = 5u; v34 = 0u; goto L93;
 L62:;
-    v351 = v16 + 2144u * 1u;
-    v352 = (u64)((u64)v17 + (u64)UINT64_C(18446744073709551615));
-    v353 = v16 + 2120u * 1u;
-    v354 = load16(v353);
-    v355 = v14 == v354;
-    if (v355) { goto L63; }
-    else { goto L64; }
+    v335 = v110 + 44u * 1u;
+    v336 = load8(v335);
+    v337 = v110 + 45u * 1u;
+    v338 = load8(v337);
+    v339 = v71 + 400u * 1u;
+    v340 = load64(v339);
+    v341 = v340 == 0u;
+    if (v341) { goto L67; }
+    else { goto L63; }
 L63:;
-    v356 = v16 + 2112u * 1u;
-    v357 = load64(v356);
-    v358 = v15 == v357;
-    if (v358) { goto L66; }
-    else { goto L64; }
+    v342 = v71 + 392u * 1u;
+    v343 = load_address(v342);
+    v16 = v343; v17 = v340; goto L64;
 L64:;
-    v359 = v352 == 0u;
-    if (v359) { goto L65; }
-    else { v16 = v351; v17 = v352; goto L62; }
+    v344 = v16 + 2144u * 1u;
+    v345 = (u64)((u64)v17 + (u64)UINT64_C(18446744073709551615));
+    v346 = v16 + 2120u * 1u;
+    v347 = load16(v346);
+    v348 = v14 == v347;
+    if (v348) { goto L65; }
+    else { goto L66; }
 L65:;
+    v349 = v16 + 2112u * 1u;
+    v350 = load64(v349);
+    v351 = v15 == v350;
+    if (v351) { goto L68; }
+    else { goto L66; }
+L66:;
+    v352 = v345 == 0u;
+    if (v352) { goto L67; }
+    else { v16 = v344; v17 = v345; goto L64; }
+L67:;
     TRAP;
     UNREACHABLE;
-L66:;
-    v360 = v16 + 2129u * 1u;
-    v361 = load8(v360);
-    v362 = (u8)((v361) & UINT64_C(1));
-    v363 = v343 > v345 ? (u8)((u32)v343 - (u32)v345) : 0u;
-    v364 = v16 + 1432u * 1u;
-    v365 = load8(v364);
-    v366 = v365 == 0u;
-    v367 = v16 + 1440u * 1u;
-    if (v366) { goto L67; }
-    else { goto L68; }
-L67:;
-    v368 = v16 + 1456u * 1u;
-    v18 = v367; v19 = v368; goto L69;
 L68:;
-    v369 = load_address(v367);
-    v370 = v16 + 1464u * 1u;
-    v371 = load_address(v370);
-    v18 = v369; v19 = v371; goto L69;
-L69:;
-    v372 = v16 + 1448u * 1u;
-    v373 = load64(v372);
-    v374 = v373 == 0u;
-    if (v374) { v32 = 0u; v33 = 6u; v34 = 0u; goto L91; }
+    v353 = v16 + 2129u * 1u;
+    v354 = load8(v353);
+    v355 = (u8)((v354) & UINT64_C(1));
+    v356 = v336 > v338 ? (u8)((u32)v336 - (u32)v338) : 0u;
+    v357 = v16 + 1432u * 1u;
+    v358 = load8(v357);
+    v359 = v358 == 0u;
+    v360 = v16 + 1440u * 1u;
+    if (v359) { goto L69; }
     else { goto L70; }
+L69:;
+    v361 = v16 + 1456u * 1u;
+    v18 = v360; v19 = v361; goto L71;
 L70:;
-    v375 = (u16)((u32)a1 >> (8u & 15u));
-    v376 = (u8)(v375);
-    v377 = (u8)(a1);
-    v20 = 0u; v21 = v19; v22 = v373; v23 = v18; goto L71;
+    v362 = load_address(v360);
+    v363 = v16 + 1464u * 1u;
+    v364 = load_address(v363);
+    v18 = v362; v19 = v364; goto L71;
 L71:;
-    v378 = v23 + 1u * 1u;
-    v379 = (u64)((u64)v22 + (u64)UINT64_C(18446744073709551615));
-    v380 = load8(v23);
-    v381 = (u64)v380;
-    v382 = v21 + v381 * 1u;
-    v383 = load_address(v56);
-    v384 = (u64)((u64)v20 * (u64)188u);
-    v385 = v383 + v384 * 1u;
-    store16(v385, a1);
-    v386 = (u16)v380;
-    v387 = v385 + 2u * 1u;
-    store16(v387, v386);
-    v388 = v385 + 4u * 1u;
-    switch (v380) {
-    case 54u: goto L72;
-    case 56u: goto L73;
-    case 80u: goto L74;
-    default: goto L75;
-    }
+    v365 = v16 + 1448u * 1u;
+    v366 = load64(v365);
+    v367 = v366 == 0u;
+    if (v367) { v32 = 0u; v33 = 6u; v34 = 0u; goto L93; }
+    else { goto L72; }
 L72:;
-    memory_move(v388, v21, 54u);
-    goto L76;
+    v368 = (u16)((u32)a1 >> (8u & 15u));
+    v369 = (u8)(v368);
+    v370 = (u8)(a1);
+    v20 = 0u; v21 = v19; v22 = v366; v23 = v18; goto L73;
 L73:;
-    memory_move(v388, v21, 56u);
-    goto L76;
+    v371 = v23 + 1u * 1u;
+    v372 = (u64)((u64)v22 + (u64)UINT64_C(18446744073709551615));
+    v373 = load8(v23);
+    v374 = (u64)v373;
+    v375 = v21 + v374 * 1u;
+    v376 = load_address(v56);
+    v377 = (u64)((u64)v20 * (u64)188u);
+    v378 = v376 + v377 * 1u;
+    store16(v378, a1);
+    v379 = (u16)v373;
+    v380 = v378 + 2u * 1u;
+    store16(v380, v379);
+    v381 = v378 + 4u * 1u;
+    switch (v373) {
+    case 54u: goto L74;
+    case 56u: goto L75;
+    case 80u: goto L76;
+    default: goto L77;
+    }
 L74:;
-    memory_move(v388, v21, 80u);
-    goto L76;
+    memory_move(v381, v21, 54u);
+    goto L78;
 L75:;
-    f51(v388, v21, v381);
-    goto L76;
+    memory_move(v381, v21, 56u);
+    goto L78;
 L76:;
-    v389 = v385 + 8u * 1u;
-    store8(v389, v118);
-    if (v362) { goto L78; }
-    else { goto L77; }
+    memory_move(v381, v21, 80u);
+    goto L78;
 L77:;
-    v390 = v385 + 32u * 1u;
-    store8(v390, v376);
-    v391 = v385 + 33u * 1u;
-    store8(v391, v377);
+    f51(v381, v21, v374);
     goto L78;
 L78:;
-    v392 = v385 + 48u * 1u;
-    store8(v392, v363);
-    v393 = v385 + 49u * 1u;
-    store8(v393, v363);
-    v394 = load64(v106);
-    v395 = (u64)((u64)v394 + (u64)1u);
-    store64(v106, v395);
-    v396 = v379 == 0u;
-    if (v396) { v32 = v395; v33 = 6u; v34 = 0u; goto L91; }
-    else { v20 = v395; v21 = v382; v22 = v379; v23 = v378; goto L71; }
+    v382 = v378 + 8u * 1u;
+    store8(v382, v118);
+    if (v355) { goto L80; }
+    else { goto L79; }
 L79:;
-    v29 = v24; goto L81;
+    v383 = v378 + 32u * 1u;
+    store8(v383, v369);
+    v384 = v378 + 33u * 1u;
+    store8(v384, v370);
+    goto L80;
 L80:;
-    v397 = v28 == 0u;
-    v398 = v397 ? 52u : 54u;
-    v399 = v397 ? 53u : 55u;
-    v400 = v110 + v398 * 1u;
-    v401 = load8(v400);
-    v402 = v110 + v399 * 1u;
-    v403 = load8(v402);
-    v404 = v110 + 54u * 1u;
-    v405 = v397 ? v404 : ADDRESS(c148);
-    v406 = v397 ? v27 : 0u;
-    v407 = (u16)v401;
-    v408 = (u16)((u32)v407 << (8u & 15u));
-    v409 = (u16)v403;
-    v410 = (u16)((u32)v408 | (u32)v409);
-    store8(v47, v166);
-    v411 = v47 + 1u * 1u;
-    store8(v411, 0u);
-    v412 = v47 + 2u * 1u;
-    store16(v412, v410);
-    v413 = v47 + 4u * 1u;
-    store16(v413, v154);
-    v414 = v47 + 6u * 1u;
-    store16(v414, 0u);
-    v415 = v47 + 8u * 1u;
-    store_address(v415, v405);
-    v416 = v47 + 16u * 1u;
-    store64(v416, v406);
-    v417 = v110 + 44u * 1u;
-    v418 = load8(v417);
-    v419 = v110 + 45u * 1u;
-    v420 = load8(v419);
-    v421 = v48 + 54u * 1u;
-    v422 = v48 + 56u * 1u;
-    v423 = v48 + 64u * 1u;
-    memory_set(v48, 0u, 64u);
-    store_address(v423, v56);
-    v424 = v166 > 2u;
-    v425 = v424 ? UINT32_C(262144) : UINT32_C(131072);
-    v426 = v418 > v420 ? (u8)((u32)v418 - (u32)v420) : 0u;
-    store16(v421, v410);
-    store16(v422, a1);
-    v427 = v48 + 48u * 1u;
-    store16(v48, 4621u);
-    v428 = v48 + 2u * 1u;
-    store16(v428, 13824u);
-    v429 = v48 + 4u * 1u;
-    v430 = (u16)v118;
-    store16(v429, v430);
-    v431 = v48 + 20u * 1u;
-    store64(v431, v143);
-    v432 = swap16(a1);
-    v433 = v48 + 28u * 1u;
-    store16(v433, v432);
-    v434 = swap16(v25);
-    v435 = v48 + 30u * 1u;
-    store16(v435, v434);
-    v436 = v48 + 32u * 1u;
-    store16(v436, 32516u);
-    v437 = v48 + 34u * 1u;
-    store64(v437, v134);
-    v438 = swap16(v26);
-    v439 = v48 + 42u * 1u;
-    store16(v439, v438);
-    v440 = v48 + 44u * 1u;
-    v441 = (u32)v426;
-    v442 = (u32)((u32)v441 << (8u & 31u));
-    v443 = (u32)((u32)v442 | (u32)v425);
-    v444 = (u32)((u32)v443 | (u32)v441);
-    store32(v440, v444);
-    store16(v427, 256u);
-    v445 = v48 + 50u * 1u;
-    store16(v445, 512u);
-    v446 = swap16(v410);
-    v447 = v48 + 52u * 1u;
-    store16(v447, v446);
-    f76(v71, v47, v48);
-    v29 = 9u; goto L81;
+    v385 = v378 + 48u * 1u;
+    store8(v385, v356);
+    v386 = v378 + 49u * 1u;
+    store8(v386, v356);
+    v387 = load64(v106);
+    v388 = (u64)((u64)v387 + (u64)1u);
+    store64(v106, v388);
+    v389 = v372 == 0u;
+    if (v389) { v32 = v388; v33 = 6u; v34 = 0u; goto L93; }
+    else { v20 = v388; v21 = v375; v22 = v372; v23 = v371; goto L73; }
 L81:;
-    v448 = v71 + 384u * 1u;
-    v449 = load64(v448);
-    v450 = v110 + 34u * 1u;
-    v451 = load64(v450);
-    v452 = v451 == v449;
-    if (v452) { goto L92; }
-    else { goto L82; }
+    v29 = v24; goto L83;
 L82:;
-    v453 = load8(v110);
-    v454 = (u8)((u32)v453 >> (4u & 7u));
-    v455 = load8(v113);
-    v456 = (u8)((u32)v454 | (u32)v455);
-    v457 = v456 == 0u;
-    if (v457) { goto L83; }
-    else { goto L92; }
+    v390 = v28 == 0u;
+    v391 = v390 ? 52u : 54u;
+    v392 = v390 ? 53u : 55u;
+    v393 = v110 + v391 * 1u;
+    v394 = load8(v393);
+    v395 = v110 + v392 * 1u;
+    v396 = load8(v395);
+    v397 = v110 + 54u * 1u;
+    v398 = v390 ? v397 : ADDRESS(c148);
+    v399 = v390 ? v27 : 0u;
+    v400 = (u16)v394;
+    v401 = (u16)((u32)v400 << (8u & 15u));
+    v402 = (u16)v396;
+    v403 = (u16)((u32)v401 | (u32)v402);
+    store8(v47, v166);
+    v404 = v47 + 1u * 1u;
+    store8(v404, 0u);
+    v405 = v47 + 2u * 1u;
+    store16(v405, v403);
+    v406 = v47 + 4u * 1u;
+    store16(v406, v154);
+    v407 = v47 + 6u * 1u;
+    store16(v407, 0u);
+    v408 = v47 + 8u * 1u;
+    store_address(v408, v398);
+    v409 = v47 + 16u * 1u;
+    store64(v409, v399);
+    v410 = v110 + 44u * 1u;
+    v411 = load8(v410);
+    v412 = v110 + 45u * 1u;
+    v413 = load8(v412);
+    v414 = v48 + 54u * 1u;
+    v415 = v48 + 56u * 1u;
+    v416 = v48 + 64u * 1u;
+    memory_set(v48, 0u, 64u);
+    store_address(v416, v56);
+    v417 = v166 > 2u;
+    v418 = v417 ? UINT32_C(262144) : UINT32_C(131072);
+    v419 = v411 > v413 ? (u8)((u32)v411 - (u32)v413) : 0u;
+    store16(v414, v403);
+    store16(v415, a1);
+    v420 = v48 + 48u * 1u;
+    store16(v48, 4621u);
+    v421 = v48 + 2u * 1u;
+    store16(v421, 13824u);
+    v422 = v48 + 4u * 1u;
+    v423 = (u16)v118;
+    store16(v422, v423);
+    v424 = v48 + 20u * 1u;
+    store64(v424, v143);
+    v425 = swap16(a1);
+    v426 = v48 + 28u * 1u;
+    store16(v426, v425);
+    v427 = swap16(v25);
+    v428 = v48 + 30u * 1u;
+    store16(v428, v427);
+    v429 = v48 + 32u * 1u;
+    store16(v429, 32516u);
+    v430 = v48 + 34u * 1u;
+    store64(v430, v134);
+    v431 = swap16(v26);
+    v432 = v48 + 42u * 1u;
+    store16(v432, v431);
+    v433 = v48 + 44u * 1u;
+    v434 = (u32)v419;
+    v435 = (u32)((u32)v434 << (8u & 31u));
+    v436 = (u32)((u32)v435 | (u32)v418);
+    v437 = (u32)((u32)v436 | (u32)v434);
+    store32(v433, v437);
+    store16(v420, 256u);
+    v438 = v48 + 50u * 1u;
+    store16(v438, 512u);
+    v439 = swap16(v403);
+    v440 = v48 + 52u * 1u;
+    store16(v440, v439);
+    f74(v71, v47, v48);
+    v29 = 9u; goto L83;
 L83:;
-    v458 = v110 + 4u * 1u;
-    v459 = load8(v458);
-    v460 = v71 + 8u * 1u;
-    v461 = load8(v460);
-    v462 = v459 == v461;
-    if (v462) { goto L84; }
-    else { goto L92; }
+    v441 = v71 + 384u * 1u;
+    v442 = load64(v441);
+    v443 = v110 + 34u * 1u;
+    v444 = load64(v443);
+    v445 = v444 == v442;
+    if (v445) { goto L94; }
+    else { goto L84; }
 L84:;
-    v463 = v110 + 20u * 1u;
-    v464 = load64(v463);
-    v465 = v464 == v449;
-    if (v465) { goto L92; }
-    else { goto L85; }
+    v446 = load8(v110);
+    v447 = (u8)((u32)v446 >> (4u & 7u));
+    v448 = load8(v113);
+    v449 = (u8)((u32)v447 | (u32)v448);
+    v450 = v449 == 0u;
+    if (v450) { goto L85; }
+    else { goto L94; }
 L85:;
-    v466 = v110 + 45u * 1u;
-    v467 = load8(v466);
-    v468 = v467 == 0u;
-    if (v468) { goto L92; }
-    else { goto L86; }
+    v451 = v110 + 4u * 1u;
+    v452 = load8(v451);
+    v453 = v71 + 8u * 1u;
+    v454 = load8(v453);
+    v455 = v452 == v454;
+    if (v455) { goto L86; }
+    else { goto L94; }
 L86:;
-    v469 = (u16)((u32)a1 + (u32)65535u);
-    v470 = load8(v73);
-    v471 = v470 == 0u;
-    v472 = v71 + 248u * 1u;
-    if (v471) { v30 = 376u; v31 = v472; goto L88; }
+    v456 = v110 + 20u * 1u;
+    v457 = load64(v456);
+    v458 = v457 == v442;
+    if (v458) { goto L94; }
     else { goto L87; }
 L87:;
-    v473 = load_address(v472);
-    v30 = 256u; v31 = v473; goto L88;
+    v459 = v110 + 45u * 1u;
+    v460 = load8(v459);
+    v461 = v460 == 0u;
+    if (v461) { goto L94; }
+    else { goto L88; }
 L88:;
-    v474 = v71 + v30 * 1u;
-    v475 = load64(v474);
-    v476 = (u64)v469;
-    v477 = v475 > v476;
-    if (v477) { goto L89; }
-    else { goto L92; }
+    v462 = (u16)((u32)a1 + (u32)65535u);
+    v463 = load8(v73);
+    v464 = v463 == 0u;
+    v465 = v71 + 248u * 1u;
+    if (v464) { v30 = 376u; v31 = v465; goto L90; }
+    else { goto L89; }
 L89:;
-    v478 = (u64)((u64)v476 << (4u & 63u));
-    v479 = v31 + v478 * 1u;
-    v480 = v479 + 8u * 1u;
-    v481 = load8(v480);
-    switch (v481) {
-    case 4u: goto L93;
-    case 5u: goto L93;
-    case 7u: goto L93;
-    case 8u: goto L93;
-    case 0u: goto L92;
-    case 1u: goto L92;
-    case 2u: goto L92;
-    case 3u: goto L92;
-    case 6u: goto L92;
-    default: goto L90;
-    }
+    v466 = load_address(v465);
+    v30 = 256u; v31 = v466; goto L90;
 L90:;
-    UNREACHABLE;
+    v467 = v71 + v30 * 1u;
+    v468 = load64(v467);
+    v469 = (u64)v462;
+    v470 = v468 > v469;
+    if (v470) { goto L91; }
+    else { goto L94; }
 L91:;
-    v41 = v32; v42 = v34; v43 = v33; v44 = 0u; v45 = 0u; goto L101;
-L92:;
-    v482 = load64(v106);
-    v41 = v482; v42 = 0u; v43 = v29; v44 = 0u; v45 = 0u; goto L101;
-L93:;
-    v483 = load64(v106);
-    v484 = v471 ? 376u : 256u;
-    v485 = v71 + v484 * 1u;
-    v486 = load64(v485);
-    v487 = (u16)(v486);
-    v488 = v487 == 0u;
-    if (v488) { v40 = 0u; goto L100; }
-    else { v35 = 0u; v36 = 0u; goto L94; }
-L94:;
-    v489 = (u16)((u32)v487 - (u32)v36);
-    v490 = v489 == a1;
-    if (v490) { v39 = 0u; goto L99; }
-    else { goto L95; }
-L95:;
-    v491 = v489 > 1u ? (u16)((u32)v489 - (u32)1u) : 0u;
-    if (v471) { v37 = 376u; v38 = v472; goto L97; }
-    else { goto L96; }
-L96:;
-    v492 = load_address(v472);
-    v37 = 256u; v38 = v492; goto L97;
-L97:;
-    v493 = v71 + v37 * 1u;
-    v494 = load64(v493);
-    v495 = (u64)v491;
-    v496 = v494 > v495;
-    if (v496) { goto L98; }
-    else { v39 = 0u; goto L99; }
-L98:;
-    v497 = (u64)((u64)v495 << (4u & 63u));
-    v498 = v38 + v497 * 1u;
-    v499 = v498 + 8u * 1u;
-    v500 = load8(v499);
-    v501 = (u64)v500;
-    v502 = ADDRESS(c358) + v501 * 8u;
-    v503 = load64(v502);
-    v39 = v503; goto L99;
-L99:;
-    v504 = (u64)((u64)v35 << (1u & 63u));
-    v505 = (u64)((u64)v39 | (u64)v504);
-    v506 = (u16)((u32)v36 + (u32)1u);
-    v507 = v506 < v487;
-    if (v507) { v35 = v505; v36 = v506; goto L94; }
-    else { v40 = v505; goto L100; }
-L100:;
-    v508 = v59 + 2u * 1u;
-    v509 = load8(v508);
-    v510 = v59 + 3u * 1u;
-    v511 = load8(v510);
-    v512 = (u64)v509;
-    v513 = (u64)((u64)v512 << (8u & 63u));
-    v514 = (u64)v511;
-    v515 = (u64)((u64)v513 | (u64)v514);
-    v516 = v59 + 45u * 1u;
-    v517 = load8(v516);
-    v518 = v517 > 1u ? (u8)((u32)v517 - (u32)1u) : 0u;
-    store8(v516, v518);
-    v41 = v483; v42 = 0u; v43 = v29; v44 = v515; v45 = v40; goto L101;
-L101:;
-    v519 = (u8)(v42);
-    v520 = (u8)((u32)v43 | (u32)v519);
-    store64(a6, v45);
-    v521 = a6 + 8u * 1u;
-    store64(v521, v44);
-    v522 = a6 + 16u * 1u;
-    store64(v522, v41);
-    switch (v520) {
-    case 0u: goto L102;
-    case 9u: goto L110;
-    case 1u: v46 = 1u; goto L114;
-    case 2u: goto L103;
-    case 3u: goto L104;
-    case 4u: goto L105;
-    case 5u: goto L106;
-    case 6u: goto L107;
-    case 7u: goto L108;
-    case 8u: goto L109;
-    default: goto L111;
+    v471 = (u64)((u64)v469 << (4u & 63u));
+    v472 = v31 + v471 * 1u;
+    v473 = v472 + 8u * 1u;
+    v474 = load8(v473);
+    switch (v474) {
+    case 4u: goto L95;
+    case 5u: goto L95;
+    case 7u: goto L95;
+    case 8u: goto L95;
+    case 0u: goto L94;
+    case 1u: goto L94;
+    case 2u: goto L94;
+    case 3u: goto L94;
+    case 6u: goto L94;
+    default: goto L92;
     }
-L102:;
-    v523 = (u32)(v42);
-    v524 = (u32)((u32)v523 >> (8u & 31u));
-    v525 = (u32)((u32)v524 + (u32)16u);
-    v46 = v525; goto L114;
-L103:;
-    v46 = 2u; goto L114;
-L104:;
-    v46 = 3u; goto L114;
-L105:;
-    v46 = 4u; goto L114;
-L106:;
-    v46 = 5u; goto L114;
-L107:;
-    v46 = 6u; goto L114;
-L108:;
-    v46 = 7u; goto L114;
-L109:;
-    v46 = 8u; goto L114;
-L110:;
-    v46 = 9u; goto L114;
-L111:;
+L92:;
     UNREACHABLE;
+L93:;
+    v41 = v32; v42 = v34; v43 = v33; v44 = 0u; v45 = 0u; goto L103;
+L94:;
+    v475 = load64(v106);
+    v41 = v475; v42 = 0u; v43 = v29; v44 = 0u; v45 = 0u; goto L103;
+L95:;
+    v476 = load64(v106);
+    v477 = v464 ? 376u : 256u;
+    v478 = v71 + v477 * 1u;
+    v479 = load64(v478);
+    v480 = (u16)(v479);
+    v481 = v480 == 0u;
+    if (v481) { v40 = 0u; goto L102; }
+    else { v35 = 0u; v36 = 0u; goto L96; }
+L96:;
+    v482 = (u16)((u32)v480 - (u32)v36);
+    v483 = v482 == a1;
+    if (v483) { v39 = 0u; goto L101; }
+    else { goto L97; }
+L97:;
+    v484 = v482 > 1u ? (u16)((u32)v482 - (u32)1u) : 0u;
+    if (v464) { v37 = 376u; v38 = v465; goto L99; }
+    else { goto L98; }
+L98:;
+    v485 = load_address(v465);
+    v37 = 256u; v38 = v485; goto L99;
+L99:;
+    v486 = v71 + v37 * 1u;
+    v487 = load64(v486);
+    v488 = (u64)v484;
+    v489 = v487 > v488;
+    if (v489) { goto L100; }
+    else { v39 = 0u; goto L101; }
+L100:;
+    v490 = (u64)((u64)v488 << (4u & 63u));
+    v491 = v38 + v490 * 1u;
+    v492 = v491 + 8u * 1u;
+    v493 = load8(v492);
+    v494 = (u64)v493;
+    v495 = ADDRESS(c358) + v494 * 8u;
+    v496 = load64(v495);
+    v39 = v496; goto L101;
+L101:;
+    v497 = (u64)((u64)v35 << (1u & 63u));
+    v498 = (u64)((u64)v39 | (u64)v497);
+    v499 = (u16)((u32)v36 + (u32)1u);
+    v500 = v499 < v480;
+    if (v500) { v35 = v498; v36 = v499; goto L96; }
+    else { v40 = v498; goto L102; }
+L102:;
+    v501 = v59 + 2u * 1u;
+    v502 = load8(v501);
+    v503 = v59 + 3u * 1u;
+    v504 = load8(v503);
+    v505 = (u64)v502;
+    v506 = (u64)((u64)v505 << (8u & 63u));
+    v507 = (u64)v504;
+    v508 = (u64)((u64)v506 | (u64)v507);
+    v509 = v59 + 45u * 1u;
+    v510 = load8(v509);
+    v511 = v510 > 1u ? (u8)((u32)v510 - (u32)1u) : 0u;
+    store8(v509, v511);
+    v41 = v476; v42 = 0u; v43 = v29; v44 = v508; v45 = v40; goto L103;
+L103:;
+    v512 = (u8)(v42);
+    v513 = (u8)((u32)v43 | (u32)v512);
+    store64(a6, v45);
+    v514 = a6 + 8u * 1u;
+    store64(v514, v44);
+    v515 = a6 + 16u * 1u;
+    store64(v515, v41);
+    switch (v513) {
+    case 0u: goto L104;
+    case 9u: goto L112;
+    case 1u: v46 = 1u; goto L116;
+    case 2u: goto L105;
+    case 3u: goto L106;
+    case 4u: goto L107;
+    case 5u: goto L108;
+    case 6u: goto L109;
+    case 7u: goto L110;
+    case 8u: goto L111;
+    default: goto L113;
+    }
+L104:;
+    v516 = (u32)(v42);
+    v517 = (u32)((u32)v516 >> (8u & 31u));
+    v518 = (u32)((u32)v517 + (u32)16u);
+    v46 = v518; goto L116;
+L105:;
+    v46 = 2u; goto L116;
+L106:;
+    v46 = 3u; goto L116;
+L107:;
+    v46 = 4u; goto L116;
+L108:;
+    v46 = 5u; goto L116;
+L109:;
+    v46 = 6u; goto L116;
+L110:;
+    v46 = 7u; goto L116;
+L111:;
+    v46 = 8u; goto L116;
 L112:;
-    v46 = 34u; goto L114;
+    v46 = 9u; goto L116;
 L113:;
-    v46 = 33u; goto L114;
+    UNREACHABLE;
 L114:;
+    v46 = 34u; goto L116;
+L115:;
+    v46 = 33u; goto L116;
+L116:;
     return v46;
 }
 
@@ -43193,7 +43002,7 @@ L4:;
     UNREACHABLE;
 L5:;
     v17 = load_address(v4);
-    v18 = f77(v17, v8, a2);
+    v18 = f75(v17, v8, a2);
     v19 = v18.m0;
     v20 = v19 == 1u;
     if (v20) { goto L6; }
@@ -43258,10 +43067,10 @@ L2:;
     if (v29) { goto L3; }
     else { goto L4; }
 L3:;
-    f80(v6, v21);
+    f78(v6, v21);
     goto L5;
 L4:;
-    f81(v6, v21);
+    f79(v6, v21);
     goto L5;
 L5:;
     v30 = load8(v6);
@@ -43285,7 +43094,7 @@ L5:;
     else { goto L12; }
 L6:;
     v44 = load_address(v20);
-    v45 = f77(v44, v12, a2);
+    v45 = f75(v44, v12, a2);
     v46 = v45.m0;
     v47 = v45.m1;
     v48 = v46 == 1u;
@@ -43778,10 +43587,10 @@ L14:;
     if (v91) { goto L15; }
     else { goto L16; }
 L15:;
-    f80(v14, v37);
+    f78(v14, v37);
     goto L17;
 L16:;
-    f81(v14, v37);
+    f79(v14, v37);
     goto L17;
 L17:;
     v92 = load8(v14);
@@ -43816,10 +43625,10 @@ L18:;
     if (v113) { goto L19; }
     else { goto L20; }
 L19:;
-    f80(v15, v37);
+    f78(v15, v37);
     goto L21;
 L20:;
-    f81(v15, v37);
+    f79(v15, v37);
     goto L21;
 L21:;
     v114 = load8(v15);
@@ -44286,10 +44095,10 @@ L6:;
     f44(v11, v29, a1, v17, a3, v20, a7);
     goto L10;
 L7:;
-    f60(v11, v29, a1, v17, a3, v34, v20, a7);
+    f58(v11, v29, a1, v17, a3, v34, v20, a7);
     goto L10;
 L8:;
-    f65(v11, v29, a1, v17, a3, v37, v39, v20, a7);
+    f63(v11, v29, a1, v17, a3, v37, v39, v20, a7);
     goto L10;
 L9:;
     UNREACHABLE;
@@ -44358,7 +44167,7 @@ L23:;
 L24:;
     v58 = v25 + 8u * 1u;
     v59 = load_address(v58);
-    v60 = f89(v59, a1, v17, a3, a4, v26, v20, a7, a8);
+    v60 = f87(v59, a1, v17, a3, a4, v26, v20, a7, a8);
     v10 = v60; goto L26;
 L25:;
     UNREACHABLE;
@@ -44823,7 +44632,7 @@ L30:;
     v52 = 11u; v53 = 4u; goto L31;
 L31:;
     memory_set(v78, 0u, 144u);
-    v232 = f91(v52, v53);
+    v232 = f89(v52, v53);
     v233 = v232 > 130u;
     if (v233) { goto L33; }
     else { goto L32; }
@@ -44933,7 +44742,7 @@ L52:;
     store8(v241, v263);
     v264 = load8(v244);
     store8(v243, v264);
-    v265 = f97(v75);
+    v265 = f95(v75);
     v266 = v265.m0;
     v267 = v265.m1;
     v268 = v257 == v267;
@@ -44967,7 +44776,7 @@ L55:;
 L56:;
     v61 = v264; v62 = v263; v63 = v262; v64 = 2u; goto L58;
 L57:;
-    f92(v76, v74, v259, v261, v78);
+    f90(v76, v74, v259, v261, v78);
     v285 = load8(v76);
     v286 = load8(v245);
     v287 = load8(v246);
@@ -44981,7 +44790,7 @@ L58:;
 L59:;
     goto L62;
 L60:;
-    f92(v77, v54, v51, v50, v78);
+    f90(v77, v54, v51, v50, v78);
     v291 = load8(v77);
     v292 = v77 + 1u * 1u;
     v293 = load8(v292);
@@ -45028,7 +44837,7 @@ L69:;
     store8(v304, v67);
     v305 = v72 + 2u * 1u;
     store8(v305, v68);
-    v306 = f99(a0, v72);
+    v306 = f97(a0, v72);
     v69 = 0u; v70 = v306; v71 = 116u; goto L71;
 L70:;
     store8(v73, v66);
@@ -45036,7 +44845,7 @@ L70:;
     store8(v307, v67);
     v308 = v73 + 2u * 1u;
     store8(v308, v68);
-    v309 = f99(a0, v73);
+    v309 = f97(a0, v73);
     v69 = 0u; v70 = v309; v71 = 117u; goto L71;
 L71:;
     store64(a5, v69);
@@ -45140,7 +44949,7 @@ L19:;
     if (v35) { goto L20; }
     else { goto L49; }
 L20:;
-    f100(1u, 1u, v19);
+    f98(1u, 1u, v19);
     v36 = load8(v31);
     v37 = v36 == 1u;
     if (v37) { goto L21; }
@@ -45176,7 +44985,7 @@ L25:;
     store64(v32, v6);
     goto L26;
 L26:;
-    f100(1u, 2u, v19);
+    f98(1u, 2u, v19);
     v51 = load8(v31);
     v52 = v51 == 1u;
     if (v52) { goto L27; }
@@ -45212,7 +45021,7 @@ L31:;
     store64(v32, v8);
     goto L32;
 L32:;
-    f100(1u, 3u, v19);
+    f98(1u, 3u, v19);
     v66 = load8(v31);
     v67 = v66 == 1u;
     if (v67) { goto L33; }
@@ -45248,7 +45057,7 @@ L37:;
     store64(v32, v10);
     goto L38;
 L38:;
-    f100(1u, 4u, v19);
+    f98(1u, 4u, v19);
     v81 = load8(v31);
     v82 = v81 == 1u;
     if (v82) { goto L39; }
@@ -45284,7 +45093,7 @@ L43:;
     store64(v32, v12);
     goto L44;
 L44:;
-    f100(1u, 254u, v19);
+    f98(1u, 254u, v19);
     v96 = load8(v31);
     v97 = v96 == 1u;
     if (v97) { goto L45; }
@@ -45512,7 +45321,7 @@ u64 portable_ptpm_field_text(u16 a0, address a1, u64 a2, address a3, u64 a4) {
     store64(v209, 1u);
     v210 = v201 + 24u * 1u;
     store64(v210, 0u);
-    v211 = f101(a0, v204, a2);
+    v211 = f99(a0, v204, a2);
     v212 = v211.m0;
     v213 = v211.m1;
     v214 = v213 == 0u;
@@ -45693,7 +45502,7 @@ L26:;
     store8(v200, v286);
     store8(v215, v288);
     store8(v216, v290);
-    v307 = f97(v200);
+    v307 = f95(v200);
     v308 = v307.m0;
     v309 = v307.m1;
     v310 = v41 == 1u;
@@ -45848,7 +45657,7 @@ L49:;
     if (v380) { v168 = v85; v169 = v86; v170 = v87; v171 = v88; v172 = v89; v173 = v90; v174 = v91; v175 = v92; v176 = v93; v177 = v94; v178 = v95; v179 = v96; goto L176; }
     else { v69 = v85; v70 = v86; v71 = v87; v72 = v88; v73 = v89; v74 = v90; v75 = v91; v76 = v92; v77 = v93; v78 = v94; v79 = v95; v80 = v96; v81 = v97; v82 = v379; goto L43; }
 L50:;
-    f103(v199, v294, v296, v298, v299);
+    f101(v199, v294, v296, v298, v299);
     v381 = load8(v199);
     v382 = load8(v217);
     v383 = load8(v218);
@@ -45874,11 +45683,11 @@ L50:;
     default: goto L174;
     }
 L51:;
-    f104(v387, v201);
+    f102(v387, v201);
     goto L175;
 L52:;
     memory_set(v196, 0u, 40u);
-    v389 = f105(v196, v387);
+    v389 = f103(v196, v387);
     v390 = v389.m0;
     v391 = v389.m1;
     v392 = v98 == 1u;
@@ -45988,7 +45797,7 @@ L68:;
     goto L69;
 L69:;
     v443 = (u64)((u64)v433 >> (16u & 63u));
-    f104(v443, v201);
+    f102(v443, v201);
     v444 = load8(v209);
     v445 = v444 == 1u;
     if (v445) { goto L70; }
@@ -46017,7 +45826,7 @@ L74:;
     v454 = (u32)((u32)v117 * (u32)10u);
     v455 = (u32)((u32)v454 >> (16u & 31u));
     v456 = (u64)v455;
-    f104(v456, v201);
+    f102(v456, v201);
     v457 = (u32)((u32)v454 & (u32)65534u);
     v458 = v457 == 0u;
     v459 = (u8)((u32)v118 + (u32)255u);
@@ -46169,10 +45978,10 @@ L95:;
     goto L96;
 L96:;
     v528 = (u64)((u64)v491 & (u64)65535u);
-    f104(v528, v201);
+    f102(v528, v201);
     goto L175;
 L97:;
-    f100(v382, v383, v201);
+    f98(v382, v383, v201);
     goto L175;
 L98:;
     v529 = v103 == 1u;
@@ -46218,7 +46027,7 @@ L103:;
     goto L104;
 L104:;
     v547 = (u64)v383;
-    f104(v547, v201);
+    f102(v547, v201);
     v548 = load8(v209);
     v549 = v548 == 1u;
     if (v549) { goto L105; }
@@ -46873,7 +46682,7 @@ u32 portable_ptpm_id_named(address a0, u64 a1) {
     v2 = a0 == 0u;
     v3 = v2 ? 4096u : 0u;
     v4 = a0 + v3 * 1u;
-    v5 = f106(v4, a1);
+    v5 = f104(v4, a1);
     v6 = v5.m0;
     v7 = v6 == 1u;
     v8 = v5.m1;
@@ -46911,13 +46720,13 @@ L2:;
 L3:;
     v11 = v5 + 2u * 1u;
     v12 = (u64)((u64)a1 + (u64)UINT64_C(18446744073709551614));
-    v13 = f107(v11, v12);
+    v13 = f105(v11, v12);
     v2 = v13; goto L5;
 L4:;
-    v14 = f106(v5, a1);
+    v14 = f104(v5, a1);
     v15 = v14.m0;
     v16 = v14.m1;
-    v17 = f107(v5, a1);
+    v17 = f105(v5, a1);
     v18 = v17.m0;
     v19 = v17.m1;
     v20 = (u8)((v15) & UINT64_C(1));
@@ -46962,7 +46771,7 @@ L2:;
     v12 = load_address(v11);
     v13 = v4 + 16u * 1u;
     v14 = load64(v13);
-    f108(v5, v12, v14);
+    f106(v5, v12, v14);
     v15 = load8(v5);
     v16 = v15 == 1u;
     if (v16) { goto L3; }
@@ -47001,7 +46810,7 @@ L1:;
     v18 = v7 + 4u * 1u;
     store64(v18, v17);
     store64(v16, 12u);
-    v19 = f109(v14, a2, v7, 12u);
+    v19 = f107(v14, a2, v7, 12u);
     v20 = swap32(v19);
     v21 = v7 + 12u * 1u;
     store32(v21, v20);
@@ -47027,7 +46836,7 @@ u32 portable_ptpm_image_unseal(address a0, u64 a1, address a2, address a3) {
     memory_set(v5, 0u, 24u);
     store64(a2, 0u);
     store64(a3, 0u);
-    f110(v5, v8, a1);
+    f108(v5, v8, a1);
     v9 = load8(v5);
     v10 = v9 == 0u;
     if (v10) { goto L1; }
@@ -47287,7 +47096,7 @@ L12:;
     v186 = v19 + 24u * 1u;
     store64(v186, v13);
     v187 = load_address(v179);
-    f111(v20, v187, v19, v23, a3, v26, a5, v29, a7);
+    f109(v20, v187, v19, v23, a3, v26, a5, v29, a7);
     v188 = load8(v20);
     v189 = v188 == 0u;
     if (v189) { goto L13; }
@@ -47377,7 +47186,7 @@ L1:;
 L2:;
     v29 = v26 + 8u * 1u;
     v30 = load_address(v29);
-    f116(v19, v30, v22, a2);
+    f114(v19, v30, v22, a2);
     v31 = load8(v19);
     v32 = v31 == 0u;
     if (v32) { goto L3; }
@@ -47616,11 +47425,11 @@ u16 portable_ptpm_limits_say(address a0, u64 a1, address a2) {
     default: goto L11;
     }
 L1:;
-    v11 = f118(v8, a1, a2);
+    v11 = f116(v8, a1, a2);
     if (v11) { v5 = 6u; goto L12; }
     else { goto L11; }
 L2:;
-    v12 = f118(v8, a1, a2);
+    v12 = f116(v8, a1, a2);
     if (v12) { v5 = 5u; goto L12; }
     else { goto L3; }
 L3:;
@@ -47695,7 +47504,7 @@ u32 portable_ptpm_member_kind(u16 a0, address a1, u64 a2, u64 a3) {
     v7 = v6 ? 4096u : 0u;
     v8 = a1 + v7 * 1u;
     memory_set(v5, 0u, 24u);
-    v9 = f101(a0, v8, a2);
+    v9 = f99(a0, v8, a2);
     v10 = v9.m1;
     v11 = a3 < v10;
     if (v11) { goto L1; }
@@ -47713,7 +47522,7 @@ L1:;
     v21 = (u64)v20;
     v22 = v8 + v21 * 1u;
     v23 = (u64)((u64)a2 - (u64)v21);
-    f103(v5, v16, v18, v22, v23);
+    f101(v5, v16, v18, v22, v23);
     v24 = load8(v5);
     switch (v24) {
     case 0u: v4 = 1u; goto L12;
@@ -47782,7 +47591,7 @@ L3:;
     memory_set(v17, 0u, 24u);
     v26 = (u64)((u64)v5 * (u64)a2);
     v27 = v20 + v26 * 1u;
-    f110(v17, v27, a2);
+    f108(v17, v27, a2);
     v28 = load8(v17);
     v29 = v28 == 0u;
     if (v29) { goto L5; }
@@ -47860,7 +47669,7 @@ L2:;
 L3:;
     v29 = v25 + v3 * 1u;
     v30 = load8(v29);
-    f95(v6, v13, v30);
+    f93(v6, v13, v30);
     v31 = load8(v6);
     v32 = v31 == 1u;
     if (v32) { goto L4; }
@@ -48075,7 +47884,7 @@ u8 portable_ptpm_passed_on_is_first(address a0, address a1, u64 a2, u64 a3, u64 
     v8 = v7 ? 4096u : 0u;
     v9 = a1 + v8 * 1u;
     v10 = load64(a0);
-    f119(v6, v9, a2);
+    f117(v6, v9, a2);
     v11 = load8(v6);
     v12 = v11 == 1u;
     if (v12) { goto L1; }
@@ -48083,7 +47892,7 @@ u8 portable_ptpm_passed_on_is_first(address a0, address a1, u64 a2, u64 a3, u64 
 L1:;
     v13 = a0 + 8u * 1u;
     v14 = v6 + 8u * 1u;
-    v15 = f120(v10, v13, 4096u, v14, a3, a4);
+    v15 = f118(v10, v13, 4096u, v14, a3, a4);
     v5 = v15; goto L2;
 L2:;
     return v5;
@@ -48106,14 +47915,14 @@ L1:;
     v14 = a3 == 0u;
     v15 = v14 ? 4096u : 0u;
     v16 = a3 + v15 * 1u;
-    f119(v8, v16, a4);
+    f117(v8, v16, a4);
     v17 = load8(v8);
     v18 = v17 == 1u;
     if (v18) { goto L2; }
     else { v7 = 0u; goto L3; }
 L2:;
     v19 = v8 + 8u * 1u;
-    v20 = f120(a0, v11, a2, v19, a5, a6);
+    v20 = f118(a0, v11, a2, v19, a5, a6);
     v7 = v20; goto L3;
 L3:;
     return v7;
@@ -48170,7 +47979,7 @@ L2:;
     v18 = load64(v17);
     memory_set(v7, 0u, 12u);
     memory_set(v8, 0u, 12u);
-    f121(v7, 47u, v16, v18);
+    f119(v7, 47u, v16, v18);
     v19 = load8(v7);
     v20 = v19 == 1u;
     v21 = v8 + 10u * 1u;
@@ -48184,7 +47993,7 @@ L3:;
     v25 = load16(v21);
     v4 = v25; v5 = v24; goto L5;
 L4:;
-    f121(v8, 45u, v16, v18);
+    f119(v8, 45u, v16, v18);
     v26 = load8(v8);
     v27 = v8 + 2u * 1u;
     v28 = load64(v27);
@@ -48744,7 +48553,7 @@ L28:;
     v241 = load64(v240);
     memory_set(v112, 0u, 32u);
     memory_set(v113, 0u, 32u);
-    f123(v112, v237, v239, v241);
+    f121(v112, v237, v239, v241);
     v242 = load8(v112);
     v243 = v242 == 0u;
     if (v243) { goto L29; }
@@ -48756,7 +48565,7 @@ L29:;
     v247 = load64(v246);
     v248 = v112 + 24u * 1u;
     v249 = load64(v248);
-    f123(v113, v237, v10, v9);
+    f121(v113, v237, v10, v9);
     v250 = load8(v113);
     v251 = v250 == 0u;
     if (v251) { goto L30; }
@@ -50296,7 +50105,7 @@ L54:;
     v746 = v146 + 176u * 1u;
     v747 = v146 + 174u * 1u;
     v748 = load64(a1);
-    f130(v146, v748);
+    f128(v146, v748);
     v85 = v745; v86 = v746; v87 = v747; v88 = v147; v89 = v146; goto L190;
 L55:;
     v749 = load16(v218);
@@ -50345,7 +50154,7 @@ L61:;
     store16(v760, 1u);
     v773 = (u16)(v30);
     store16(v761, v773);
-    v774 = f112(v759, v131);
+    v774 = f110(v759, v131);
     if (v774) { v31 = 1u; v32 = v773; goto L63; }
     else { goto L62; }
 L62:;
@@ -50504,7 +50313,7 @@ L88:;
 L89:;
     v853 = v130 + 8u * 1u;
     memory_set(v853, 0u, 40u);
-    f132(v130, v134, a3);
+    f130(v130, v134, a3);
     v854 = load8(v130);
     v855 = load16(v853);
     v856 = v130 + 10u * 1u;
@@ -50620,7 +50429,7 @@ L105:;
 L106:;
     v919 = v129 + 8u * 1u;
     memory_set(v919, 0u, 40u);
-    f132(v129, v134, a3);
+    f130(v129, v134, a3);
     v920 = load8(v129);
     v921 = v920 == 1u;
     v922 = v129 + 16u * 1u;
@@ -50681,7 +50490,7 @@ L112:;
     store16(v220, 0u);
     v107 = 3u; v108 = v749; v109 = 65535u; v110 = 0u; goto L227;
 L113:;
-    f130(v214, v215);
+    f128(v214, v215);
     v85 = v220; v86 = v219; v87 = v218; v88 = v216; v89 = v214; goto L190;
 L114:;
     store64(v127, 2u);
@@ -50700,7 +50509,7 @@ L114:;
     memory_set(v128, 0u, 16u);
     v946 = load_address(v938);
     v947 = load64(v939);
-    f111(v128, v937, v127, ADDRESS(c148), 0u, ADDRESS(c148), 0u, v946, v947);
+    f109(v128, v937, v127, ADDRESS(c148), 0u, ADDRESS(c148), 0u, v946, v947);
     v948 = load8(v128);
     v949 = v948 == 0u;
     if (v949) { goto L115; }
@@ -50734,7 +50543,7 @@ L117:;
     memory_set(v126, 0u, 16u);
     v959 = load_address(v938);
     v960 = load64(v939);
-    f111(v126, v937, v125, ADDRESS(c148), 0u, ADDRESS(c148), 0u, v959, v960);
+    f109(v126, v937, v125, ADDRESS(c148), 0u, ADDRESS(c148), 0u, v959, v960);
     v961 = load8(v126);
     v962 = v961 == 0u;
     if (v962) { goto L118; }
@@ -50768,7 +50577,7 @@ L120:;
     memory_set(v124, 0u, 16u);
     v972 = load_address(v938);
     v973 = load64(v939);
-    f111(v124, v937, v123, ADDRESS(c148), 0u, ADDRESS(c148), 0u, v972, v973);
+    f109(v124, v937, v123, ADDRESS(c148), 0u, ADDRESS(c148), 0u, v972, v973);
     v974 = load8(v124);
     v975 = v974 == 0u;
     if (v975) { goto L121; }
@@ -50805,7 +50614,7 @@ L125:;
     store16(v220, 0u);
     v107 = 3u; v108 = v749; v109 = 65535u; v110 = 0u; goto L227;
 L126:;
-    f133(v214, v749, v61);
+    f131(v214, v749, v61);
     v85 = v220; v86 = v219; v87 = v218; v88 = v216; v89 = v214; goto L190;
 L127:;
     v979 = v935 == 1u;
@@ -50827,7 +50636,7 @@ L129:;
     store8(v988, 1u);
     goto L130;
 L130:;
-    f130(v214, v215);
+    f128(v214, v215);
     v85 = v220; v86 = v219; v87 = v218; v88 = v216; v89 = v214; goto L190;
 L131:;
     v989 = (u16)v56;
@@ -50839,7 +50648,7 @@ L131:;
     store16(v220, v55);
     v85 = v220; v86 = v219; v87 = v218; v88 = v216; v89 = v214; goto L190;
 L132:;
-    f130(v214, v215);
+    f128(v214, v215);
     v85 = v220; v86 = v219; v87 = v218; v88 = v216; v89 = v214; goto L190;
 L133:;
     if (v54) { goto L134; }
@@ -50893,7 +50702,7 @@ L138:;
     v1009 = load_address(v1008);
     v1010 = v214 + 192u * 1u;
     v1011 = load64(v1010);
-    f111(v122, v1007, v121, ADDRESS(c148), 0u, ADDRESS(c148), 0u, v1009, v1011);
+    f109(v122, v1007, v121, ADDRESS(c148), 0u, ADDRESS(c148), 0u, v1009, v1011);
     v1012 = load8(v122);
     v1013 = v1012 == 0u;
     if (v1013) { goto L139; }
@@ -50931,7 +50740,7 @@ L141:;
     v1026 = load_address(v1025);
     v1027 = v214 + 192u * 1u;
     v1028 = load64(v1027);
-    f111(v120, v1024, v119, ADDRESS(c148), 0u, ADDRESS(c148), 0u, v1026, v1028);
+    f109(v120, v1024, v119, ADDRESS(c148), 0u, ADDRESS(c148), 0u, v1026, v1028);
     v1029 = load8(v120);
     v1030 = v1029 == 0u;
     if (v1030) { goto L142; }
@@ -50951,7 +50760,7 @@ L143:;
 L144:;
     UNREACHABLE;
 L145:;
-    f130(v214, v215);
+    f128(v214, v215);
     v85 = v220; v86 = v219; v87 = v218; v88 = v216; v89 = v214; goto L190;
 L146:;
     v1034 = load16(v157);
@@ -50988,7 +50797,7 @@ L148:;
     v1051 = load_address(v1050);
     v1052 = v153 + 192u * 1u;
     v1053 = load64(v1052);
-    f111(v118, v1049, v117, ADDRESS(c148), 0u, ADDRESS(c148), 0u, v1051, v1053);
+    f109(v118, v1049, v117, ADDRESS(c148), 0u, ADDRESS(c148), 0u, v1051, v1053);
     v1054 = load8(v118);
     v1055 = v1054 == 0u;
     if (v1055) { goto L149; }
@@ -51010,22 +50819,22 @@ L151:;
     v1060 = v175 + 176u * 1u;
     v1061 = v175 + 174u * 1u;
     v1062 = load64(a1);
-    f134(v175, v1062, 4u, 0u, ADDRESS(c148), 0u);
+    f132(v175, v1062, 4u, 0u, ADDRESS(c148), 0u);
     v85 = v1059; v86 = v1060; v87 = v1061; v88 = v176; v89 = v175; goto L190;
 L152:;
     if (v29) { goto L153; }
     else { v63 = v19; v64 = v20; v65 = v21; v66 = v22; v67 = v23; v68 = v24; v69 = v25; v70 = v26; goto L154; }
 L153:;
-    f134(v24, v23, 0u, 0u, v25, v26);
+    f132(v24, v23, 0u, 0u, v25, v26);
     v85 = v19; v86 = v20; v87 = v21; v88 = v22; v89 = v24; goto L190;
 L154:;
-    f134(v68, v67, 1u, 0u, v69, v70);
+    f132(v68, v67, 1u, 0u, v69, v70);
     v85 = v63; v86 = v64; v87 = v65; v88 = v66; v89 = v68; goto L190;
 L155:;
-    f134(v76, v75, 2u, v77, ADDRESS(c148), 0u);
+    f132(v76, v75, 2u, v77, ADDRESS(c148), 0u);
     v85 = v71; v86 = v72; v87 = v73; v88 = v74; v89 = v76; goto L190;
 L156:;
-    f134(v179, v180, 3u, 0u, ADDRESS(c148), 0u);
+    f132(v179, v180, 3u, 0u, ADDRESS(c148), 0u);
     v85 = v185; v86 = v184; v87 = v183; v88 = v181; v89 = v179; goto L190;
 L157:;
     v1063 = load8(v192);
@@ -51143,7 +50952,7 @@ L171:;
     store8(v1119, 1u);
     goto L172;
 L172:;
-    f130(v188, v189);
+    f128(v188, v189);
     v85 = v194; v86 = v193; v87 = v192; v88 = v190; v89 = v188; goto L190;
 L173:;
     store16(v190, 13u);
@@ -51153,11 +50962,11 @@ L173:;
     store16(v194, v1065);
     v105 = 1u; v106 = v1065; goto L225;
 L174:;
-    f130(v188, v189);
+    f128(v188, v189);
     v85 = v194; v86 = v193; v87 = v192; v88 = v190; v89 = v188; goto L190;
 L175:;
     v1120 = (u8)((v1066) & UINT64_C(1));
-    f133(v188, v1065, v1120);
+    f131(v188, v1065, v1120);
     v85 = v194; v86 = v193; v87 = v192; v88 = v190; v89 = v188; goto L190;
 L176:;
     store16(v190, 4u);
@@ -51180,7 +50989,7 @@ L177:;
 L178:;
     UNREACHABLE;
 L179:;
-    f130(v188, v189);
+    f128(v188, v189);
     v85 = v194; v86 = v193; v87 = v192; v88 = v190; v89 = v188; goto L190;
 L180:;
     v1126 = v162 + 178u * 1u;
@@ -51203,7 +51012,7 @@ L181:;
     v1134 = v116 + 18u * 1u;
     store16(v1134, v1131);
     v1135 = v167 + 8u * 1u;
-    v1136 = f112(v1135, v116);
+    v1136 = f110(v1135, v116);
     if (v1136) { goto L182; }
     else { goto L185; }
 L182:;
@@ -51215,7 +51024,7 @@ L182:;
     v1139 = load_address(v1138);
     v1140 = v167 + 192u * 1u;
     v1141 = load64(v1140);
-    f111(v115, v1135, v114, ADDRESS(c148), 0u, ADDRESS(c148), 0u, v1139, v1141);
+    f109(v115, v1135, v114, ADDRESS(c148), 0u, ADDRESS(c148), 0u, v1139, v1141);
     v1142 = load8(v115);
     v1143 = v1142 == 0u;
     if (v1143) { goto L183; }
@@ -53210,7 +53019,7 @@ L40:;
     if (v569) { goto L41; }
     else { v16 = v446; v17 = v445; goto L43; }
 L41:;
-    v570 = f136(v102);
+    v570 = f134(v102);
     v571 = v570 == 0u;
     if (v571) { goto L42; }
     else { goto L49; }
@@ -53751,7 +53560,7 @@ L10:;
     v100 = v38 + 8u * 1u;
     store16(v100, v79);
     store64(v39, v68);
-    f139(v37, v64, a4, v38, v39, v73, v5);
+    f137(v37, v64, a4, v38, v39, v73, v5);
     v101 = load8(v37);
     v102 = v101 == 0u;
     if (v102) { goto L11; }
@@ -54406,13 +54215,13 @@ L12:;
     if (v119) { goto L13; }
     else { goto L14; }
 L13:;
-    f141(v22, a1, a2, v26, a4, v98, v99);
+    f139(v22, a1, a2, v26, a4, v98, v99);
     v120 = load8(v22);
     v121 = v120 == 0u;
     if (v121) { goto L17; }
     else { goto L18; }
 L14:;
-    v122 = f140(v26, a4);
+    v122 = f138(v26, a4);
     v123 = v122.m0;
     v124 = v123 == 1u;
     if (v124) { goto L15; }
@@ -54458,7 +54267,7 @@ L18:;
 L19:;
     v13 = v8; v14 = v9; v15 = v10; v16 = v11; v17 = v12; goto L21;
 L20:;
-    f141(v23, a1, a2, v26, a4, v29, a6);
+    f139(v23, a1, a2, v26, a4, v29, a6);
     v149 = load8(v23);
     v150 = v23 + 1u * 1u;
     v151 = load8(v150);
@@ -54592,7 +54401,7 @@ L1:;
     goto L2;
 L2:;
     memory_set(v12, 0u, 424u);
-    f154(v12, a1, v18, a3, v21, a5);
+    f151(v12, a1, v18, a3, v21, a5);
     v30 = load8(v12);
     v31 = v30 == 0u;
     if (v31) { goto L3; }
@@ -54630,7 +54439,7 @@ L3:;
     v56 = v39 == 0u;
     v57 = v56 ? v49 : v44;
     v58 = (u16)(v57);
-    f150(v7, v8, v58, v21, a5);
+    f147(v7, v8, v58, v21, a5);
     v59 = load8(v7);
     v60 = v7 + 8u * 1u;
     v61 = v13 + 7u * 1u;
@@ -54657,7 +54466,7 @@ L4:;
     v70 = v14 + 376u * 1u;
     store64(v70, v49);
     memory_cpy(v15, v61, 40u);
-    v71 = f151(v14, v15);
+    v71 = f148(v14, v15);
     v72 = v71.m0;
     v73 = v72 == 0u;
     if (v73) { goto L8; }
@@ -55081,7 +54890,7 @@ L1:;
     store_address(v69, v62);
     v89 = v69 + 8u * 1u;
     memory_set(v89, 0u, 16u);
-    f116(v70, v67, v80, a2);
+    f114(v70, v67, v80, a2);
     v90 = load8(v70);
     v91 = v90 == 0u;
     if (v91) { goto L2; }
@@ -55222,7 +55031,7 @@ L20:;
     if (v163) { goto L21; }
     else { v13 = v162; goto L23; }
 L21:;
-    v164 = f155(v68);
+    v164 = f152(v68);
     if (v164) { goto L22; }
     else { goto L27; }
 L22:;
@@ -55263,7 +55072,7 @@ L23:;
     if (v183) { goto L24; }
     else { v14 = v5; v15 = v182; goto L26; }
 L24:;
-    v184 = f156(v69);
+    v184 = f153(v69);
     if (v184) { goto L25; }
     else { goto L49; }
 L25:;
@@ -55385,7 +55194,7 @@ L47:;
     v235 = (u64)((u64)v234 + (u64)v121);
     v236 = v80 + v235 * 1u;
     v237 = (u64)((u64)a2 - (u64)v235);
-    f116(v70, v67, v236, v237);
+    f114(v70, v67, v236, v237);
     v238 = load8(v70);
     v239 = v238 == 0u;
     if (v239) { v5 = v17; v6 = v18; v7 = v236; v8 = v235; goto L3; }
@@ -55476,7 +55285,7 @@ L63:;
     store8(v74, 5u);
     v276 = v74 + 1u * 1u;
     store8(v276, 0u);
-    v277 = f112(v71, v74);
+    v277 = f110(v71, v74);
     if (v277) { goto L80; }
     else { goto L65; }
 L64:;
@@ -55621,7 +55430,7 @@ L89:;
     if (v332) { goto L90; }
     else { v32 = v24; v33 = v23; v34 = v25; v35 = v64; goto L92; }
 L90:;
-    v333 = f157(v66);
+    v333 = f154(v66);
     if (v333) { goto L91; }
     else { goto L107; }
 L91:;
@@ -55965,7 +55774,7 @@ L147:;
     store64(v484, 8221u);
     v485 = v72 + 208u * 1u;
     store64(v485, 0u);
-    v486 = f158(v72);
+    v486 = f155(v72);
     if (v486) { goto L156; }
     else { goto L158; }
 L148:;
@@ -55988,7 +55797,7 @@ L152:;
     store64(v489, v270);
     v490 = v75 + 16u * 1u;
     store64(v490, v271);
-    f161(v75);
+    f158(v75);
     v491 = v71 + 48u * 1u;
     v492 = load64(v491);
     v493 = v492 == 0u;
@@ -56009,11 +55818,11 @@ L155:;
     v499 = load_address(v56);
     v57 = v499; goto L167;
 L156:;
-    v500 = f159(v72);
+    v500 = f156(v72);
     if (v500) { goto L157; }
     else { goto L158; }
 L157:;
-    v501 = f160(v72);
+    v501 = f157(v72);
     if (v501) { goto L166; }
     else { goto L158; }
 L158:;
@@ -56039,7 +55848,7 @@ L161:;
     portable_rattle_dealloc(v505);
     goto L162;
 L162:;
-    f161(v470);
+    f158(v470);
     v512 = v274 == 0u;
     if (v512) { goto L164; }
     else { goto L163; }
@@ -56286,7 +56095,7 @@ u32 portable_ptpm_session_restore(address a0, address a1, address a2, u64 a3) {
     v20 = load16(v19);
     v21 = a1 + 4u * 1u;
     v22 = load16(v21);
-    f139(v5, v12, a3, v6, v7, v20, v22);
+    f137(v5, v12, a3, v6, v7, v20, v22);
     v23 = load8(v5);
     v24 = v23 == 0u;
     if (v24) { goto L1; }
@@ -56667,7 +56476,7 @@ L3:;
     memory_set(v43, 0u, 24u);
     v44 = v4 + 136u * 1u;
     store64(v44, UINT64_C(2611923443488327891));
-    v45 = f162(a0, v4);
+    v45 = f159(a0, v4);
     v2 = v45; goto L4;
 L4:;
     return v2;
@@ -56767,7 +56576,7 @@ L6:;
     memory_set(v48, 0u, 24u);
     v49 = v5 + 136u * 1u;
     store64(v49, UINT64_C(2611923443488327891));
-    v50 = f162(a0, v5);
+    v50 = f159(a0, v5);
     v3 = v50; goto L7;
 L7:;
     return v3;
@@ -56979,12 +56788,12 @@ L46:;
 L47:;
     v54 = v33 + 8u * 1u;
     v55 = load_address(v54);
-    f163(v16, v55, a1, v20, a3);
+    f160(v16, v55, a1, v20, a3);
     v5 = v25; v6 = v27; v7 = v29; v8 = v31; v9 = v16; goto L2;
 L48:;
     v56 = v33 + 8u * 1u;
     v57 = load_address(v56);
-    f167(v17, v57, a1, v20, a3);
+    f164(v17, v57, a1, v20, a3);
     v5 = v26; v6 = v28; v7 = v30; v8 = v32; v9 = v17; goto L2;
 L49:;
     UNREACHABLE;
@@ -57625,7 +57434,7 @@ L1:;
 L2:;
     v21 = v19 + 8u * 1u;
     v22 = load_address(v21);
-    f168(v10, v22, a1, a2, a3, v14, a5);
+    f165(v10, v22, a1, a2, a3, v14, a5);
     v23 = load8(v10);
     v24 = v10 + 1u * 1u;
     v25 = load8(v24);
@@ -57668,7 +57477,7 @@ L10:;
     v34 = load_address(v33);
     memory_set(v9, 0u, 72u);
     v35 = load_address(v34);
-    f168(v9, v35, a1, a2, a3, v14, a5);
+    f165(v9, v35, a1, a2, a3, v14, a5);
     v36 = load8(v9);
     v37 = v36 == 0u;
     if (v37) { goto L11; }
@@ -57755,7 +57564,7 @@ L1:;
 L2:;
     v18 = v16 + 8u * 1u;
     v19 = load_address(v18);
-    f169(v8, v19, a1, v12, a3);
+    f166(v8, v19, a1, v12, a3);
     v20 = load8(v8);
     v21 = v20 == 0u;
     if (v21) { goto L3; }
@@ -57788,7 +57597,7 @@ L7:;
 L8:;
     v29 = v16 + 8u * 1u;
     v30 = load_address(v29);
-    f170(v9, v30, a1, v12, a3);
+    f167(v9, v30, a1, v12, a3);
     v31 = load8(v9);
     v32 = v31 == 0u;
     if (v32) { goto L9; }
@@ -58035,7 +57844,7 @@ L6:;
     if (v38) { goto L7; }
     else { goto L16; }
 L7:;
-    f170(v10, v22, a1, v14, a3);
+    f167(v10, v22, a1, v14, a3);
     v39 = load8(v10);
     v40 = v39 == 0u;
     if (v40) { goto L8; }
@@ -58045,7 +57854,7 @@ L8:;
     v42 = load8(v41);
     v43 = v10 + 4u * 1u;
     v44 = load_address(v22);
-    f90(v9, v44, v14, a3);
+    f88(v9, v44, v14, a3);
     v45 = load8(v9);
     v46 = v45 == 1u;
     if (v46) { goto L10; }
