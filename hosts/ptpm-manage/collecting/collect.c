@@ -382,10 +382,12 @@ static bool is_one_slow(void) {
     return false;
 }
 
-/* Hears the answer of a clock that is heard, and has not answered yet. */
+/* Hears the answer of a clock that is heard, and has not answered yet. Once it answers, its other answers follow. */
 static void wait_for_slow(const struct task *task) {
-    int64_t end = latest_sent + (task->timeout > SLOW ? task->timeout : SLOW);
-    while (!stopped && milliseconds() < end && is_one_slow()) hear_until(milliseconds() + STEP < end ? milliseconds() + STEP : end);
+    int64_t now, end = latest_sent + (task->timeout > SLOW ? task->timeout : SLOW);
+    while (!stopped && (now = milliseconds()) < end && (is_one_slow() || (count_lacking() > 0 && now < latest + task->timeout))) {
+        hear_until(now + STEP < end ? now + STEP : end);
+    }
 }
 
 /* Whether this is for a plan, and no answer is lacking that is known of. */
