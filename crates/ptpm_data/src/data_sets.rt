@@ -3,7 +3,7 @@
 ghost use Rattle.std.specs.Prelude.{◌≡◌};
 
 use crate::description::Description;
-use crate::port_list::PortList;
+use crate::port_list::{PortList, is_forwarding_port};
 use crate::port_settings::PortSettings;
 use crate::port_state::PortState;
 use crate::ports::{INLINE_PORTS, PORTS};
@@ -172,6 +172,13 @@ impl DataSets {
         self.ports.as_slice().len() as u16
     }
 
+    /// The data sets of its ports, in their order.
+    pub fn port_sets(&self) -> &[PortDataSet]
+        ensures { result.now ≡ self.now.ports }
+    {
+        self.ports.as_slice()
+    }
+
     /// Whether it is one of the clock's ports.
     pub fn has_port(&self, port: u16) -> bool
         ensures exact { result ≡ has_port port self.now }
@@ -185,12 +192,6 @@ impl DataSets {
     pub fn may_forward(&self, port: u16) -> bool
         ensures { result ≡ may_forward port self.now }
     {
-        match port
-            .checked_sub(1)
-            .and_then(|place| self.ports.as_slice().get(place as usize))
-        {
-            Some(port) => port.state.is_forwarding(),
-            None => false,
-        }
+        is_forwarding_port(self.port_sets(), port)
     }
 }
