@@ -4,11 +4,11 @@ ghost use Rattle.std.specs.Prelude.{◌≡◌, ◌≤◌, ◌<◌, ◌==◌, ◌
 ghost use Rattle.ptpm_codec.specs.Layout.{boundary_hops, message_octets};
 ghost use Rattle.ptpm_codec.specs.Reading.{IsWellFormed, reading};
 ghost use Rattle.ptpm_codec.specs.Spelling.{Spells};
-ghost use Rattle.ptpm_data.specs.Members.{HasPort, may_forward};
+ghost use Rattle.ptpm_data.specs.Members.{HasPort, is_forwarding_port, port_among};
 ghost use Rattle.ptpm_agent.specs.Forwarding.{egress_ports, forwarded, is_forwarded, with_less_hop};
 
 use ptpm_codec::{ClockIdentity, View};
-use ptpm_data::{DataSets, data_sets_law};
+use ptpm_data::{DataSets, PortDataSet, data_sets_law, is_forwarding_port};
 use ptpm_table::LongOutgoing;
 
 /// Sends the copies of a datagram that the clock passes on, before anything else was sent. Takes no memory.
@@ -64,16 +64,17 @@ fn send_on<O: LongOutgoing>(sets: &DataSets, ingress: u16, datagram: &[u8], out:
     ensures grown { O.grown out.old out.new }
 {
     data_sets_law(sets);
+    let ports = sets.port_sets();
     for port in 1..sets.port_count() + 1 {
-        if is_egress(sets, ingress, port) {
+        if is_egress(ports, ingress, port) {
             out.push_less_hop(port, datagram);
         }
     }
 }
 
-/// Whether a copy goes out at this port.
-fn is_egress(sets: &DataSets, ingress: u16, port: u16) -> bool
-    ensures { result ≡ (not (port == ingress) && may_forward port sets.now) }
+/// Whether a copy goes out at this port, given the data sets of all.
+fn is_egress(ports: &[PortDataSet], ingress: u16, port: u16) -> bool
+    ensures { result ≡ (not (port == ingress) && is_forwarding_port (port_among port ports.now)) }
 {
-    port != ingress && sets.may_forward(port)
+    port != ingress && is_forwarding_port(ports, port)
 }

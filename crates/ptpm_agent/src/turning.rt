@@ -33,8 +33,8 @@ use crate::forwarding::{forward, is_forwarded};
 use crate::verdict::Verdict;
 use ptpm_codec::{Action, ClockIdentity, ErrorId, Octets, OutOfMemory, PortIdentity, View, view};
 use ptpm_data::{
-    ChangedMembers, ClockObservation, DataSets, INLINE_PORTS, ObservationError, PortAnswer,
-    PortObservation, PortsLeftDisabled, Reply, Request, Rights, data_sets_law,
+    ChangedMembers, ClockObservation, DataSets, INLINE_PORTS, ObservationError, PORTS, PortAnswer,
+    PortDataSet, PortObservation, PortsLeftDisabled, Reply, Request, Rights, data_sets_law,
 };
 use ptpm_table::{
     Heard, LongOutgoing, Look, Outbox, Outgoing, ReplyTable, Sender, SlotTable, SureTable, render,
@@ -726,7 +726,8 @@ impl<T: SureTable + Drop> Agent<T> {
         ensures clock { clock_of T.owner self.new ≡ clock_of T.owner self.old }
         ensures most { T.most self.new.table ≡ T.most self.old.table }
     {
-        let before = self.sets.snapshot();
+        let mut room = [PortDataSet::default(); PORTS];
+        let before = self.sets.snapshot(&mut room);
         self.accept(ingress, message, rights, out);
         self.sets.changed_since(&before)
     }

@@ -238,7 +238,7 @@ impl DataSets {
 
     /// The members whose values were others before. A port that only one of the two has differs in each member. Takes no
     /// memory.
-    pub fn changed_since(&self, before: &Snapshot) -> ChangedMembers
+    pub fn changed_since(&self, before: &Snapshot<'_>) -> ChangedMembers
         ensures { result ≡ changed before.now self.now }
     {
         let mut ports = [PortMembers::NONE; PORTS];
@@ -253,7 +253,7 @@ impl DataSets {
 
     /// The members of a port whose values were others before.
     #[tactic(auto, using(crate::proofs::Differing::of_neither, crate::proofs::Differing::none_told, crate::proofs::Differing::of_the_former, crate::proofs::Differing::some_told, crate::proofs::Differing::of_the_latter))]
-    fn port_changed_since(&self, before: &Snapshot, port: u16) -> PortMembers
+    fn port_changed_since(&self, before: &Snapshot<'_>, port: u16) -> PortMembers
         ensures { result ≡ port_changed before.now self.now port }
     {
         match (before.port(port), self.port(port)) {
@@ -265,7 +265,7 @@ impl DataSets {
     }
 
     /// The members of the clock whose values were others before.
-    fn clock_changed_since(&self, before: &Snapshot) -> ClockMembers
+    fn clock_changed_since(&self, before: &Snapshot<'_>) -> ClockMembers
         ensures { result ≡ clock_changed before.now self.now }
     {
         let own = &before.default.precedence;

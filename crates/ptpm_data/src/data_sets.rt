@@ -3,12 +3,13 @@
 ghost use Rattle.std.specs.Prelude.{◌≡◌};
 
 use crate::description::Description;
-use crate::port_list::PortList;
+use crate::port_list::{PortList, is_forwarding_port};
 use crate::port_settings::PortSettings;
 use crate::port_state::PortState;
 use crate::ports::{INLINE_PORTS, PORTS};
 use arrayvec::ArrayVec;
-use ptpm_codec::{ClockIdentity, PortIdentity};
+use ptpm_codec::{ClockIdentity, OutOfMemory, PortIdentity};
+use std::alloc::Global;
 use std::marker::Model;
 
 /// What decides which of two clocks is the better master (9.3.4).
@@ -130,23 +131,59 @@ impl Model for DataSets {
 }
 
 impl DataSets {
-    ghost use Rattle.std.specs.Prelude.{◌≡◌, ◌≤◌, ◌↔◌, IsTrue, length};
+    ghost use Rattle.std.specs.Prelude.{◌≡◌, ◌≤◌, ◌↔◌, IfOk, IsOk, IsTrue, length};
     ghost use Rattle.ptpm_data.specs.Members.{HasPort, has_port, may_forward};
+    ghost use Rattle.ptpm_data.specs.PortList.{ports_in};
 
-    /// An equal one, if the ports lie in the value.
+    /// An equal one, if the ports lie in the value. Never inlined: see `copy_in`.
+    #[inline(never)]
     pub fn copy(&self) -> DataSets
         requires few { length self.now.ports ≤ INLINE_PORTS }
         ensures { result ≡ self.now }
     {
         let mut ports = ArrayVec::new();
         let _ = ports.try_extend_from_slice(self.ports.as_slice());
+        self.with_ports(PortList::Few(ports))
+    }
+
+    /// An equal one. Takes memory for more than `INLINE_PORTS` ports alone: the block that it keeps. What it calls is never inlined: so
+    /// the stack has what one of them takes.
+    #[inline(always)]
+    pub fn copy_in(&self, alloc: Global) -> Result<DataSets, OutOfMemory>
+        ensures copy { IfOk result (λ copy. copy ≡ self.now) }
+        ensures few { length self.now.ports ≤ INLINE_PORTS → IsOk result }
+    {
+        if self.port_count() as usize <= INLINE_PORTS {
+            Ok(self.copy())
+        } else {
+            self.copy_many(alloc)
+        }
+    }
+
+    /// The same, with the ports in a block of memory.
+    #[inline(never)]
+    fn copy_many(&self, alloc: Global) -> Result<DataSets, OutOfMemory>
+        ensures { IfOk result (λ copy. copy ≡ self.now) }
+    {
+        let Ok(ports) = Vec::from_slice(alloc, self.ports.as_slice()) else {
+            return Err(OutOfMemory);
+        };
+        Ok(self.with_ports(PortList::Many(ports)))
+    }
+
+    /// An equal one that has these ports, which are the same.
+    #[inline(always)]
+    fn with_ports(&self, ports: PortList) -> DataSets
+        requires { ports_in ports ≡ self.now.ports }
+        ensures { result ≡ self.now }
+    {
         DataSets {
             default: self.default,
             description: Description::of(self.description.text()),
             current: self.current,
             parent: self.parent,
             time: self.time,
-            ports: PortList::Few(ports),
+            ports,
         }
     }
 
@@ -172,6 +209,13 @@ impl DataSets {
         self.ports.as_slice().len() as u16
     }
 
+    /// The data sets of its ports, in their order.
+    pub fn port_sets(&self) -> &[PortDataSet]
+        ensures { result.now ≡ self.now.ports }
+    {
+        self.ports.as_slice()
+    }
+
     /// Whether it is one of the clock's ports.
     pub fn has_port(&self, port: u16) -> bool
         ensures exact { result ≡ has_port port self.now }
@@ -185,12 +229,6 @@ impl DataSets {
     pub fn may_forward(&self, port: u16) -> bool
         ensures { result ≡ may_forward port self.now }
     {
-        match port
-            .checked_sub(1)
-            .and_then(|place| self.ports.as_slice().get(place as usize))
-        {
-            Some(port) => port.state.is_forwarding(),
-            None => false,
-        }
+        is_forwarding_port(self.port_sets(), port)
     }
 }

@@ -56,6 +56,7 @@ pub use observation::{
     AnnouncedGrandmaster, ClockObservation, ObservationError, ObservedGrandmaster, PortObservation,
     PortsLeftDisabled,
 };
+pub use port_list::is_forwarding_port;
 pub use port_setting::{PortSetting, SettingRange};
 pub use port_settings::PortSettings;
 pub use port_state::{DelayMechanism, PortState};

@@ -2,7 +2,7 @@
 
 ghost use Rattle.std.specs.Prelude.{◌≡◌, ◌≤◌, length, option_map};
 ghost use Rattle.ptpm_data.specs.Changes.{IsTargetOf, named_changed};
-ghost use Rattle.ptpm_data.specs.Members.{port_among};
+ghost use Rattle.ptpm_data.specs.Members.{is_forwarding_port, port_among};
 ghost use Rattle.ptpm_data.specs.Observation.{ports_after};
 ghost use Rattle.ptpm_data.specs.PortChange.{is_change_in_range, port_after};
 ghost use Rattle.ptpm_data.specs.PortList.{ports_in};
@@ -29,6 +29,19 @@ pub(crate) fn port_at(ports: &[PortDataSet], port: u16) -> Option<&PortDataSet>
         return None;
     }
     ports.get(port as usize - 1)
+}
+
+/// What `DataSets::may_forward` says of a port, given the data sets of all.
+pub fn is_forwarding_port(ports: &[PortDataSet], port: u16) -> bool
+    ensures { result ≡ is_forwarding_port (port_among port ports.now) }
+{
+    match port
+        .checked_sub(1)
+        .and_then(|place| ports.get(place as usize))
+    {
+        Some(port) => port.state.is_forwarding(),
+        None => false,
+    }
 }
 
 impl PortList {

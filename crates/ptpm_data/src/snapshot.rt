@@ -8,24 +8,23 @@ use crate::data_sets::{
 use crate::description::Description;
 use crate::port_list::port_at;
 use crate::ports::PORTS;
-use arrayvec::ArrayVec;
 use std::marker::Model;
 
-/// A copy of data sets in the value, for any number of ports. Contracts see it as `DataSetsValue`.
+/// A copy of data sets, with its ports in room that the caller has. Contracts see it as `DataSetsValue`.
 #[derive(Drop)]
-pub struct Snapshot {
+pub struct Snapshot<'a> {
     pub(crate) default: DefaultDataSet,
     pub(crate) description: Description,
     pub(crate) current: CurrentDataSet,
     pub(crate) parent: ParentDataSet,
     pub(crate) time: TimePropertiesDataSet,
-    pub(crate) ports: ArrayVec<PortDataSet, PORTS>,
+    pub(crate) ports: &'a [PortDataSet],
 }
 
-impl Model for Snapshot {
+impl<'a> Model for Snapshot<'a> {
     ghost use Rattle.std.specs.Coded.{codes};
     ghost use Rattle.ptpm_data.specs.Members.{DataSetsValue};
-    ghost use Rattle.ptpm_data.specs.Snapshot.{snapshot_value};
+    ghost use Rattle.ptpm_data.specs.Snapshot.{HasFewPorts, snapshot_value};
     ghost use Rattle.ptpm_data.specs.contracts.port_settings.PortSettings as settings;
 
     ghost Value = { DataSetsValue };
@@ -33,15 +32,19 @@ impl Model for Snapshot {
     ghost coded = { Prim.hlevel (codes, settings.the_row.coded) };
 
     ghost view = { snapshot_value };
+
+    ghost invariant = { HasFewPorts };
 }
 
 impl DataSets {
-    /// What they are now. Takes no memory.
-    pub fn snapshot(&self) -> Snapshot
+    /// What they are now. Takes no memory: the room is a local of the caller, `[PortDataSet::default(); PORTS]`, so that the stack
+    /// has it once.
+    pub fn snapshot<'a>(&self, room: &'a mut [PortDataSet; PORTS]) -> Snapshot<'a>
         ensures { result ≡ self.now }
     {
-        let mut ports = ArrayVec::new();
-        let _ = ports.try_extend_from_slice(self.ports.as_slice());
+        let now = self.ports.as_slice();
+        let (ports, _) = room.split_at_mut(now.len());
+        ports.copy_from_slice(now);
         Snapshot {
             default: self.default,
             description: Description::of(self.description.text()),
@@ -53,7 +56,7 @@ impl DataSets {
     }
 }
 
-impl Snapshot {
+impl<'a> Snapshot<'a> {
     ghost use Rattle.std.specs.Prelude.{◌≤◌, length, option_map};
     ghost use Rattle.ptpm_data.specs.Members.{port_of};
 
@@ -68,6 +71,6 @@ impl Snapshot {
     pub(crate) fn port(&self, port: u16) -> Option<&PortDataSet>
         ensures { option_map (λ p. p.now) result ≡ port_of port self.now }
     {
-        port_at(self.ports.as_slice(), port)
+        port_at(self.ports, port)
     }
 }

@@ -11,7 +11,7 @@ ghost use Rattle.ptpm_world.specs.Running.{running};
 
 use crate::party::Party;
 use crate::picture::Picture;
-use ptpm_data::{ChangedMembers, DataSets, PortMembers, Snapshot};
+use ptpm_data::{ChangedMembers, DataSets, PORTS, PortDataSet, PortMembers, Snapshot};
 use ptpm_world::{Network, World};
 
 /// What an event changed at its clock.
@@ -78,17 +78,20 @@ fn clock_sets<'a>(network: &Network, world: &'a World, place: usize) -> Option<&
     world.sets(clocks[place].name.as_str())
 }
 
-/// What data sets are now, if there are any.
-pub(crate) fn snapshot_of(sets: Option<&DataSets>) -> Option<Snapshot>
+/// What data sets are now, if there are any. Their ports go into this room.
+pub(crate) fn snapshot_of<'a>(
+    sets: Option<&DataSets>,
+    room: &'a mut [PortDataSet; PORTS],
+) -> Option<Snapshot<'a>>
     ensures { result ≡ option_map (λ sets. sets.now) sets.entry }
 {
-    Some(sets?.snapshot())
+    Some(sets?.snapshot(room))
 }
 
 /// What the event of a line changed between these data sets and those, if there are any.
 pub(crate) fn change_of(
     line: u32,
-    before: Option<Snapshot>,
+    before: Option<Snapshot<'_>>,
     after: Option<&DataSets>,
 ) -> Option<Change>
     requires { IfSome after (λ sets. length sets.now.ports ≤ INLINE_PORTS) }

@@ -21,6 +21,7 @@ use crate::changes::{Change, change_of, sets_of, snapshot_of};
 use crate::chosen::Chosen;
 use crate::party::{Party, party_at, party_of};
 use ptpm_codec::{Action, OutOfMemory, view};
+use ptpm_data::{PORTS, PortDataSet};
 use ptpm_world::{Event, EventLine, Frame, Network, Script, ScriptError, StepError, Took, World};
 use std::alloc::Global;
 
@@ -128,7 +129,8 @@ impl Picture {
         ensures world { OnOk result (IsWorldOf (network_value network.now) world.new) }
     {
         let at = party_at(network, world, &line.event);
-        let before = snapshot_of(sets_of(network, world, at));
+        let mut room = [PortDataSet::default(); PORTS];
+        let before = snapshot_of(sets_of(network, world, at), &mut room);
         let row = play_event(world, line, at)?;
         self.rows.push(row).map_err(|_| OutOfMemory)?;
         self.keep_messages(world, &row)?;

@@ -8,7 +8,6 @@ mod asker;
 mod asker_settings;
 mod blanks;
 mod clock;
-mod copying;
 mod data_set_reading;
 mod deciding;
 mod device;

@@ -9,7 +9,7 @@ use crate::clock::HostedClock;
 use crate::refusal::ChangeRefusal;
 use crate::session::asked_action;
 use ptpm_codec::{Action, PortIdentity, is_data_field, view};
-use ptpm_data::{ChangedMembers, DataSets, Request};
+use ptpm_data::{ChangedMembers, DataSets, PORTS, PortDataSet, Request};
 use ptpm_device::{change_here, is_change};
 
 /// The managementId of the clock's domainNumber (15.5.2.3).
@@ -56,7 +56,8 @@ impl HostedClock {
         if self.under_way.is_some() && moves_domain(&request) {
             return Err(ChangeRefusal::UnderWay);
         }
-        let before = self.agent.sets().snapshot();
+        let mut room = [PortDataSet::default(); PORTS];
+        let before = self.agent.sets().snapshot(&mut room);
         match change_here(&mut self.agent, &request) {
             Ok(()) => Ok(self.agent.sets().changed_since(&before)),
             Err(error) => Err(ChangeRefusal::Refused(error)),

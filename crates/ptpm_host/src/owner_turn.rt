@@ -23,7 +23,7 @@ use crate::sent::Sent;
 use crate::taken::Taken;
 use ptpm_agent::Verdict;
 use ptpm_codec::{ClockIdentity, PortIdentity, View, view};
-use ptpm_data::{ChangedMembers, DataSets, Request, Rights, Snapshot};
+use ptpm_data::{ChangedMembers, DataSets, PORTS, PortDataSet, Request, Rights};
 use ptpm_device::is_change;
 use ptpm_table::{Heard, Outgoing, ReplyTable, Sender};
 
@@ -127,7 +127,7 @@ impl HostedClock {
         let me = self.agent.table().clock();
         let mut sets = DataSets::blank();
         self.agent.swap_sets(&mut sets);
-        let (count, changed) = answer_owned(&sets.snapshot(), &me, &mut sets, port, message, room);
+        let (count, changed) = answer_owned(&me, &mut sets, port, message, room);
         self.agent.swap_sets(&mut sets);
         Taken {
             verdict: if is_change(message.action()) {
@@ -143,10 +143,11 @@ impl HostedClock {
 }
 
 /// Carries out a request of the owner in these data sets of this clock. The reply to it is written into the first places of `room`.
-/// Answers how many of them have a message, and which members have another value than `before`.
+/// Answers how many of them have a message, and which members have another value now. Never inlined: so the stack has its copy of
+/// the data sets only while it runs.
+#[inline(never)]
 #[tactic(auto, using(crate::specs::OutboxLaws::kept_by_none))]
 fn answer_owned(
-    before: &Snapshot,
     me: &ClockIdentity,
     sets: &mut DataSets,
     port: u16,
@@ -158,7 +159,7 @@ fn answer_owned(
     requires valid { IsValid message.now }
     requires room { length (reply_to (request_of message.now) all_rights sets.old).answers ≤ length room.old }
     ensures changed { sets.new ≡ changed_by (request_of message.now) all_rights sets.old }
-    ensures members { result.1 ≡ changed before.now sets.new }
+    ensures members { result.1 ≡ changed sets.old sets.new }
     ensures sent { messages_in (take result.0 room.new)
         ≡ rendered me.now (heard_of message.now) (reply_to (request_of message.now) all_rights sets.old) port }
     ensures count { result.0 ≤ length room.new }
@@ -166,9 +167,11 @@ fn answer_owned(
     ensures places { drop result.0 room.new ≡ drop result.0 room.old }
     ensures behind { AllZip KeepsBehind room.old room.new }
 {
+    let mut ports = [PortDataSet::default(); PORTS];
+    let before = sets.snapshot(&mut ports);
     let mut outbox = Outbox::new(room);
     decide_owned(me, sets, port, message, &mut outbox);
-    (outbox.count(), sets.changed_since(before))
+    (outbox.count(), sets.changed_since(&before))
 }
 
 /// Carries out a request of the owner in these data sets of this clock, and sends the reply to it.

@@ -4,7 +4,6 @@ ghost use Rattle.std.specs.Prelude.{◌≡◌, ◌+◌, ◌≤◌, length};
 ghost use Rattle.ptpm_host.specs.Queue.{queued};
 
 use crate::clock::HostedClock;
-use crate::copying::copied;
 use crate::device::{Asking, Question, Said, Say};
 use crate::observing::{ObservedClock, ObservedPort, UNOBSERVED, place_each};
 use crate::owner_change::asks_to_move;
@@ -128,10 +127,10 @@ impl SavingClock {
         let Ok(queue) = Queue::new(alloc, places) else {
             return Err(SavingRefusal::OutOfMemory(clock));
         };
-        let Ok(shown) = copied(alloc, clock.sets()) else {
+        let Ok(shown) = clock.sets().copy_in(alloc) else {
             return Err(SavingRefusal::OutOfMemory(clock));
         };
-        let Ok(copied) = copied(alloc, clock.sets()) else {
+        let Ok(copied) = clock.sets().copy_in(alloc) else {
             return Err(SavingRefusal::OutOfMemory(clock));
         };
         Ok(SavingClock {
@@ -717,7 +716,7 @@ impl SavingClock {
         ensures unchanged { OnErr result (self.new ≡ self.old) }
         ensures untouched { OnErr result (octets.new ≡ octets.old) }
     {
-        let Ok(copied) = copied(alloc, self.clock.sets()) else {
+        let Ok(copied) = self.clock.sets().copy_in(alloc) else {
             return Err(ImageRefusal::OutOfMemory);
         };
         let Some(size) = self.clock.image(octets) else {

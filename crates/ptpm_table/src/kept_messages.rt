@@ -49,7 +49,9 @@ impl Exchange {
     }
 }
 
-/// Appends messages of these sizes, each for this port and with what depends on the copy written over.
+/// Appends messages of these sizes, each for this port and with what depends on the copy written over. It is never inlined, so
+/// that its loop keeps what it reads in registers.
+#[inline(never)]
 pub(crate) fn resend_each<O: Outgoing>(
     sizes: &[u8],
     messages: &[u8],

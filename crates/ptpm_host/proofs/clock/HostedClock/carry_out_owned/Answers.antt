@@ -25,6 +25,6 @@ swap_sets-requires-2 c =
 
 pub returns-clause-members : goal.returns-clause-members
 returns-clause-members c =
-    let before : c.snapshot.result ≡ c.args.self.now.agent.sets = first_of (search rules, cc) in
+    let before : c.swap_sets.new.sets ≡ c.args.self.now.agent.sets = first_of (search rules, cc) in
     let here : c.answer_owned-count.new.sets ≡ c.swap_sets-2.new.self.sets = first_of (search rules, cc) in
     c.answer_owned-count.ensures.members ∙ (λ i. changed (before i) (here i))
