@@ -4,7 +4,7 @@ ghost use Rattle.std.specs.Prelude.{◌≡◌};
 ghost use Rattle.ptpm_draw.specs.Chosen.{is_chosen};
 
 /// Which event lines are drawn: those of these numbers and between, counted from 1 after the divider.
-#[derive(Clone, Copy, Debug, PartialEq, Eq)]
+#[derive(Clone, Copy)]
 pub struct Chosen {
     pub from: u32,
     pub to: u32,

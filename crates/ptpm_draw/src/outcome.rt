@@ -10,7 +10,7 @@ use ptpm_world::{StepError, Took};
 use std::fmt;
 
 /// What became of an event.
-#[derive(Clone, Copy, Debug, PartialEq, Eq)]
+#[derive(Clone, Copy)]
 pub enum EventOutcome {
     /// A session did what it was asked.
     Done,

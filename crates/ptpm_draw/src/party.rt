@@ -13,7 +13,7 @@ use ptpm_script::{NetworkClock, NetworkSession};
 use ptpm_world::{End, Event, Network, World, every_world};
 
 /// Whose lifeline it is, by the place in the network file, from 0.
-#[derive(Clone, Copy, Debug, PartialEq, Eq)]
+#[derive(Clone, Copy, PartialEq, Eq)]
 pub enum Party {
     Session(usize),
     Clock(usize),

@@ -26,7 +26,7 @@ use ptpm_world::{Event, EventLine, Frame, Network, Script, ScriptError, StepErro
 use std::alloc::Global;
 
 /// What a management message says.
-#[derive(Clone, Copy, Debug, PartialEq, Eq)]
+#[derive(Clone, Copy)]
 pub struct Says {
     pub action: Action,
     /// managementId.
@@ -38,7 +38,7 @@ pub struct Says {
 }
 
 /// A frame: a message on its way to one end.
-#[derive(Clone, Copy, Debug, PartialEq, Eq)]
+#[derive(Clone, Copy)]
 pub struct Message {
     /// Who sent it: at whom the event happened that made it.
     pub from: Option<Party>,
@@ -49,7 +49,7 @@ pub struct Message {
 }
 
 /// How an event is drawn.
-#[derive(Clone, Copy, Debug, PartialEq, Eq)]
+#[derive(Clone, Copy)]
 pub enum Way {
     /// A mark: an act of a session, or an event that was refused.
     Mark,
@@ -60,7 +60,7 @@ pub enum Way {
 }
 
 /// An event as it is drawn.
-#[derive(Clone, Copy, Debug, PartialEq, Eq)]
+#[derive(Clone, Copy)]
 pub struct EventRow {
     /// The number of its line, counted from 1 after the divider.
     pub line: u32,

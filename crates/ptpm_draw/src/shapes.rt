@@ -11,7 +11,7 @@ const LOOP: usize = 32;
 const STUB: usize = 36;
 
 /// Which part of a label is at its place.
-#[derive(Clone, Copy, Debug, PartialEq, Eq)]
+#[derive(Clone, Copy)]
 enum Anchor {
     Start,
     Middle,
@@ -19,7 +19,7 @@ enum Anchor {
 }
 
 /// A line from one place to another at the same height.
-#[derive(Clone, Copy, Debug)]
+#[derive(Clone, Copy)]
 pub(crate) struct Arrow {
     pub(crate) from: usize,
     pub(crate) to: usize,

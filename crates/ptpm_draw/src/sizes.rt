@@ -20,7 +20,7 @@ pub(crate) const MEMBER: usize = 16;
 pub(crate) const STUB: usize = 22;
 
 /// The most characters of each kind of words, and what else says how large a picture is.
-#[derive(Clone, Copy, Debug, Default)]
+#[derive(Clone, Copy, Default)]
 pub(crate) struct Sizes {
     /// Of what is written at arrows and marks.
     pub(crate) label: usize,

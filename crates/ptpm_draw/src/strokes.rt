@@ -3,7 +3,7 @@
 use crate::outcome::EventOutcome;
 
 /// How the end of an arrow looks.
-#[derive(Clone, Copy, Debug, PartialEq, Eq)]
+#[derive(Clone, Copy)]
 pub(crate) enum Head {
     /// A filled triangle.
     Filled,
@@ -18,7 +18,7 @@ pub(crate) enum Head {
 }
 
 /// A line's colour, width in tenths, dashes and end.
-#[derive(Clone, Copy, Debug)]
+#[derive(Clone, Copy)]
 pub(crate) struct Stroke {
     pub(crate) colour: &'static str,
     pub(crate) width: &'static str,

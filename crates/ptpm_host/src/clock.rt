@@ -41,7 +41,7 @@ pub struct HostedClock {
 const _: () = prove!(size_of::<HostedClock>() == 616);
 
 /// What became of a datagram.
-#[derive(Clone, Copy, Debug)]
+#[derive(Clone, Copy)]
 pub struct Handled {
     pub verdict: Verdict,
     /// How many messages are sent for it.

@@ -18,7 +18,7 @@ const MOST_PLACES: usize = 1_048_576;
 /// What distinguishes one message from another: who sent it, under which sequenceId, to whom, and what it does (13.3 and 15.4).
 /// A clockIdentity is one number.
 #[repr(C)]
-#[derive(Clone, Copy, Debug, PartialEq, Eq)]
+#[derive(Clone, Copy, PartialEq, Eq)]
 pub struct MessageKey {
     pub source_clock: u64,
     pub target_clock: u64,
@@ -33,7 +33,7 @@ pub struct MessageKey {
 
 /// A message that was passed on, when, and for how long it stays noted. All zeros: a free place.
 #[repr(C)]
-#[derive(Clone, Copy, Debug)]
+#[derive(Clone, Copy)]
 pub struct PassedOnPlace {
     since: u64,
     time: u64,

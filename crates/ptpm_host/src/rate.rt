@@ -12,7 +12,7 @@ const SECOND: u64 = 1_000;
 
 /// A bucket of tokens.
 #[repr(C)]
-#[derive(Clone, Copy, Debug)]
+#[derive(Clone, Copy)]
 pub struct Rate {
     /// Tokens a second; what is over 1,000,000 does not count.
     rate: u64,

@@ -8,7 +8,7 @@ use ptpm_saved::RestoreError;
 use ptpm_table::TableError;
 
 /// Why a clock does not start, in the order in which the reasons are judged. Want of memory can come in place of any other.
-#[derive(Clone, Copy, Debug, PartialEq, Eq)]
+#[derive(Clone, Copy)]
 pub enum StartRefusal {
     /// Its data sets have no such start.
     Values(StartError),
@@ -20,7 +20,7 @@ pub enum StartRefusal {
 }
 
 /// Why a clock does not go on from an image, in the order in which the reasons are judged.
-#[derive(Clone, Copy, Debug, PartialEq, Eq)]
+#[derive(Clone, Copy)]
 pub enum ClockRestoreRefusal {
     /// These can't be its managers.
     Managers(TableError),
@@ -32,7 +32,7 @@ pub enum ClockRestoreRefusal {
 }
 
 /// Why a datagram is not handled, in the order in which the reasons are judged.
-#[derive(Clone, Copy, Debug, PartialEq, Eq)]
+#[derive(Clone, Copy)]
 pub enum HandleRefusal {
     /// The clock lacks the port.
     NoPort,
@@ -41,7 +41,7 @@ pub enum HandleRefusal {
 }
 
 /// Why a datagram is not handled with what the device says, in the order in which the reasons are judged.
-#[derive(Clone, Copy, Debug, PartialEq, Eq)]
+#[derive(Clone, Copy)]
 pub enum SaidRefusal {
     Handle(HandleRefusal),
     /// It is no say: of another kind, or an objection with an error that no device gives.
@@ -49,7 +49,7 @@ pub enum SaidRefusal {
 }
 
 /// Why a change at the device itself is not carried out, in the order in which the reasons are judged.
-#[derive(Clone, Copy, Debug, PartialEq, Eq)]
+#[derive(Clone, Copy)]
 pub enum ChangeRefusal {
     /// It names neither a port of the clock nor every port.
     NoPort,
@@ -64,7 +64,7 @@ pub enum ChangeRefusal {
 }
 
 /// Why a clock that is saved while it goes on takes nothing, in the order in which the reasons are judged.
-#[derive(Clone, Copy, Debug, PartialEq, Eq)]
+#[derive(Clone, Copy)]
 pub enum TakeRefusal {
     Said(SaidRefusal),
     /// A change is under way. It is of the same manager, this would be another one, or the owner would move the domain.
@@ -75,7 +75,7 @@ pub enum TakeRefusal {
 }
 
 /// Why no change is under way after a call that would begin one, in the order in which the reasons are judged.
-#[derive(Clone, Copy, Debug, PartialEq, Eq)]
+#[derive(Clone, Copy)]
 pub enum UndertakeRefusal {
     /// The clock lacks the port.
     NoPort,
@@ -86,7 +86,7 @@ pub enum UndertakeRefusal {
 }
 
 /// Why what is under way is not decided, in the order in which the reasons are judged.
-#[derive(Clone, Copy, Debug, PartialEq, Eq)]
+#[derive(Clone, Copy)]
 pub enum DecideRefusal {
     NothingUnderWay,
     Said(SaidRefusal),
@@ -103,7 +103,7 @@ pub enum SavingRefusal {
 }
 
 /// Why no image is made of a clock that is saved while it goes on.
-#[derive(Clone, Copy, Debug, PartialEq, Eq)]
+#[derive(Clone, Copy)]
 pub enum ImageRefusal {
     /// There is room for fewer octets than the image has.
     NoRoom,
@@ -111,14 +111,14 @@ pub enum ImageRefusal {
 }
 
 /// Why a clock does not count as saved.
-#[derive(Clone, Copy, Debug, PartialEq, Eq)]
+#[derive(Clone, Copy)]
 pub enum SavedRefusal {
     /// The image is of another state.
     OtherImage,
 }
 
 /// Why the data sets are not read, in the order in which the reasons are judged.
-#[derive(Clone, Copy, Debug, PartialEq, Eq)]
+#[derive(Clone, Copy)]
 pub enum ReadRefusal {
     /// The id is not in the table, or permits no GET.
     NotReadable,
@@ -129,7 +129,7 @@ pub enum ReadRefusal {
 }
 
 /// Why an asker does not go on from an image, in the order in which the reasons are judged.
-#[derive(Clone, Copy, Debug, PartialEq, Eq)]
+#[derive(Clone, Copy)]
 pub enum AskerRefusal {
     /// No asker has these settings.
     Settings(SessionRefusal),
@@ -139,7 +139,7 @@ pub enum AskerRefusal {
 
 /// Why a session does not start, in the order in which the reasons are judged. A survey of every clock has only the first, and
 /// one of one clock has each except the two about ports. The last is an asker's alone.
-#[derive(Clone, Copy, Debug, PartialEq, Eq)]
+#[derive(Clone, Copy)]
 pub enum SessionRefusal {
     /// The manager's clockIdentity means every clock.
     ManagerIsEvery,
@@ -158,7 +158,7 @@ pub enum SessionRefusal {
 }
 
 /// Why no request is handed out, in the order in which the reasons are judged. A survey's GET is refused only for the first.
-#[derive(Clone, Copy, Debug, PartialEq, Eq)]
+#[derive(Clone, Copy)]
 pub enum SendRefusal {
     /// There is room for fewer than 1,472 octets.
     NoRoom,
@@ -167,7 +167,7 @@ pub enum SendRefusal {
 }
 
 /// Why an answer is not given, in the order in which the reasons are judged.
-#[derive(Clone, Copy, Debug, PartialEq, Eq)]
+#[derive(Clone, Copy)]
 pub enum ReportRefusal {
     /// No request was begun, or the latest is not answered; or a survey has no answer at the place.
     NoReport,
@@ -176,7 +176,7 @@ pub enum ReportRefusal {
 }
 
 /// Why words are no dataField of a SET, in the order in which the reasons are judged. The members are judged one after another.
-#[derive(Clone, Copy, Debug, PartialEq, Eq)]
+#[derive(Clone, Copy)]
 pub enum ParseRefusal {
     /// They are no words in UTF-8, each with a zero octet after it, or there are more than any dataField takes.
     NotWords,

@@ -7,7 +7,7 @@ use crate::refusal::ReportRefusal;
 use ptpm_manager::Outcome;
 
 /// What the answer to a request says.
-#[derive(Clone, Copy, Debug)]
+#[derive(Clone, Copy)]
 pub enum ReportedOutcome {
     /// A dataField of this many octets.
     Value(usize),

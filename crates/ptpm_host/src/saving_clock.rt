@@ -59,7 +59,7 @@ pub struct SavingClock {
 }
 
 /// What comes before the host asks its device for what is under way.
-#[derive(Clone, Copy, Debug, PartialEq, Eq)]
+#[derive(Clone, Copy, PartialEq, Eq)]
 enum Acting {
     /// It did, or a restart found this, or nothing is under way.
     Nothing,
@@ -70,7 +70,7 @@ enum Acting {
 }
 
 /// What the host does once an image is saved.
-#[derive(Clone, Copy, Debug, PartialEq, Eq)]
+#[derive(Clone, Copy)]
 pub enum Saved {
     /// Nothing more.
     Saved,

@@ -36,7 +36,7 @@ pub struct HostedSession {
 }
 
 /// What a session makes of a datagram.
-#[derive(Clone, Copy, Debug)]
+#[derive(Clone, Copy)]
 pub enum Heard {
     /// It answers the request.
     Answered,

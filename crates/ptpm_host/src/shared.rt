@@ -18,7 +18,7 @@ use ptpm_data::{DataSets, data_sets_law};
 use ptpm_table::Outgoing;
 
 /// What became of a datagram.
-#[derive(Clone, Copy, Debug)]
+#[derive(Clone, Copy)]
 pub struct Shared {
     pub verdict: Verdict,
     /// The ports at which it goes on: 1 for port 1, 2 for port 2, 4 for port 3, and so on, summed up.

@@ -26,7 +26,7 @@ pub struct HostedSurvey {
 
 /// A portIdentity, as a host in C takes it over.
 #[repr(C)]
-#[derive(Clone, Copy, Debug, PartialEq, Eq)]
+#[derive(Clone, Copy)]
 pub struct Source {
     pub clock: [u8; 8],
     pub port: u16,
@@ -46,7 +46,7 @@ impl Source {
 }
 
 /// An answer to a survey.
-#[derive(Clone, Copy, Debug)]
+#[derive(Clone, Copy)]
 pub struct SurveyAnswer {
     /// The port that gave it.
     pub source: Source,

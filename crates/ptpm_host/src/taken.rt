@@ -4,7 +4,7 @@ use ptpm_agent::Verdict;
 use ptpm_data::ChangedMembers;
 
 /// What became of a datagram.
-#[derive(Clone, Copy, Debug)]
+#[derive(Clone, Copy)]
 pub struct Taken {
     pub verdict: Verdict,
     /// How many messages are sent for it at once.
