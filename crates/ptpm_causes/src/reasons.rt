@@ -109,8 +109,12 @@ impl Found {
             .or(self.first_of(&[at(Kind::GrandmasterNotSeen, parent)]))
     }
 
-    /// That a grandmaster or a parent of a clock is lost. That it is not seen as a grandmaster counts if that follows from nothing.
+    /// That a grandmaster or a parent of a clock is lost. That it is not seen as a grandmaster counts if that follows from nothing. That
+    /// its answers are not taken is no reason, so neither is what follows from that.
     fn lost_cause(&self, site: &Site, source: Source, above: Source) -> Option<Cause> {
+        if self.first_of(&[at(Kind::NotTaken, above)]).is_some() {
+            return None;
+        }
         let lost = self.first_of(&[at(Kind::Gone, above), at(Kind::Absent, above)]);
         if lost.is_some() || self.grandmaster_cause(site, source, above).is_some() {
             return lost;

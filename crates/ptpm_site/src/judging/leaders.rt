@@ -58,22 +58,39 @@ impl Leader {
     }
 }
 
-/// A clock that is seen and leads, by its own data sets.
-fn leader_by_answers(site: &Site, source: Source) -> Option<Leader> {
+/// A clock that is seen and leads, by its own data sets. What they lack its Announce says, or a clock that follows it.
+fn leader_by_answers(
+    site: &Site,
+    evidence: &Evidence,
+    source: Source,
+    witnesses: &[Witness],
+) -> Option<Leader> {
     if !site.leads_by_answers(source) {
         return None;
     }
-    let attributes = site.default(source).map(|default| Attributes {
-        quality: default.quality,
-        priority1: default.priority1,
-        priority2: default.priority2,
-    });
     Some(Leader {
         source,
         heard: HeardBy::Answer,
-        attributes,
-        time: site.time(source),
+        attributes: grandmaster_attributes(site, evidence, source, witnesses),
+        time: grandmaster_time(site, evidence, source, witnesses),
     })
+}
+
+/// The attributes of a clock that leads: what it answers, or else what its Announce says, or a clock that follows it.
+fn grandmaster_attributes(
+    site: &Site,
+    evidence: &Evidence,
+    source: Source,
+    witnesses: &[Witness],
+) -> Option<Attributes> {
+    match site.default(source) {
+        Some(default) => Some(Attributes {
+            quality: default.quality,
+            priority1: default.priority1,
+            priority2: default.priority2,
+        }),
+        None => leader_by_others(site, evidence, source, witnesses)?.attributes,
+    }
 }
 
 /// A clock that leads by its last Announce: that says that its sender is the grandmaster.
@@ -173,7 +190,7 @@ pub fn leader_of(
     witnesses: &[Witness],
 ) -> Option<Leader> {
     if site.is_seen(source) {
-        leader_by_answers(site, source)
+        leader_by_answers(site, evidence, source, witnesses)
     } else {
         leader_by_others(site, evidence, source, witnesses)
     }

@@ -9,7 +9,7 @@ use crate::reading::source::Source;
 /// What is wrong with a clock that is not seen.
 #[derive(Clone, Copy)]
 pub enum Absence {
-    /// A clock names it, and it is of the host that asks.
+    /// A clock that does not stand by names it, and it is of the host that asks.
     OwnHost,
     /// It sends messages of this type by itself, and answers none.
     Mute(u8),
@@ -88,7 +88,9 @@ pub fn unseen(
     if !evidence.hosts.contains(&source.clock) {
         return mute(evidence, source, sources);
     }
-    if sources.iter().any(|other| names(site, source, *other)) {
+    let is_named = sources.iter().any(|other| !site.is_on_standby(*other)
+        && names(site, source, *other));
+    if is_named {
         Some(Absence::OwnHost)
     } else {
         None

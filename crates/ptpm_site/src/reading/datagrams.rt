@@ -3,7 +3,7 @@
 use crate::reading::announces::announced_in;
 use crate::reading::answer::Answer;
 use crate::reading::arrival::{Way, arrival_in};
-use crate::reading::heard::Heard;
+use crate::reading::heard::{Heard, Travel};
 use crate::reading::origin::origin_in;
 use crate::reading::site::Site;
 use crate::reading::untaken::{Untaken, untaken_in};
@@ -60,7 +60,8 @@ impl Site {
     }
 
     /// Keeps from which address the answer came that a datagram is, and at which interface. If the line of the datagram says no
-    /// interface it is the empty one. An address with a slash is a Unix socket: that clock is of the host that asks.
+    /// interface it is the empty one. An address with a slash is a Unix socket: that clock is of the host that asks, unless a
+    /// boundary clock passed the answer on.
     pub fn take_arrival(
         &mut self,
         alloc: Global,
@@ -68,10 +69,10 @@ impl Site {
         on: &str,
         datagram: &[u8],
     ) -> Result<(), AllocError> {
-        if let Some(clock) = answering_clock(datagram) {
+        if let Some(answer) = answer_on_its_way(datagram) {
             self.shown.sources = true;
-            if from.contains('/') {
-                self.take_host(clock)?;
+            if from.contains('/') && answer.hops == answer.starting_hops {
+                self.take_host(answer.source.clock)?;
             }
         }
         let from = self.words.number_of(alloc, from)?;
@@ -109,10 +110,10 @@ impl Site {
     }
 }
 
-/// The clock that answers one of the six ids by a datagram.
-fn answering_clock(datagram: &[u8]) -> Option<ClockIdentity> {
+/// An answer, as it travelled.
+fn answer_on_its_way(datagram: &[u8]) -> Option<Travel> {
     match Heard::of(None, datagram) {
-        Some(Heard::Answered(travel)) => Some(travel.source.clock),
+        Some(Heard::Answered(travel)) => Some(travel),
         _ => None,
     }
 }
