@@ -95,7 +95,7 @@ pub(crate) fn change_of(
     after: Option<&DataSets>,
 ) -> Option<Change>
     requires { IfSome after (λ sets. length sets.now.ports ≤ INLINE_PORTS) }
-    ensures { result ≡ change_of line before (option_map (λ sets. sets.now) after.entry) }
+    ensures { result ≡ change_of line before.entry (option_map (λ sets. sets.now) after.entry) }
 {
     let (before, after) = (before?, after?);
     let members = after.changed_since(&before);
