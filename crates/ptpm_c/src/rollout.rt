@@ -2,10 +2,12 @@
 
 ghost use Rattle.std.specs.Prelude.{◌≡◌, ◌≢◌, ◌≤◌, ◌++◌, ◌↔◌, IsSomeAnd, None, Some, drop, false, length, true};
 ghost use Rattle.ptpm_journal.specs.Journal.{goes_on};
+ghost use Rattle.ptpm_journal.specs.Turns.{IsAtEnd};
 ghost use Rattle.ptpm_apply.specs.declared.choice.Choice.{Choice};
 ghost use Rattle.ptpm_apply.specs.declared.event.Event.{Event};
 ghost use Rattle.ptpm_apply.specs.declared.stage.Stage.{Stage};
-ghost use Rattle.ptpm_apply.specs.Opening.{AreApart, AreCovered, AreNewLanes, AreRead, IsChosen, IsReadOut};
+ghost use Rattle.ptpm_apply.specs.Lanes.{AreLanesOf};
+ghost use Rattle.ptpm_apply.specs.Opening.{AreRead, IsChosen};
 ghost use Rattle.ptpm_apply.specs.Rollout.{RolloutValue};
 ghost use Rattle.ptpm_apply.specs.Turning.{Turned, action_of, answers, has_value};
 ghost use Rattle.ptpm_host.specs.Numbers.{no_memory, no_room};
@@ -34,11 +36,10 @@ pub extern "C" fn ptpm_rollout_open(
     ensures opened { (c : Choice) → choice_of choice ≡ Some c → result ≡ 0
         → IsSomeAnd (rollout_held handle.new.keeping)
         (λ r. AreRead journal.now whole.new r.journal r.crc r.steps r.numbers × (goes_on r.journal ≡ true)
-        × (r.stage ≡ Stage.Fresh) × (r.seen ≡ 0) × (r.is_changed ≡ false) × AreCovered r × AreApart r
-        × IsChosen r c) }
+        × (r.stage ≡ Stage.Fresh) × (r.seen ≡ 0) × (r.is_changed ≡ false) × IsChosen r c) }
     ensures all { (c : Choice) → choice_of choice ≡ Some c → result ≡ 0
         → IsSomeAnd (rollout_held handle.new.keeping)
-        (λ r. IsReadOut journal.now whole.new r.journal r.crc × AreNewLanes r) }
+        (λ r. IsAtEnd r.journal r.crc (drop whole.new journal.now) × AreLanesOf r.steps (length r.steps) r.lanes) }
     ensures no_choice { choice_of choice ≡ None → result ≡ no_choice }
     ensures unchanged { result ≢ 0 → (whole.new ≡ 0) × (held handle.new.keeping ≡ held handle.old.keeping) }
 {
