@@ -9,4 +9,5 @@ pub mod Resuming
 pub mod Steps
 pub mod Moves
 pub mod Runs
+pub mod Lanes
 pub mod Opening

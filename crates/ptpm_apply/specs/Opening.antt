@@ -1,5 +1,7 @@
 -- A change begins, or goes on, with the journal of a file.
-use Rattle.std.specs.Prelude.{◌≡◌, ◌<◌, ◌+◌, ◌-◌, nat_lt, ℕ, false, List, [], ◌∷◌, ◌++◌, drop, length, slice_get, slice_set, take, Option, None, Some, Ok, if◌then◌else◌}
+use Rattle.std.specs.Prelude.{◌≡◌, ◌+◌, nat_lt, ℕ, false, true, List, [], ◌∷◌, ◌++◌, drop, length, slice_set, take, Option, None, Some, if◌then◌else◌}
+use Rattle.ptpm_journal.specs.declared.error.NextError.{NextError}
+use Rattle.ptpm_journal.specs.declared.error.NextError.TheVariants as nexts
 use Rattle.ptpm_journal.specs.declared.reading.Found.{Found}
 use Rattle.ptpm_journal.specs.declared.reading.Next.{Next}
 use Rattle.ptpm_journal.specs.declared.record.Note.{Note}
@@ -8,13 +10,13 @@ use Rattle.ptpm_journal.specs.declared.record.Record.{Record}
 use Rattle.ptpm_journal.specs.declared.record.Record.TheVariants as records
 use Rattle.ptpm_journal.specs.declared.record.Step.{Step}
 use Rattle.ptpm_journal.specs.Journal.{State}
-use Rattle.ptpm_journal.specs.Turns.{IsRead, lead_in}
-use Rattle.ptpm_journal.specs.Frames.{frame_at}
-use Rattle.ptpm_journal.specs.declared.framing.Frame.TheVariants as frames
+use Rattle.ptpm_journal.specs.Turns.{IsRead, IsStuck}
 use Rattle.ptpm_apply.specs.declared.choice.Choice.{Choice}
 use Rattle.ptpm_apply.specs.declared.choice.Choice.TheVariants as choices
-use Rattle.ptpm_apply.specs.Going.{FirstLetGo, is_left_lane}
-use Rattle.ptpm_apply.specs.Rollout.{RolloutValue, clock_in, clock_of, is_held_lane, lane_of}
+use Rattle.ptpm_apply.specs.declared.choice.OpenError.{OpenError}
+use Rattle.ptpm_apply.specs.declared.choice.OpenError.TheVariants as opens
+use Rattle.ptpm_apply.specs.Going.{FirstLetGo}
+use Rattle.ptpm_apply.specs.Rollout.{RolloutValue}
 use Rattle.ptpm_apply.specs.declared.planned.Planned.{Planned}
 
 -- before its first record
@@ -65,13 +67,42 @@ pub data AreRead (octets : List ℕ) : ℕ → State → ℕ → List Planned �
       → Takes n.found (drop (n.lead + 2) (drop place octets)) steps more numbers others
       → AreRead octets (place + n.lead + n.size + 6) t later more others
 
--- no further record was written whole from a place on
-pub record IsReadOut (octets : List ℕ) (place : ℕ) (s : State) (crc : ℕ) : Type 0 where
-  pub lead : ℕ
-  pub is_lead : lead_in s.head (drop place octets) ≡ Ok lead
-  pub torn : frame_at crc (drop lead (drop place octets)) ≡ frames.Torn
+-- ---- why it is refused
 
--- what is to be done; a change with a step that is given up can only be given up
+-- records were read up to a place, where neither a record nor the end comes next
+pub record IsUnreadable (octets : List ℕ) : Type 0 where
+  pub place : ℕ
+  pub crc : ℕ
+  pub journal : State
+  pub steps : List Planned
+  pub numbers : List ℕ
+  pub are_read : AreRead octets place journal crc steps numbers
+  pub is_stuck : IsStuck journal crc (drop place octets)
+
+-- the records have an end of the change
+pub record HasEnd (octets : List ℕ) : Type 0 where
+  pub place : ℕ
+  pub crc : ℕ
+  pub journal : State
+  pub steps : List Planned
+  pub numbers : List ℕ
+  pub are_read : AreRead octets place journal crc steps numbers
+  pub is_ended : journal.is_ended ≡ true
+
+abbrev pub IsRefusedBy : List ℕ → OpenError → Type 0
+IsRefusedBy octets opens.OtherVersion = IsUnreadable octets
+IsRefusedBy octets opens.Damaged = IsUnreadable octets
+IsRefusedBy octets opens.Ended = HasEnd octets
+IsRefusedBy octets opens.OutOfMemory = Unit {0}
+
+abbrev pub refusal_of : NextError → OpenError
+refusal_of nexts.OtherVersion = opens.OtherVersion
+refusal_of nexts.Damaged = opens.Damaged
+refusal_of nexts.OutOfMemory = opens.OutOfMemory
+
+-- ---- what is to be done
+
+-- a change with a step that is given up can only be given up
 abbrev pub chosen : Choice → Option ℕ → Choice
 chosen choice None = choice
 chosen choice (Some step) = choices.GiveUp
@@ -80,28 +111,3 @@ pub record IsChosen (o : RolloutValue) (choice : Choice) : Type 0 where
   pub let_go : Option ℕ
   pub is_first : FirstLetGo o.journal.marks (length o.steps) let_go
   pub becomes : o.choice ≡ chosen choice let_go
-
--- ---- lanes
-
--- the clock of each step is a lane
-abbrev pub AreCovered : RolloutValue → Type 0
-AreCovered o = (step : ℕ) → step < length o.steps → clock_of o step ≡ clock_in o (lane_of o step)
-
-abbrev pub IsBelow : Option ℕ → Option ℕ → Type 0
-IsBelow (Some one) (Some other) = one < other
-IsBelow _ _ = ⊥
-
--- lanes are in the order of their identities, and no two have one clock
-abbrev pub AreApart : RolloutValue → Type 0
-AreApart o = (lane : ℕ) → 0 < lane → lane < length o.lanes → IsBelow (clock_in o (lane - 1)) (clock_in o lane)
-
--- it is the clock of a step, no step of it is held, and its mark is there
-pub record IsNewLane (o : RolloutValue) (lane : ℕ) : Type 0 where
-  pub free : is_held_lane (slice_get o.lanes lane) ≡ false
-  pub marked : is_left_lane (slice_get o.lanes lane) ≡ false
-  pub step : ℕ
-  pub inside : step < length o.steps
-  pub here : clock_of o step ≡ clock_in o lane
-
-abbrev pub AreNewLanes : RolloutValue → Type 0
-AreNewLanes o = (lane : ℕ) → lane < length o.lanes → IsNewLane o lane

@@ -10,6 +10,7 @@ mod heard;
 mod hearing;
 mod in_file;
 mod lane;
+mod lanes;
 mod laws;
 mod noted;
 mod noting;

@@ -1,12 +1,13 @@
 //! How a change begins, or goes on: with what its journal has.
 
-ghost use Rattle.std.specs.Prelude.{◌≡◌, ◌≤◌, ◌+◌, drop, length, take, IfOk, IsTrue, OnOk};
+ghost use Rattle.std.specs.Prelude.{◌≡◌, ◌≤◌, ◌+◌, drop, length, take, IfErr, IfOk, OnOk};
 ghost use Rattle.ptpm_journal.specs.State.{state_of};
-ghost use Rattle.ptpm_apply.specs.Opening.{AreRead, IsBelow, IsPlanned, IsReadOut, Takes, chosen, noted_number};
+ghost use Rattle.ptpm_journal.specs.Turns.{IsAtEnd};
+ghost use Rattle.ptpm_apply.specs.Opening.{AreRead, IsPlanned, IsRefusedBy, Takes, chosen, noted_number, refusal_of};
 
 use crate::choice::{Choice, OpenError};
 use crate::going::first_let_go;
-use crate::lane::Lane;
+use crate::lanes::lanes_of;
 use crate::planned::Planned;
 use crate::rollout::Rollout;
 use crate::stage::Stage;
@@ -15,9 +16,6 @@ use std::alloc::{AllocError, Global};
 
 /// How many octets frame a record's body.
 const FRAME_OCTETS: usize = 6;
-
-/// The most steps of a journal.
-const STEPS: usize = 65_535;
 
 /// What a file has.
 #[derive(Drop)]
@@ -30,22 +28,22 @@ struct Reading {
 }
 
 impl Rollout {
-    ghost use Rattle.std.specs.Prelude.{◌≡◌, ◌<◌, ℕ, false, length, true, IfOk, IsTrue};
+    ghost use Rattle.std.specs.Prelude.{◌≡◌, drop, false, length, true, IfErr, IfOk};
     ghost use Rattle.ptpm_journal.specs.Journal.{goes_on};
+    ghost use Rattle.ptpm_journal.specs.Turns.{IsAtEnd};
     ghost use Rattle.ptpm_apply.specs.declared.stage.Stage.{Stage};
-    ghost use Rattle.ptpm_apply.specs.Opening.{AreApart, AreCovered, AreNewLanes, AreRead, IsChosen, IsNewLane, IsReadOut};
-    ghost use Rattle.ptpm_apply.specs.Rollout.{clock_in, clock_of};
+    ghost use Rattle.ptpm_apply.specs.Lanes.{AreLanesOf};
+    ghost use Rattle.ptpm_apply.specs.Opening.{AreRead, IsChosen, IsRefusedBy};
 
     /// A change with the journal that a file has, and how many octets of it were written whole. It is refused for the first reason that holds.
     /// If a step is given up, the change can only be given up.
     pub fn open(alloc: Global, octets: &[u8], choice: Choice) -> Result<(Rollout, usize), OpenError>
         ensures read { IfOk result (λ r. AreRead octets.now r.1 r.0.journal r.0.crc r.0.steps r.0.numbers) }
-        ensures all { IfOk result (λ r. IsReadOut octets.now r.1 r.0.journal r.0.crc) }
+        ensures all { IfOk result (λ r. IsAtEnd r.0.journal r.0.crc (drop r.1 octets.now)) }
+        ensures refused { IfErr result (IsRefusedBy octets.now) }
         ensures goes_on { IfOk result (λ r. goes_on r.0.journal ≡ true) }
         ensures fresh { IfOk result (λ r. (r.0.stage ≡ Stage.Fresh) × (r.0.seen ≡ 0) × (r.0.is_changed ≡ false)) }
-        ensures covered { IfOk result (λ r. AreCovered r.0) }
-        ensures apart { IfOk result (λ r. AreApart r.0) }
-        ensures new { IfOk result (λ r. AreNewLanes r.0) }
+        ensures lanes { IfOk result (λ r. AreLanesOf r.0.steps (length r.0.steps) r.0.lanes) }
         ensures choice { IfOk result (λ r. IsChosen r.0 choice) }
     {
         let reading = read(alloc, octets)?;
@@ -59,9 +57,6 @@ impl Rollout {
             return Err(OpenError::Ended);
         }
         let lanes = lanes_of(alloc, steps.as_slice())?;
-        if steps.len() > STEPS || lanes.len() > STEPS {
-            return Err(OpenError::Damaged);
-        }
         let choice = choice_of(choice, first_let_go(&journal, steps.as_slice()));
         let room = vec![in alloc; 0; RECORD_OCTETS]?;
         let rollout = Rollout {
@@ -77,68 +72,7 @@ impl Rollout {
             room,
             size: 0,
         };
-        if rollout.are_covered() && rollout.are_apart() && rollout.are_new() {
-            Ok((rollout, whole))
-        } else {
-            Err(OpenError::Damaged)
-        }
-    }
-
-    /// Whether the clock of each step is a lane.
-    fn are_covered(&self) -> bool
-        ensures { IsTrue result → AreCovered self.now }
-    {
-        for step in 0..self.step_count() {
-            if !self.is_of(step, self.lane_of(step)) {
-                return false;
-            }
-        }
-        true
-    }
-
-    /// Whether lanes are in the order of their identities, each once.
-    fn are_apart(&self) -> bool
-        ensures { IsTrue result → AreApart self.now }
-    {
-        for lane in 1..self.lane_count() {
-            if !is_below(self.lane(lane - 1), self.lane(lane)) {
-                return false;
-            }
-        }
-        true
-    }
-
-    /// Whether each lane is the clock of a step, and nothing is known of it yet.
-    fn are_new(&self) -> bool
-        ensures { IsTrue result → AreNewLanes self.now }
-    {
-        for lane in 0..self.lane_count() {
-            if !self.is_new(lane) {
-                return false;
-            }
-        }
-        true
-    }
-
-    fn is_new(&self, lane: u16) -> bool
-        ensures { IsTrue result → IsNewLane self.now lane }
-    {
-        match self.lanes.as_slice().get(usize::from(lane)) {
-            Some(found) => !found.is_held && !found.is_left && self.has_step(lane),
-            None => false,
-        }
-    }
-
-    fn has_step(&self, lane: u16) -> bool
-        ensures { IsTrue result
-            → ((step : ℕ) × (step < length self.now.steps) × (clock_of self.now step ≡ clock_in self.now lane)) }
-    {
-        for step in 0..self.step_count() {
-            if self.is_of(step, lane) {
-                return true;
-            }
-        }
-        false
+        Ok((rollout, whole))
     }
 }
 
@@ -152,20 +86,13 @@ fn choice_of(choice: Choice, let_go: Option<u16>) -> Choice
     }
 }
 
-fn is_below(one: Option<u64>, other: Option<u64>) -> bool
-    ensures { IsTrue result → IsBelow one other }
-{
-    match (one, other) {
-        (Some(one), Some(other)) => one < other,
-        _ => false,
-    }
-}
-
 /// Reads the records of a file.
 fn read(alloc: Global, octets: &[u8]) -> Result<Reading, OpenError>
     ensures read { IfOk result
         (λ r. AreRead octets.now r.whole (state_of r.journal) r.journal.crc r.steps.items r.numbers.items) }
-    ensures all { IfOk result (λ r. IsReadOut octets.now r.whole (state_of r.journal) r.journal.crc) }
+    ensures all { IfOk result (λ r. IsAtEnd (state_of r.journal) r.journal.crc (drop r.whole octets.now)) }
+    ensures few { IfOk result (λ r. length r.steps.items ≤ 65535) }
+    ensures refused { IfErr result (IsRefusedBy octets.now) }
 {
     let mut journal = Journal::new(alloc);
     let mut steps = Vec::new(alloc);
@@ -190,7 +117,9 @@ fn read(alloc: Global, octets: &[u8]) -> Result<Reading, OpenError>
     })
 }
 
-fn refusal_of(refusal: NextError) -> OpenError {
+fn refusal_of(refusal: NextError) -> OpenError
+    ensures { result ≡ refusal_of refusal }
+{
     match refusal {
         NextError::OtherVersion => OpenError::OtherVersion,
         NextError::Damaged => OpenError::Damaged,
@@ -270,20 +199,4 @@ fn take_number(numbers: &mut [u16], note: Note)
         }
         Note::NotBegun { .. } | Note::LetGo { .. } | Note::Told { .. } => {}
     }
-}
-
-/// The clocks of steps, each once, in the order of their identities.
-fn lanes_of(alloc: Global, steps: &[Planned]) -> Result<Vec<Lane>, AllocError> {
-    let mut lanes: Vec<Lane> = Vec::new(alloc);
-    for step in steps {
-        if let Err(place) = lanes.binary_search_by_key(&step.clock, |lane| lane.clock) {
-            let lane = Lane {
-                clock: step.clock,
-                is_held: false,
-                is_left: false,
-            };
-            lanes.insert(place, lane)?;
-        }
-    }
-    Ok(lanes)
 }

@@ -1,6 +1,10 @@
 -- A start that was refused, and not for want of memory, has the number of its first reason; a start or a begin that was refused
 -- for no reason, that of want of memory.
-use Rattle.std.proofs.Common.{◌≡◌, ◌≢◌, ℕ, Option, None, Some, ap, ◌∙◌}
+use Rattle.std.proofs.Common.{◌≡◌, ◌≢◌, ℕ, List, Option, None, Some, ap, ◌∙◌, arith, refl}
+use Rattle.ptpm_journal.specs.declared.error.AddError.{AddError}
+use Rattle.ptpm_journal.specs.declared.error.AddError.TheVariants as adds
+use Rattle.ptpm_journal.specs.declared.error.NextError.{NextError}
+use Rattle.ptpm_journal.specs.declared.error.NextError.TheVariants as nexts
 use Rattle.ptpm_manager.specs.declared.error.BeginError.{BeginError}
 use Rattle.ptpm_manager.specs.declared.error.BeginError.TheVariants as begins
 use Rattle.ptpm_manager.specs.declared.error.RestoreError.{RestoreError}
@@ -9,6 +13,11 @@ use Rattle.ptpm_host.specs.declared.refusal.AskerRefusal.{AskerRefusal}
 use Rattle.ptpm_host.specs.declared.refusal.AskerRefusal.TheVariants as askers
 use Rattle.ptpm_host.specs.declared.refusal.StartRefusal.{StartRefusal}
 use Rattle.ptpm_host.specs.declared.refusal.StartRefusal.TheVariants as starts
+use Rattle.ptpm_apply.specs.declared.choice.OpenError.{OpenError}
+use Rattle.ptpm_apply.specs.declared.choice.OpenError.TheVariants as opens
+use Rattle.ptpm_apply.specs.Opening.{HasEnd, IsRefusedBy, IsUnreadable}
+use Rattle.ptpm_host.specs.JournalNumbers.{add_number, next_number}
+use Rattle.ptpm_host.specs.Rollout.{open_number}
 use Rattle.ptpm_host.specs.Numbers.{asker_number, begin_number, no_memory, restore_number, start_number}
 
 one_reason : {E : Type 0} (first : Option E) (r e : E)
@@ -58,3 +67,44 @@ pub memory_of_asker_restore : (first : Option AskerRefusal) (r : AskerRefusal) (
     → first ≡ None → number ≡ no_memory
 memory_of_asker_restore first (askers.Image restores.OutOfMemory) number told numbered none = numbered
 memory_of_asker_restore first r number told numbered none = no_reason first _ (told (λ memory. cc)) none
+
+-- ---- what the number of a refusal says of a journal's file
+
+pub unreadable : (octets : List ℕ) (r : OpenError) (number : ℕ) → number ≡ open_number r → IsRefusedBy octets r
+    → number ≡ open_number opens.Damaged → IsUnreadable octets
+unreadable octets opens.OtherVersion number is why same = why
+unreadable octets opens.Damaged number is why same = why
+unreadable octets opens.Ended number is why same = absurd (omega (arith, is, same))
+unreadable octets opens.OutOfMemory number is why same = absurd (omega (arith, is, same))
+
+pub of_other_version : (octets : List ℕ) (r : OpenError) (number : ℕ) → number ≡ open_number r → IsRefusedBy octets r
+    → number ≡ open_number opens.OtherVersion → IsUnreadable octets
+of_other_version octets opens.OtherVersion number is why same = why
+of_other_version octets opens.Damaged number is why same = why
+of_other_version octets opens.Ended number is why same = absurd (omega (arith, is, same))
+of_other_version octets opens.OutOfMemory number is why same = absurd (omega (arith, is, same))
+
+pub has_end : (octets : List ℕ) (r : OpenError) (number : ℕ) → number ≡ open_number r → IsRefusedBy octets r
+    → number ≡ open_number opens.Ended → HasEnd octets
+has_end octets opens.OtherVersion number is why same = absurd (omega (arith, is, same))
+has_end octets opens.Damaged number is why same = absurd (omega (arith, is, same))
+has_end octets opens.Ended number is why same = why
+has_end octets opens.OutOfMemory number is why same = absurd (omega (arith, is, same))
+
+-- ---- which refusal of a journal a number is
+
+pub not_allowed : (r : AddError) (number : ℕ) → number ≡ add_number r → number ≡ add_number adds.NotAllowed → r ≡ adds.NotAllowed
+not_allowed adds.NoRecord number is same = absurd (omega (arith, is, same))
+not_allowed adds.NotAllowed number is same = refl
+not_allowed adds.NoRoom number is same = absurd (omega (arith, is, same))
+not_allowed adds.OutOfMemory number is same = absurd (omega (arith, is, same))
+
+pub no_record : (r : AddError) (number : ℕ) → number ≡ add_number r → number ≡ add_number adds.NoRecord → r ≡ adds.NoRecord
+no_record adds.NoRecord number is same = refl
+no_record adds.NotAllowed number is same = absurd (omega (arith, is, same))
+no_record adds.NoRoom number is same = absurd (omega (arith, is, same))
+no_record adds.OutOfMemory number is same = absurd (omega (arith, is, same))
+
+-- another number than that of want of memory
+pub no_memory_here : (r : NextError) (number : ℕ) → number ≡ next_number r → number ≢ no_memory → r ≢ nexts.OutOfMemory
+no_memory_here r number is other same = other (is ∙ ap next_number same)

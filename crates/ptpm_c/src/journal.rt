@@ -1,12 +1,17 @@
 //! The calls of a journal for hosts in C, each one of `ptpm_journal`.
 
 ghost use Rattle.std.specs.Prelude.{◌≡◌, ◌≢◌, ◌≤◌, ◌+◌, [], IfNone, IfSome, IsSomeAnd, None, Some, false, length, slice_get};
+ghost use Rattle.ptpm_journal.specs.declared.error.AddError.{AddError};
+ghost use Rattle.ptpm_journal.specs.declared.error.NextError.{NextError};
 ghost use Rattle.ptpm_journal.specs.declared.journal.Journal.{Journal};
 ghost use Rattle.ptpm_journal.specs.declared.reading.Next.{Next};
-ghost use Rattle.ptpm_journal.specs.Plain.{blank, plain_of};
+ghost use Rattle.ptpm_journal.specs.declared.record.Record.{Record};
+ghost use Rattle.ptpm_journal.specs.Journal.{MayTake};
+ghost use Rattle.ptpm_journal.specs.Octets.{is_short, kind_of};
+ghost use Rattle.ptpm_journal.specs.Plain.{blank, entry_of, plain_of};
 ghost use Rattle.ptpm_journal.specs.State.{state_of};
-ghost use Rattle.ptpm_journal.specs.Turns.{IsRead};
-ghost use Rattle.ptpm_host.specs.JournalNumbers.{mark_number, no_journal};
+ghost use Rattle.ptpm_journal.specs.Turns.{IsAtEnd, IsRead, IsStuck};
+ghost use Rattle.ptpm_host.specs.JournalNumbers.{add_number, journal_is_whole, mark_number, next_number, no_journal};
 ghost use Rattle.ptpm_host.specs.Numbers.{no_memory};
 ghost use Rattle.ptpm_c.specs.declared.kept.Hosted.TheVariants.{Nothing};
 ghost use Rattle.ptpm_c.specs.Held.{held};
@@ -41,6 +46,7 @@ pub extern "C" fn ptpm_journal_start(alloc: Global, handle: &mut Handle) -> u32
 
 /// Takes a record with its two groups of octets: 0, and its octets are at the head of `octets`, `size` of them. If it is refused, by the
 /// number of the refusal, nothing changes.
+#[tactic(auto, using(crate::proofs::Numbers::not_allowed, crate::proofs::Numbers::no_record))]
 #[unsafe(no_mangle)]
 pub extern "C" fn ptpm_journal_add(
     handle: &mut Handle,
@@ -56,6 +62,11 @@ pub extern "C" fn ptpm_journal_add(
     ensures unchanged { (j : Journal) → journal_held handle.old.keeping ≡ Some j → result ≢ 0
         → (size.new ≡ 0) × (octets.new ≡ octets.old)
         × IsSomeAnd (journal_held handle.new.keeping) (λ k. (state_of k ≡ state_of j) × (k.crc ≡ j.crc)) }
+    ensures not_allowed { (j : Journal) (e : Record) → journal_held handle.old.keeping ≡ Some j
+        → entry_of plain.now ≡ Some e → result ≡ add_number AddError.NotAllowed → MayTake (state_of j) e → ⊥ }
+    ensures no_record { (j : Journal) (e : Record) → journal_held handle.old.keeping ≡ Some j
+        → entry_of plain.now ≡ Some e → result ≡ add_number AddError.NoRecord
+        → is_short (kind_of e) (length first.now) (length second.now) ≡ false }
     ensures empty { journal_held handle.old.keeping ≡ None
         → (result ≡ no_journal) × (size.new ≡ 0) × (octets.new ≡ octets.old)
         × (held handle.new.keeping ≡ held handle.old.keeping) }
@@ -75,6 +86,7 @@ pub extern "C" fn ptpm_journal_add(
 }
 
 /// Takes the next record of a file: 0, or the number of the refusal; 129 if there is none that was written whole.
+#[tactic(auto, using(crate::proofs::Numbers::no_memory_here))]
 #[unsafe(no_mangle)]
 pub extern "C" fn ptpm_journal_next(
     handle: &mut Handle,
@@ -86,6 +98,12 @@ pub extern "C" fn ptpm_journal_next(
         → (n : Next) × (plain.new ≡ plain_of n) × (size.new ≡ n.lead + n.size + 6)
         × IsSomeAnd (journal_held handle.new.keeping) (λ k. IsRead (state_of j) j.crc octets.now n (state_of k) k.crc) }
     ensures within { size.new ≤ length octets.now }
+    ensures whole { (j : Journal) → journal_held handle.old.keeping ≡ Some j → result ≡ journal_is_whole
+        → IsAtEnd (state_of j) j.crc octets.now }
+    ensures damaged { (j : Journal) → journal_held handle.old.keeping ≡ Some j → result ≡ next_number NextError.Damaged
+        → IsStuck (state_of j) j.crc octets.now }
+    ensures version { (j : Journal) → journal_held handle.old.keeping ≡ Some j → result ≡ next_number NextError.OtherVersion
+        → IsStuck (state_of j) j.crc octets.now }
     ensures unchanged { (j : Journal) → journal_held handle.old.keeping ≡ Some j → result ≢ 0
         → (plain.new ≡ blank) × (size.new ≡ 0)
         × IsSomeAnd (journal_held handle.new.keeping) (λ k. (state_of k ≡ state_of j) × (k.crc ≡ j.crc)) }

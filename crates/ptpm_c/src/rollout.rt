@@ -2,14 +2,17 @@
 
 ghost use Rattle.std.specs.Prelude.{◌≡◌, ◌≢◌, ◌≤◌, ◌++◌, ◌↔◌, IsSomeAnd, None, Some, drop, false, length, true};
 ghost use Rattle.ptpm_journal.specs.Journal.{goes_on};
+ghost use Rattle.ptpm_journal.specs.Turns.{IsAtEnd};
 ghost use Rattle.ptpm_apply.specs.declared.choice.Choice.{Choice};
+ghost use Rattle.ptpm_apply.specs.declared.choice.OpenError.{OpenError};
 ghost use Rattle.ptpm_apply.specs.declared.event.Event.{Event};
 ghost use Rattle.ptpm_apply.specs.declared.stage.Stage.{Stage};
-ghost use Rattle.ptpm_apply.specs.Opening.{AreApart, AreCovered, AreNewLanes, AreRead, IsChosen, IsReadOut};
+ghost use Rattle.ptpm_apply.specs.Lanes.{AreLanesOf};
+ghost use Rattle.ptpm_apply.specs.Opening.{AreRead, HasEnd, IsChosen, IsUnreadable};
 ghost use Rattle.ptpm_apply.specs.Rollout.{RolloutValue};
 ghost use Rattle.ptpm_apply.specs.Turning.{Turned, action_of, answers, has_value};
 ghost use Rattle.ptpm_host.specs.Numbers.{no_memory, no_room};
-ghost use Rattle.ptpm_host.specs.Rollout.{choice_of, event_of, no_action, no_choice, no_rollout, out_of_turn, plain_action};
+ghost use Rattle.ptpm_host.specs.Rollout.{choice_of, event_of, no_action, no_choice, no_rollout, open_number, out_of_turn, plain_action};
 ghost use Rattle.ptpm_c.specs.declared.kept.Hosted.TheVariants.{Nothing};
 ghost use Rattle.ptpm_c.specs.Held.{held};
 ghost use Rattle.ptpm_c.specs.RolloutHeld.{rollout_held};
@@ -23,6 +26,7 @@ use std::alloc::Global;
 
 /// Puts a change with this journal in a handle, in place of what it holds: 0, and how many octets of the journal are whole. If it is refused,
 /// by the number of the refusal, the handle holds what it held.
+#[tactic(auto, using(crate::proofs::Numbers::unreadable, crate::proofs::Numbers::of_other_version, crate::proofs::Numbers::has_end))]
 #[unsafe(no_mangle)]
 pub extern "C" fn ptpm_rollout_open(
     alloc: Global,
@@ -34,12 +38,14 @@ pub extern "C" fn ptpm_rollout_open(
     ensures opened { (c : Choice) → choice_of choice ≡ Some c → result ≡ 0
         → IsSomeAnd (rollout_held handle.new.keeping)
         (λ r. AreRead journal.now whole.new r.journal r.crc r.steps r.numbers × (goes_on r.journal ≡ true)
-        × (r.stage ≡ Stage.Fresh) × (r.seen ≡ 0) × (r.is_changed ≡ false) × AreCovered r × AreApart r
-        × IsChosen r c) }
+        × (r.stage ≡ Stage.Fresh) × (r.seen ≡ 0) × (r.is_changed ≡ false) × IsChosen r c) }
     ensures all { (c : Choice) → choice_of choice ≡ Some c → result ≡ 0
         → IsSomeAnd (rollout_held handle.new.keeping)
-        (λ r. IsReadOut journal.now whole.new r.journal r.crc × AreNewLanes r) }
+        (λ r. IsAtEnd r.journal r.crc (drop whole.new journal.now) × AreLanesOf r.steps (length r.steps) r.lanes) }
     ensures no_choice { choice_of choice ≡ None → result ≡ no_choice }
+    ensures damaged { result ≡ open_number OpenError.Damaged → IsUnreadable journal.now }
+    ensures version { result ≡ open_number OpenError.OtherVersion → IsUnreadable journal.now }
+    ensures ended { result ≡ open_number OpenError.Ended → HasEnd journal.now }
     ensures unchanged { result ≢ 0 → (whole.new ≡ 0) × (held handle.new.keeping ≡ held handle.old.keeping) }
 {
     *whole = 0;

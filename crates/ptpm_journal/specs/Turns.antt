@@ -1,5 +1,5 @@
 -- What a journal makes of a record that is added, and of the octets of a file (this project's profile).
-use Rattle.std.specs.Prelude.{◌≡◌, ◌+◌, ◌==◌, ◌&&◌, ◌||◌, nat_le, ℕ, Bool, List, [], length, take, drop, codes, bytes_eq, Option, Some, None, Result, Ok, Err, if◌then◌else◌}
+use Rattle.std.specs.Prelude.{◌≡◌, ◌+◌, ◌==◌, ◌&&◌, ◌||◌, nat_le, ℕ, Bool, true, List, [], length, take, drop, codes, bytes_eq, Option, Some, None, Result, Ok, Err, if◌then◌else◌}
 use Rattle.ptpm_codec.specs.Layout.{octet}
 use Rattle.ptpm_journal.specs.declared.error.NextError.{NextError}
 use Rattle.ptpm_journal.specs.declared.error.NextError.TheVariants as refusals
@@ -7,8 +7,9 @@ use Rattle.ptpm_journal.specs.declared.framing.Frame.TheVariants as frames
 use Rattle.ptpm_journal.specs.declared.reading.Next.{Next}
 use Rattle.ptpm_journal.specs.declared.record.Head.{Head}
 use Rattle.ptpm_journal.specs.Frames.{crc_after, frame_at}
-use Rattle.ptpm_journal.specs.Journal.{MayTake, State, taken}
+use Rattle.ptpm_journal.specs.Journal.{MayTake, State, has_all, taken}
 use Rattle.ptpm_journal.specs.Octets.{found_in}
+use Rattle.ptpm_journal.specs.Torn.{may_be_torn}
 
 -- a file begins with it
 abbrev pub journal_mark : List ℕ
@@ -41,3 +42,16 @@ pub record IsRead (before : State) (crc : ℕ) (octets : List ℕ) (n : Next) (a
   pub may : MayTake before n.found.entry
   pub becomes : after ≡ taken before n.found.entry
   pub counts : later ≡ crc_after crc (counted_in n octets)
+
+-- no further record was written whole, and the head and all steps are there
+pub record IsAtEnd (s : State) (crc : ℕ) (octets : List ℕ) : Type 0 where
+  pub lead : ℕ
+  pub is_lead : lead_in s.head octets ≡ Ok lead
+  pub torn : frame_at crc (drop lead octets) ≡ frames.Torn
+  pub all : has_all s.head s.steps ≡ true
+  pub may : may_be_torn (drop lead octets) ≡ true
+
+-- neither a record nor the end comes next
+pub record IsStuck (s : State) (crc : ℕ) (octets : List ℕ) : Type 0 where
+  pub no_record : (n : Next) (after : State) (later : ℕ) → IsRead s crc octets n after later → ⊥
+  pub no_end : IsAtEnd s crc octets → ⊥

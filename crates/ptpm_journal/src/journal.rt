@@ -45,8 +45,7 @@ impl Journal {
     ghost use Rattle.ptpm_journal.specs.declared.reading.Next.{Next};
     ghost use Rattle.ptpm_journal.specs.Frames.{counted, crc_after, frame_at, framed};
     ghost use Rattle.ptpm_journal.specs.Octets.{body_of, found_in, is_short, kind_of};
-    ghost use Rattle.ptpm_journal.specs.Torn.{may_be_torn};
-    ghost use Rattle.ptpm_journal.specs.Turns.{IsRead, lead_in, lead_of};
+    ghost use Rattle.ptpm_journal.specs.Turns.{IsAtEnd, IsRead, IsStuck, lead_in, lead_of};
 
     /// Without a record. Takes no memory.
     pub fn new(alloc: Global) -> Journal
@@ -64,7 +63,8 @@ impl Journal {
 
     /// Whether the head and all steps are there.
     pub fn has_all(&self) -> bool
-        ensures { result ≡ has_all self.now.head self.now.steps.items }
+        ensures yes { result ≡ has_all self.now.head self.now.steps.items }
+        ensures few { IsTrue result → length self.now.steps.items ≤ 65535 }
     {
         match &self.head {
             Some(head) => self.steps.len() == usize::from(head.count),
@@ -253,14 +253,13 @@ impl Journal {
     pub fn next(&mut self, octets: &[u8]) -> Result<Option<Next>, NextError>
         ensures read { IfOk result (λ o. IfSome o
             (λ n. IsRead (state_of self.old) self.old.crc octets.now n (state_of self.new) self.new.crc)) }
-        ensures whole { IfOk result (λ o. IfNone o ((lead : ℕ) × (lead_in self.old.head octets.now ≡ Ok lead)
-            × (frame_at self.old.crc (drop lead octets.now) ≡ Frame.Torn) × (has_all self.old.head self.old.steps.items ≡ true)
-            × (may_be_torn (drop lead octets.now) ≡ true)
+        ensures whole { IfOk result (λ o. IfNone o (IsAtEnd (state_of self.old) self.old.crc octets.now
             × (state_of self.new ≡ state_of self.old) × (self.new.crc ≡ self.old.crc))) }
+        ensures few { IfOk result (λ o. IfNone o (length self.new.steps.items ≤ 65535)) }
         ensures within { IfOk result (λ o. IfSome o (λ n. (n.lead ≤ 4) × (n.lead + n.size + 6 ≤ length octets.now)
             × (n.size < 65536) × (n.found.first + n.found.first_size ≤ n.size) × (n.found.second + n.found.second_size ≤ n.size))) }
-        ensures refused { (n : Next) (t : State) (later : ℕ) → IsErr result → result ≢ Err NextError.OutOfMemory
-            → IsRead (state_of self.old) self.old.crc octets.now n t later → ⊥ }
+        ensures refused { IsErr result → result ≢ Err NextError.OutOfMemory
+            → IsStuck (state_of self.old) self.old.crc octets.now }
         ensures unchanged { OnErr result ((state_of self.new ≡ state_of self.old) × (self.new.crc ≡ self.old.crc)) }
     {
         let lead = self.lead_in(octets)?;

@@ -1,10 +1,31 @@
-use Rattle.std.proofs.Common.{ℕ, ◌+◌, ◌∙◌, List, [], ap, arith, drop, subst, sym}
-use Rattle.ptpm_journal.specs.Journal.{State}
+use Rattle.std.proofs.Common.{◌≡◌, ℕ, ◌+◌, ◌∙◌, List, [], ◌∷◌, ap, arith, drop, length, length-append, refl, subst, sym}
+use Rattle.ptpm_journal.specs.Journal.{State, placed, taken}
 use Rattle.ptpm_journal.specs.State.{state_of}
 use Rattle.ptpm_journal.specs.Turns.{IsRead}
-use Rattle.ptpm_apply.specs.Opening.{AreRead, None_read, One_more, Takes, no_record}
+use Rattle.ptpm_journal.specs.declared.record.Record.{Record}
+use Rattle.ptpm_journal.specs.declared.record.Record.TheVariants as records
+use Rattle.ptpm_apply.specs.Opening.{AreRead, None_read, One_more, StepsAfter, Takes, no_record}
 use Rattle.ptpm_apply.specs.declared.planned.Planned.{Planned}
 use Rattle.ptpm_apply.proofs.opening.read.Goals as goal
+
+-- ---- it has as many steps as its journal
+
+one_record : (e : Record) (first second : List ℕ) (s t : State) (old new : List Planned) → length old ≡ length s.steps
+    → t ≡ taken s e → StepsAfter e first second old new → length new ≡ length t.steps
+one_record (records.Step step port id) first second s t old new h is adds =
+    let one = ap (λ (x : State). length x.steps) is in
+    omega (arith, h, ap length adds.added, length-append old (adds.planned ∷ []), one, length-append s.steps (placed s.head step ∷ []))
+one_record (records.Head head) first second s t old new h is same = ap length same ∙ h ∙ sym (ap (λ (x : State). length x.steps) is)
+one_record (records.Note time note) first second s t old new h is same = ap length same ∙ h ∙ sym (ap (λ (x : State). length x.steps) is)
+one_record (records.Policy time policy) first second s t old new h is same = ap length same ∙ h ∙ sym (ap (λ (x : State). length x.steps) is)
+one_record (records.End time ending step) first second s t old new h is same = ap length same ∙ h ∙ sym (ap (λ (x : State). length x.steps) is)
+one_record (records.Text what) first second s t old new h is same = ap length same ∙ h ∙ sym (ap (λ (x : State). length x.steps) is)
+
+as_many : (octets : List ℕ) (place crc : ℕ) (s : State) (steps : List Planned) (numbers : List ℕ)
+    → AreRead octets place s crc steps numbers → length steps ≡ length s.steps
+as_many octets place crc s steps numbers None_read = refl
+as_many octets place crc s steps numbers (One_more at sum later before after n old new numbered others read is takes) =
+    one_record n.found.entry _ _ before after old new (as_many octets at sum before old numbered read) is.becomes takes.steps
 
 pub records-init : goal.records-init
 records-init c =
@@ -29,3 +50,10 @@ records-preserved c =
           c.records.numbers.items c.take.new.numbers.items)
           (c.split_at-in-records.ensures.back ∙ ap (drop (c.in-Ok-Some.next.lead + 2)) c.split_at.ensures.back) c.in_ok-take.ensures),
     )
+
+pub returns-clause-few : goal.returns-clause-few
+returns-clause-few c =
+    let known = rw c.in-Ok-None.field-0-is at (c.in-Ok-None.ensures {u = tt}) in
+    omega (arith, known.few, ap (λ (s : State). length s.steps) known.whole.1,
+        as_many c.args.octets.now c.records.whole c.records.journal.crc (state_of c.records.journal) c.records.steps.items
+        c.records.numbers.items c.records.invariant.1)
