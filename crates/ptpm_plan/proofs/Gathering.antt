@@ -1,6 +1,5 @@
 -- One more of those that are gathered from the tables of a file, and the rows of one wish, of one table and of one port more.
 use Rattle.std.proofs.Common.{◌≡◌, ℕ, zero, suc, arith, ◌+◌, ◌<◌, ◌≤◌, Bool, true, false, cond, List, [], ◌∷◌, ◌++◌, length, get_or, drop, map, Option, Some, None, option_map, refl, sym, ap, ◌∙◌, append_assoc, append-nil, take, flat_map, fold}
-use Rattle.std.specs.Prelude.{option_and_then}
 use Rattle.std.specs.List.{filter_map, find, range_with_len}
 use Rattle.std.proofs.lemmas.List.{drop_more, drop_all, take_more}
 use Rattle.toml.specs.Data.{Data}
@@ -53,16 +52,6 @@ gather made o os x e = ap (λ o. option_map (λ xs. made ++ xs) (first_of o (all
 map_push : {A B : Type 0} (f : A → B) (xs : List A) (x : A) → map f (xs ++ x ∷ []) ≡ map f xs ++ f x ∷ []
 map_push f [] x = refl
 map_push f (y ∷ ys) x = ap (λ zs. f y ∷ zs) (map_push f ys x)
-
--- nothing is gathered yet
-pub gather_first : {A C : Type 0} (of : A → List (Option C)) (items : Option A) (ds : A) (made : List C)
-    → items ≡ Some ds → made ≡ [] → before_all made (of ds) ≡ option_and_then (λ xs. all_of (of xs)) items
-gather_first of items ds made e none =
-    ap (λ m. before_all m (of ds)) none ∙ none_before (all_of (of ds)) ∙ sym (ap (option_and_then (λ xs. all_of (of xs))) e)
-
--- the value at a place, and those after it
-at_place : {A : Type 0} (xs : List A) (i : ℕ) (x : A) → i < length xs → x ≡ get_or xs i x → drop i xs ≡ x ∷ drop (i + 1) xs
-at_place xs i x below is = drop_more xs i x below ∙ ap (λ z. z ∷ drop (i + 1) xs) (sym is)
 
 -- of those values of which there is something
 found_more : {A B : Type 0} (g : A → Option (Option B)) (made more : List B) (x : A) (xs : List A) (o : Option (Option B))

@@ -70,6 +70,7 @@ fn read_except(
 }
 
 /// The clocks that a list names.
+#[tactic(auto, using(crate::proofs::Gathering::list_items))]
 fn excepted_of(
     alloc: Global,
     value: &Value,

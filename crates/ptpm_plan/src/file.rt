@@ -58,6 +58,7 @@ fn read_tables(alloc: Global, table: &Table) -> Result<PlanFile, FileFault>
     Ok(PlanFile { clocks, every })
 }
 
+#[tactic(auto, unfolding(crate::specs::FileText::clocks_in))]
 fn read_clocks(alloc: Global, table: &Table) -> Result<Vec<ClockWishes>, FileFault>
     ensures { IfOk result (λ v. clocks_in (table_view table.now) ≡ Some (map clock_value v.items)) }
 {
@@ -70,6 +71,7 @@ fn read_clocks(alloc: Global, table: &Table) -> Result<Vec<ClockWishes>, FileFau
     Ok(clocks)
 }
 
+#[tactic(auto, unfolding(crate::specs::FileText::all_every_in))]
 fn read_all_every(
     alloc: Global,
     table: &Table,
