@@ -1,5 +1,5 @@
 -- What a plan file asks for, by the tables of its TOML document (this project's profile). `None` is of what is no such table.
-use Rattle.std.specs.Prelude.{◌≡◌, ℕ, ◌+◌, ◌==◌, ℤ, pos, negsuc, nat_le, Bool, false, not, ◌&&◌, ◌||◌, if◌then◌else◌, bytes_eq, codes, length, List, [], ◌∷◌, ◌++◌, map, Option, Some, None, option_map, option_and_then, is_some, unwrap_or}
+use Rattle.std.specs.Prelude.{◌≡◌, ℕ, ◌+◌, ◌==◌, ℤ, pos, negsuc, nat_le, Bool, false, not, ◌&&◌, ◌||◌, if◌then◌else◌, bytes_eq, codes, length, ◌≢◌, List, [], ◌∷◌, ◌++◌, map, Option, Some, None, option_map, option_and_then, is_some, unwrap_or, Result, Ok, Err}
 use Rattle.std.specs.Fmt.{signed_decimal}
 use Rattle.std.specs.List.{filter_map, find, list_any}
 use Rattle.toml.specs.Data.{Data, as_array, as_bool, as_integer, as_str, as_table, Items, no_items, item, Members, no_members, member, get_member}
@@ -13,6 +13,8 @@ use Rattle.ptpm_plan.specs.PlannedId.{number_of}
 use Rattle.ptpm_plan.specs.declared.change.PlannedId.{PlannedId}
 use Rattle.ptpm_plan.specs.declared.change.PlannedId.TheVariants as ids
 use Rattle.ptpm_plan.specs.declared.change.TheConstants.PlannedId.{ALL}
+use Rattle.ptpm_plan.specs.declared.file_fault.FileFault.{FileFault}
+use Rattle.ptpm_plan.specs.declared.file_fault.FileFault.TheVariants as faults
 use Rattle.ptpm_plan.specs.declared.table_keys.TableKind.{TableKind}
 use Rattle.ptpm_plan.specs.declared.table_keys.TableKind.TheVariants as kinds
 use Rattle.ptpm_plan.specs.declared.wish.ClockWishes.{ClockWishes}
@@ -325,19 +327,23 @@ abbrev pub file_with : Members → Option (List ClockValue) → Option FileValue
 file_with ms None = None
 file_with ms (Some clocks) = option_map (λ every. record { clocks = clocks; every = every }) (all_every_in clocks ms)
 
-abbrev pub file_if : Option ℕ → Members → Option FileValue
-file_if None ms = None
-file_if (Some version) ms = file_with ms (clocks_in ms)
+abbrev pub version_in : Members → Option ℕ
+version_in ms = option_and_then (number_in 1 1) (get_member (codes "version") ms)
 
 -- a file of version 1
 abbrev pub file_in : Members → Option FileValue
-file_in ms = with_keys kinds.File ms (file_if (option_and_then (number_in 1 1) (get_member (codes "version") ms)) ms)
+file_in ms = if is_some (version_in ms) then with_keys kinds.File ms (file_with ms (clocks_in ms)) else None
 
 -- what a text asks for
 unfoldable pub file_of : List ℕ → Option FileValue
 file_of text = option_and_then file_in (parse_document text)
 
 -- ---- as the program has it
+
+-- what was looked for is read if it is there; if it is not read, it is not there, or memory was refused
+abbrev pub Reads : {A B : Type 0} → Result A FileFault → (A → B) → Option B → Type 0
+Reads (Ok x) value found = found ≡ Some (value x)
+Reads (Err fault) value found = fault ≢ faults.OutOfMemory → found ≡ None
 
 abbrev pub port_value : PortWishes → PortValue
 port_value p = record { number = p.number; wishes = p.wishes.items }
