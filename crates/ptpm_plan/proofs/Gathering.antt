@@ -1,11 +1,13 @@
 -- One more of those that are gathered from the tables of a file, and the rows of one wish, of one table and of one port more.
-use Rattle.std.proofs.Common.{◌≡◌, ℕ, zero, suc, arith, ◌+◌, ◌<◌, ◌≤◌, Bool, true, false, cond, List, [], ◌∷◌, ◌++◌, length, get_or, drop, map, Option, Some, None, option_map, refl, sym, ap, ◌∙◌, append_assoc, append-nil, take, flat_map, fold}
-use Rattle.std.specs.Prelude.{option_and_then}
+use Rattle.std.proofs.Common.{◌≡◌, ℕ, zero, suc, arith, ◌+◌, ◌<◌, ◌≤◌, Bool, true, false, cond, List, [], ◌∷◌, ◌++◌, length, get_or, drop, map, Option, Some, None, option_map, refl, sym, ap, subst, ◌∙◌, append_assoc, append-nil, take, flat_map, fold}
+use Rattle.std.specs.Prelude.{◌≢◌, IsErrAnd, Result, Ok, Err}
 use Rattle.std.specs.List.{filter_map, find, range_with_len}
 use Rattle.std.proofs.lemmas.List.{drop_more, drop_all, take_more}
 use Rattle.toml.specs.Data.{Data}
 use Rattle.toml.specs.View.{items_of}
-use Rattle.ptpm_plan.specs.FileText.{ClockValue, Gathers, all_of, clock_value, first_of, has_alias, list_of}
+use Rattle.ptpm_plan.specs.FileText.{ClockValue, Gathers, Reads, all_of, clock_value, first_of, has_alias, list_of}
+use Rattle.ptpm_plan.specs.declared.file_fault.FileFault.{FileFault}
+use Rattle.ptpm_plan.specs.declared.file_fault.FileFault.TheVariants as faults
 use Rattle.ptpm_plan.specs.declared.wish.ClockWishes.{ClockWishes}
 use Rattle.std.proofs.lemmas.List.Sums.{fold_push, fold-append}
 use Rattle.ptpm_plan.specs.Asking.{row_for, rows_of_wishes}
@@ -54,16 +56,6 @@ map_push : {A B : Type 0} (f : A → B) (xs : List A) (x : A) → map f (xs ++ x
 map_push f [] x = refl
 map_push f (y ∷ ys) x = ap (λ zs. f y ∷ zs) (map_push f ys x)
 
--- nothing is gathered yet
-pub gather_first : {A C : Type 0} (of : A → List (Option C)) (items : Option A) (ds : A) (made : List C)
-    → items ≡ Some ds → made ≡ [] → before_all made (of ds) ≡ option_and_then (λ xs. all_of (of xs)) items
-gather_first of items ds made e none =
-    ap (λ m. before_all m (of ds)) none ∙ none_before (all_of (of ds)) ∙ sym (ap (option_and_then (λ xs. all_of (of xs))) e)
-
--- the value at a place, and those after it
-at_place : {A : Type 0} (xs : List A) (i : ℕ) (x : A) → i < length xs → x ≡ get_or xs i x → drop i xs ≡ x ∷ drop (i + 1) xs
-at_place xs i x below is = drop_more xs i x below ∙ ap (λ z. z ∷ drop (i + 1) xs) (sym is)
-
 -- of those values of which there is something
 found_more : {A B : Type 0} (g : A → Option (Option B)) (made more : List B) (x : A) (xs : List A) (o : Option (Option B))
     → g x ≡ o → Gathers o made more
@@ -79,6 +71,22 @@ pub gather_found : {A B : Type 0} (g : A → Option (Option B)) (made more : Lis
 gather_found g made more xs i d below step =
     ap (λ ys. before_all made (filter_map g ys)) (drop_more xs i d below)
     ∙ found_more g made more (get_or xs i d) (drop (i + 1) xs) (g (get_or xs i d)) refl step
+
+-- one of them is nothing
+none_more : {A B : Type 0} (g : A → Option (Option B)) (made : List B) (x : A) (xs : List A)
+    → g x ≡ Some None → before_all made (filter_map g (x ∷ xs)) ≡ None
+none_more g made x xs e = rw e
+
+pub none_found : {A B : Type 0} (g : A → Option (Option B)) (made : List B) (xs : List A) (i : ℕ) (d : A)
+    → i < length xs → g (get_or xs i d) ≡ Some None → before_all made (filter_map g (drop i xs)) ≡ None
+none_found g made xs i d below e =
+    ap (λ ys. before_all made (filter_map g ys)) (drop_more xs i d below) ∙ none_more g made (get_or xs i d) (drop (i + 1) xs) e
+
+-- a fault that `?` hands on
+pub handed_on : {A B : Type 0} (r : Result A FileFault) (e : FileFault) (value : A → B) (found : Option B)
+    → IsErrAnd r (λ x. x ≡ e) → (e ≢ faults.OutOfMemory → found ≡ None) → Reads r value found
+handed_on (Ok a) e value found h none = absurd h
+handed_on (Err x) e value found h none = subst (λ f. f ≢ faults.OutOfMemory → found ≡ None) (sym h) none
 
 pub all_found : {A B : Type 0} (g : A → Option (Option B)) (made : List B) (xs : List A) (i : ℕ) → length xs ≤ i
     → before_all made (filter_map g (drop i xs)) ≡ Some made

@@ -1,5 +1,5 @@
 -- What a plan file asks for, by the tables of its TOML document (this project's profile). `None` is of what is no such table.
-use Rattle.std.specs.Prelude.{◌≡◌, ℕ, ◌+◌, ◌==◌, ℤ, pos, negsuc, nat_le, Bool, false, not, ◌&&◌, ◌||◌, if◌then◌else◌, bytes_eq, codes, length, List, [], ◌∷◌, ◌++◌, map, Option, Some, None, option_map, option_and_then, unwrap_or}
+use Rattle.std.specs.Prelude.{◌≡◌, ℕ, ◌+◌, ◌==◌, ℤ, pos, negsuc, nat_le, Bool, false, not, ◌&&◌, ◌||◌, if◌then◌else◌, bytes_eq, codes, length, ◌≢◌, List, [], ◌∷◌, ◌++◌, map, Option, Some, None, option_map, option_and_then, is_some, unwrap_or, Result, Ok, Err}
 use Rattle.std.specs.Fmt.{signed_decimal}
 use Rattle.std.specs.List.{filter_map, find, list_any}
 use Rattle.toml.specs.Data.{Data, as_array, as_bool, as_integer, as_str, as_table, Items, no_items, item, Members, no_members, member, get_member}
@@ -13,6 +13,8 @@ use Rattle.ptpm_plan.specs.PlannedId.{number_of}
 use Rattle.ptpm_plan.specs.declared.change.PlannedId.{PlannedId}
 use Rattle.ptpm_plan.specs.declared.change.PlannedId.TheVariants as ids
 use Rattle.ptpm_plan.specs.declared.change.TheConstants.PlannedId.{ALL}
+use Rattle.ptpm_plan.specs.declared.file_fault.FileFault.{FileFault}
+use Rattle.ptpm_plan.specs.declared.file_fault.FileFault.TheVariants as faults
 use Rattle.ptpm_plan.specs.declared.table_keys.TableKind.{TableKind}
 use Rattle.ptpm_plan.specs.declared.table_keys.TableKind.TheVariants as kinds
 use Rattle.ptpm_plan.specs.declared.wish.ClockWishes.{ClockWishes}
@@ -47,10 +49,10 @@ Gathers None old new = new ≡ old
 Gathers (Some None) old new = ⊥
 Gathers (Some (Some x)) old new = new ≡ old ++ x ∷ []
 
--- each by its place, from n
-abbrev pub numbered : {A B : Type 0} → (ℕ → A → B) → ℕ → List A → List B
-numbered f n [] = []
-numbered f n (x ∷ xs) = f n x ∷ numbered f (n + 1) xs
+-- one after the other, each by what is read before it
+abbrev pub read_each : {A : Type 0} → (List A → Data → Option A) → List A → List Data → Option (List A)
+read_each read before [] = Some before
+read_each read before (d ∷ ds) = option_and_then (λ x. read_each read (before ++ x ∷ []) ds) (read before d)
 
 abbrev pub if_there : {A : Type 0} → (Data → Option A) → Option Data → Option (Option A)
 if_there read None = Some None
@@ -209,7 +211,7 @@ unfoldable pub port_in : Data → Option PortValue
 port_in d = option_and_then port_of (as_table d)
 
 unfoldable pub ports_in : Members → Option (List PortValue)
-ports_in ms = option_and_then (λ ds. all_of (map port_in ds)) (items_at (codes "port") ms)
+ports_in ms = option_and_then (read_each (λ before. port_in) []) (items_at (codes "port") ms)
 
 abbrev pub if_of_one : Option ClockIdentity → Option Target
 if_of_one None = None
@@ -229,12 +231,30 @@ clock_by place (Some target) (Some alias) (Some domain) (Some asked) (Some ports
     Some (record { place = place; target = target; alias = alias; domain = domain; wishes = asked; ports = ports })
 clock_by place _ _ _ _ _ = None
 
-abbrev pub clock_of : ℕ → Members → Option ClockValue
-clock_of place ms =
-    clock_by place (target_in ms) (text_at (codes "alias") ms) (domain_in ms) (wishes_of kinds.Clock ms) (ports_in ms)
+abbrev pub has_alias : List ℕ → Option (List ℕ) → Bool
+has_alias text None = false
+has_alias text (Some alias) = bytes_eq alias text
 
-unfoldable pub clock_in : ℕ → Data → Option ClockValue
-clock_in place d = option_and_then (clock_of place) (as_table d)
+-- one of these has this alias
+abbrev pub is_taken : List ClockValue → List ℕ → Bool
+is_taken clocks text = is_some (find (λ c. has_alias text c.alias) clocks)
+
+abbrev pub alias_if : List ClockValue → Option (List ℕ) → Option (Option (List ℕ))
+alias_if earlier None = Some None
+alias_if earlier (Some text) =
+    if is_some (clock_identity_of text) then None else if is_taken earlier text then None else Some (Some text)
+
+-- the alias, if there is one: it is not a clockIdentity, and no clock before has it
+unfoldable pub alias_in : List ClockValue → Members → Option (Option (List ℕ))
+alias_in earlier ms = option_and_then (alias_if earlier) (text_at (codes "alias") ms)
+
+-- a clock, after these
+abbrev pub clock_of : List ClockValue → Members → Option ClockValue
+clock_of earlier ms =
+    clock_by (length earlier) (target_in ms) (alias_in earlier ms) (domain_in ms) (wishes_of kinds.Clock ms) (ports_in ms)
+
+unfoldable pub clock_in : List ClockValue → Data → Option ClockValue
+clock_in earlier d = option_and_then (clock_of earlier) (as_table d)
 
 -- ---- every clock
 
@@ -245,10 +265,6 @@ pub record EveryValue : Type 0 where
   pub except : List Target
   pub wishes : List Wish
   pub port_wishes : List Wish
-
-abbrev pub has_alias : List ℕ → Option (List ℕ) → Bool
-has_alias text None = false
-has_alias text (Some alias) = bytes_eq alias text
 
 abbrev pub named_by : Option ClockValue → Option ClockIdentity → Option Target
 named_by (Some c) identity = Some c.target
@@ -263,7 +279,7 @@ abbrev pub excepted : List ClockValue → Data → Option Target
 excepted clocks d = option_and_then (named_in clocks) (as_str d)
 
 abbrev pub excepted_of : List ClockValue → Data → Option (List Target)
-excepted_of clocks d = option_and_then (λ ds. all_of (map (excepted clocks) (list_of ds))) (as_array d)
+excepted_of clocks d = option_and_then (λ ds. read_each (λ before. excepted clocks) [] (list_of ds)) (as_array d)
 
 -- the clocks that are left out
 unfoldable pub except_in : List ClockValue → Members → Option (List Target)
@@ -301,28 +317,33 @@ pub record FileValue : Type 0 where
   pub every : List EveryValue
 
 unfoldable pub clocks_in : Members → Option (List ClockValue)
-clocks_in ms = option_and_then (λ ds. all_of (numbered clock_in 0 ds)) (items_at (codes "clock") ms)
+clocks_in ms = option_and_then (read_each clock_in []) (items_at (codes "clock") ms)
 
 unfoldable pub all_every_in : List ClockValue → Members → Option (List EveryValue)
-all_every_in clocks ms = option_and_then (λ ds. all_of (numbered (every_in clocks) 0 ds)) (items_at (codes "every") ms)
+all_every_in clocks ms =
+    option_and_then (read_each (λ before. every_in clocks (length before)) []) (items_at (codes "every") ms)
 
 abbrev pub file_with : Members → Option (List ClockValue) → Option FileValue
 file_with ms None = None
 file_with ms (Some clocks) = option_map (λ every. record { clocks = clocks; every = every }) (all_every_in clocks ms)
 
-abbrev pub file_if : Option ℕ → Members → Option FileValue
-file_if None ms = None
-file_if (Some version) ms = file_with ms (clocks_in ms)
+abbrev pub version_in : Members → Option ℕ
+version_in ms = option_and_then (number_in 1 1) (get_member (codes "version") ms)
 
 -- a file of version 1
 abbrev pub file_in : Members → Option FileValue
-file_in ms = with_keys kinds.File ms (file_if (option_and_then (number_in 1 1) (get_member (codes "version") ms)) ms)
+file_in ms = if is_some (version_in ms) then with_keys kinds.File ms (file_with ms (clocks_in ms)) else None
 
 -- what a text asks for
 unfoldable pub file_of : List ℕ → Option FileValue
 file_of text = option_and_then file_in (parse_document text)
 
 -- ---- as the program has it
+
+-- what was looked for is read if it is there; if it is not read, it is not there, or memory was refused
+abbrev pub Reads : {A B : Type 0} → Result A FileFault → (A → B) → Option B → Type 0
+Reads (Ok x) value found = found ≡ Some (value x)
+Reads (Err fault) value found = fault ≢ faults.OutOfMemory → found ≡ None
 
 abbrev pub port_value : PortWishes → PortValue
 port_value p = record { number = p.number; wishes = p.wishes.items }

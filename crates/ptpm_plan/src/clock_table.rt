@@ -1,12 +1,12 @@
 //! The table of a clock in a plan file.
 
-ghost use Rattle.std.specs.Prelude.{◌≡◌, IfOk, None, OnErr, Some, codes, length, map, option_and_then};
+ghost use Rattle.std.specs.Prelude.{◌≡◌, IfOk, None, OnErr, Some, codes, map, option_and_then};
 ghost use Rattle.std.specs.List.{find};
 ghost use Rattle.std.specs.Option.{option_copied};
 ghost use Rattle.toml.specs.Data.{get_member};
 ghost use Rattle.toml.specs.View.{table_view, view};
 ghost use Rattle.ptpm_members.specs.Identities.{clock_identity_of};
-ghost use Rattle.ptpm_plan.specs.FileText.{clock_in, clock_value, has_alias, if_of_one, number_in, port_in, port_value, ports_in, target_in, text_at};
+ghost use Rattle.ptpm_plan.specs.FileText.{Reads, alias_in, clock_in, clock_value, has_alias, if_of_one, number_in, port_in, port_value, ports_in, target_in};
 ghost use Rattle.ptpm_plan.specs.Naming.{is_of_one_clock};
 
 use crate::file_fault::{FileFault, Place, TableFault};
@@ -30,7 +30,7 @@ pub(crate) fn read_clock(
     value: &Value,
     earlier: &[ClockWishes],
 ) -> Result<ClockWishes, FileFault>
-    ensures { IfOk result (λ c. clock_in (length earlier.now) (view value.now) ≡ Some (clock_value c)) }
+    ensures { Reads result clock_value (clock_in (map clock_value earlier.now) (view value.now)) }
 {
     let number = earlier.len();
     let place = Place::Clock(number);
@@ -52,7 +52,7 @@ pub(crate) fn read_clock(
 
 #[tactic(auto, unfolding(crate::specs::FileText::target_in))]
 fn read_target(alloc: Global, table: &Table, place: Place) -> Result<Target, FileFault>
-    ensures { IfOk result (λ t. target_in (table_view table.now) ≡ Some t) }
+    ensures { Reads result (λ t. t) (target_in (table_view table.now)) }
 {
     let identity = text_at(table, "identity", place)?;
     let description = text_at(table, "description", place)?;
@@ -88,13 +88,15 @@ fn is_of_one_clock(identity: ClockIdentity) -> bool
     identity != ClockIdentity::EVERY && identity != NO_IDENTITY
 }
 
+/// The alias of a clock, if it has one: it is not a clockIdentity, and no earlier clock has it.
+#[tactic(auto, unfolding(crate::specs::FileText::alias_in), using(crate::proofs::Gathering::found_value))]
 fn read_alias(
     alloc: Global,
     table: &Table,
     place: Place,
     earlier: &[ClockWishes],
 ) -> Result<Option<Text>, FileFault>
-    ensures { IfOk result (λ alias. text_at (codes "alias") (table_view table.now) ≡ Some alias) }
+    ensures { Reads result (λ alias. alias) (alias_in (map clock_value earlier.now) (table_view table.now)) }
 {
     let Some(alias) = text_at(table, "alias", place)? else {
         return Ok(None);
@@ -103,10 +105,10 @@ fn read_alias(
         return Err(FileFault::takes(place, "alias", "a name that is no clockIdentity"));
     }
     let text = Text::copy_of(alloc, alias)?;
-    if clock_of_alias(earlier, alias).is_some() {
-        return Err(FileFault::At(place, TableFault::AliasTwice(text)));
+    match clock_of_alias(earlier, alias) {
+        Some(_) => Err(FileFault::At(place, TableFault::AliasTwice(text))),
+        None => Ok(Some(text)),
     }
-    Ok(Some(text))
 }
 
 /// The clock that has an alias.
@@ -125,8 +127,9 @@ fn has_alias(alias: &Option<Text>, text: &str) -> bool
     }
 }
 
+#[tactic(auto, unfolding(crate::specs::FileText::ports_in))]
 fn read_ports(alloc: Global, table: &Table, clock: usize) -> Result<Vec<PortWishes>, FileFault>
-    ensures { IfOk result (λ v. ports_in (table_view table.now) ≡ Some (map port_value v.items)) }
+    ensures { Reads result (λ v. map port_value v.items) (ports_in (table_view table.now)) }
 {
     let mut ports = Vec::new(alloc);
     let values = tables_at(table, "port", Place::Clock(clock))?;
@@ -145,7 +148,7 @@ fn read_port(
     clock: usize,
     port: usize,
 ) -> Result<PortWishes, FileFault>
-    ensures { IfOk result (λ p. port_in (view value.now) ≡ Some (port_value p)) }
+    ensures { Reads result port_value (port_in (view value.now)) }
 {
     let place = Place::Port(clock, port);
     let table = shaped(value, "port", place)?;

@@ -1,8 +1,8 @@
 //! What a plan file asks of every clock of a domain.
 
-ghost use Rattle.std.specs.Prelude.{◌≡◌, ◌<◌, ◌^◌, IfOk, Some, map};
+ghost use Rattle.std.specs.Prelude.{◌≡◌, ◌<◌, ◌^◌, IfOk, map};
 ghost use Rattle.toml.specs.View.{table_view, view};
-ghost use Rattle.ptpm_plan.specs.FileText.{clock_value, every_in, every_value, except_in, excepted, excepted_of, named_in, port_wishes_in};
+ghost use Rattle.ptpm_plan.specs.FileText.{Reads, clock_value, every_in, every_value, except_in, excepted, excepted_of, named_in, port_wishes_in};
 
 use crate::clock_table::clock_of_alias;
 use crate::file_fault::{FileFault, Place, TableFault};
@@ -24,7 +24,7 @@ pub(crate) fn read_every(
     clocks: &[ClockWishes],
 ) -> Result<EveryWishes, FileFault>
     requires { number < 2 ^ 63 }
-    ensures { IfOk result (λ e. every_in (map clock_value clocks.now) number (view value.now) ≡ Some (every_value e)) }
+    ensures { Reads result every_value (every_in (map clock_value clocks.now) number (view value.now)) }
 {
     let place = Place::Every(number);
     let table = shaped(value, "every", place)?;
@@ -45,7 +45,7 @@ pub(crate) fn read_every(
 
 #[tactic(auto, unfolding(crate::specs::FileText::port_wishes_in))]
 fn read_port_wishes(alloc: Global, table: &Table, number: usize) -> Result<Vec<Wish>, FileFault>
-    ensures { IfOk result (λ v. port_wishes_in (table_view table.now) ≡ Some v.items) }
+    ensures { Reads result (λ v. v.items) (port_wishes_in (table_view table.now)) }
 {
     let Some(value) = value_at(table, "port") else {
         return Ok(Vec::new(alloc));
@@ -61,7 +61,7 @@ fn read_except(
     place: Place,
     clocks: &[ClockWishes],
 ) -> Result<Vec<Target>, FileFault>
-    ensures { IfOk result (λ v. except_in (map clock_value clocks.now) (table_view table.now) ≡ Some v.items) }
+    ensures { Reads result (λ v. v.items) (except_in (map clock_value clocks.now) (table_view table.now)) }
 {
     match value_at(table, "except") {
         Some(value) => excepted_of(alloc, value, place, clocks),
@@ -70,13 +70,14 @@ fn read_except(
 }
 
 /// The clocks that a list names.
+#[tactic(auto, using(crate::proofs::Gathering::list_items))]
 fn excepted_of(
     alloc: Global,
     value: &Value,
     place: Place,
     clocks: &[ClockWishes],
 ) -> Result<Vec<Target>, FileFault>
-    ensures { IfOk result (λ v. excepted_of (map clock_value clocks.now) (view value.now) ≡ Some v.items) }
+    ensures { Reads result (λ v. v.items) (excepted_of (map clock_value clocks.now) (view value.now)) }
 {
     let Some(array) = value.as_array() else {
         return Err(takes_names(place));
@@ -103,7 +104,7 @@ fn excepted(
     place: Place,
     clocks: &[ClockWishes],
 ) -> Result<Target, FileFault>
-    ensures { IfOk result (λ t. excepted (map clock_value clocks.now) (view name.now) ≡ Some t) }
+    ensures { Reads result (λ t. t) (excepted (map clock_value clocks.now) (view name.now)) }
 {
     match name.as_str() {
         Some(text) => named(alloc, text, place, clocks),
@@ -119,7 +120,7 @@ fn named(
     place: Place,
     clocks: &[ClockWishes],
 ) -> Result<Target, FileFault>
-    ensures { IfOk result (λ t. named_in (map clock_value clocks.now) text.now ≡ Some t) }
+    ensures { Reads result (λ t. t) (named_in (map clock_value clocks.now) text.now) }
 {
     match (clock_of_alias(clocks, text), clock_identity_of(text)) {
         (Some(clock), _) => Ok(copy_of(alloc, &clock.target)?),

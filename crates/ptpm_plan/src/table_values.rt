@@ -3,7 +3,7 @@
 ghost use Rattle.std.specs.Prelude.{◌≡◌, ◌≤◌, IfOk, IfSome, None, OnErr, Some, codes, map, option_map};
 ghost use Rattle.toml.specs.Data.{as_table, get_member};
 ghost use Rattle.toml.specs.View.{table_view, view};
-ghost use Rattle.ptpm_plan.specs.FileText.{domain_in, expected_in, items_at, number_in, text_at};
+ghost use Rattle.ptpm_plan.specs.FileText.{Reads, domain_in, expected_in, items_at, number_in, text_at};
 
 use crate::file_fault::{FileFault, Place};
 use toml::{Table, Value};
@@ -36,7 +36,7 @@ pub(crate) fn text_at<'a>(
     key: &'static str,
     place: Place,
 ) -> Result<Option<&'a str>, FileFault>
-    ensures { IfOk result (λ t. text_at key.now (table_view table.now) ≡ Some (option_map (λ s. s.now) t)) }
+    ensures { Reads result (λ t. option_map (λ s. s.now) t) (text_at key.now (table_view table.now)) }
 {
     match value_at(table, key) {
         None => Ok(None),
@@ -54,7 +54,7 @@ pub(crate) fn tables_at<'a>(
     key: &'static str,
     place: Place,
 ) -> Result<&'a [Value], FileFault>
-    ensures { IfOk result (λ s. items_at key.now (table_view table.now) ≡ Some (map view s.now)) }
+    ensures { Reads result (λ s. map view s.now) (items_at key.now (table_view table.now)) }
 {
     let Some(value) = value_at(table, key) else {
         return Ok(&[]);

@@ -1,8 +1,9 @@
 //! The members that a table of a plan file names.
 
-ghost use Rattle.std.specs.Prelude.{◌≡◌, IfOk, OnOk, Some};
+ghost use Rattle.std.specs.Prelude.{◌≡◌, ◌≢◌, IfErr, None, OnOk, Some};
 ghost use Rattle.toml.specs.View.{table_view, view};
-ghost use Rattle.ptpm_plan.specs.FileText.{Gathers, typed, typed_at, utc_in, wish_in, wished_of, wishes_in, wishes_of};
+ghost use Rattle.ptpm_plan.specs.declared.file_fault.FileFault.{FileFault};
+ghost use Rattle.ptpm_plan.specs.FileText.{Gathers, Reads, typed, typed_at, utc_in, wish_in, wished_of, wishes_in, wishes_of};
 
 use crate::change::PlannedId;
 use crate::file_fault::{FileFault, Place, TableFault};
@@ -20,7 +21,7 @@ pub(crate) fn read_wishes(
     kind: TableKind,
     place: Place,
 ) -> Result<Vec<Wish>, FileFault>
-    ensures { IfOk result (λ v. wishes_of kind (table_view table.now) ≡ Some v.items) }
+    ensures { Reads result (λ v. v.items) (wishes_of kind (table_view table.now)) }
 {
     if let Some(key) = other_key(table, kind) {
         return Err(FileFault::At(place, fault_of(alloc, key.as_str(), kind)?));
@@ -30,7 +31,7 @@ pub(crate) fn read_wishes(
 
 /// The same, whatever other keys the table has.
 fn read_named(alloc: Global, table: &Table, place: Place) -> Result<Vec<Wish>, FileFault>
-    ensures { IfOk result (λ v. wishes_in (table_view table.now) ≡ Some v.items) }
+    ensures { Reads result (λ v. v.items) (wishes_in (table_view table.now)) }
 {
     let mut wishes = Vec::new(alloc);
     for id in &PlannedId::ALL {
@@ -48,7 +49,8 @@ fn add_wish(
     place: Place,
     wishes: &mut Vec<Wish>,
 ) -> Result<(), FileFault>
-    ensures { OnOk result (Gathers (wish_in (table_view table.now) id) wishes.old.items wishes.new.items) }
+    ensures found { OnOk result (Gathers (wish_in (table_view table.now) id) wishes.old.items wishes.new.items) }
+    ensures refused { IfErr result (λ fault. fault ≢ FileFault.OutOfMemory → wish_in (table_view table.now) id ≡ Some None) }
 {
     if let Some(value) = value_at(table, id.name()) {
         let wished = read_wished(alloc, id, value, place)?;
@@ -86,7 +88,7 @@ fn read_wished(
     value: &Value,
     place: Place,
 ) -> Result<Wished, FileFault>
-    ensures { IfOk result (λ w. wished_of id (view value.now) ≡ Some w) }
+    ensures { Reads result (λ w. w) (wished_of id (view value.now)) }
 {
     match id {
         PlannedId::UtcProperties => match value.as_table() {
@@ -100,7 +102,7 @@ fn read_wished(
 /// What the members of UTC_PROPERTIES are to be.
 #[tactic(auto, unfolding(crate::specs::FileText::utc_in))]
 fn read_utc(alloc: Global, table: &Table, place: Place) -> Result<UtcWish, FileFault>
-    ensures { IfOk result (λ w. utc_in (table_view table.now) ≡ Some w) }
+    ensures { Reads result (λ w. w) (utc_in (table_view table.now)) }
 {
     if let Some(key) = other_key(table, TableKind::UtcProperties) {
         let name = Text::copy_of(alloc, key.as_str())?;
@@ -122,7 +124,7 @@ fn member_at(
     name: &str,
     place: Place,
 ) -> Result<Option<Text>, FileFault>
-    ensures { IfOk result (λ t. typed_at name.now (table_view table.now) ≡ Some t) }
+    ensures { Reads result (λ t. t) (typed_at name.now (table_view table.now)) }
 {
     match value_at(table, name) {
         Some(value) => Ok(Some(typed(alloc, PlannedId::UtcProperties, value, place)?)),
@@ -133,7 +135,7 @@ fn member_at(
 /// A value as a person types it: a number in decimal, `true` or `false`, or the text.
 #[tactic(auto, unfolding(crate::specs::FileText::typed))]
 fn typed(alloc: Global, id: PlannedId, value: &Value, place: Place) -> Result<Text, FileFault>
-    ensures { IfOk result (λ t. typed (view value.now) ≡ Some t) }
+    ensures { Reads result (λ t. t) (typed (view value.now)) }
 {
     let word = match value.as_bool() {
         Some(true) => Some("true"),
