@@ -69,7 +69,7 @@ pub data AreRead (octets : List ℕ) : ℕ → State → ℕ → List Planned �
 
 -- ---- why it is refused
 
--- records were read up to a place, where neither a record nor the end comes next
+-- records were read up to a place at which neither a record nor the end comes next
 pub record IsUnreadable (octets : List ℕ) : Type 0 where
   pub place : ℕ
   pub crc : ℕ
