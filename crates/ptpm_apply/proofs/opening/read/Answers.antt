@@ -54,6 +54,10 @@ records-preserved c =
 pub returns-clause-few : goal.returns-clause-few
 returns-clause-few c =
     let known = rw c.in-Ok-None.field-0-is at (c.in-Ok-None.ensures {u = tt}) in
-    omega (arith, known.few, ap (λ (s : State). length s.steps) known.whole.1,
-        as_many c.args.octets.now c.records.whole c.records.journal.crc (state_of c.records.journal) c.records.steps.items
-        c.records.numbers.items c.records.invariant.1)
+    omega (
+      arith,
+      known.few,
+      ap (λ (s : State). length s.steps) known.whole.1,
+      as_many c.args.octets.now c.records.whole c.records.journal.crc (state_of c.records.journal) c.records.steps.items
+          c.records.numbers.items c.records.invariant.1,
+    )
