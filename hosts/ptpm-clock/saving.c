@@ -112,7 +112,7 @@ static bool read_state(size_t *size) {
 
 static const char *reason(enum ptpm_restored refusal) {
     switch (refusal) {
-    case PTPM_NOT_AN_IMAGE: return "it has no state of a clock";
+    case PTPM_NOT_AN_IMAGE: return "it has no state of a clock: ptpm-clock(8), \"Saved state\", says how to go on";
     case PTPM_DAMAGED: return "octets of the state were lost or changed: ptpm-clock(8), \"Saved state\", says how to go on";
     case PTPM_OTHER_VERSION: return "it has a state in the form of another version of this program";
     case PTPM_OTHER_KIND: return "it has the session of a manager, and not the state of a clock";
