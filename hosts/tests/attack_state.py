@@ -157,7 +157,8 @@ def files_in_the_way():
     status, _ = begins("-s", inner, *UNIX)
     check("a file that a killed save left is not", status == 0 and sorted(os.listdir(folder)) == ["state", "state.lock"])
     write_octets(inner, b"7\n")
-    check("what is no state is refused", is_refused(1, f"NOT_AN_IMAGE: {inner}", "-s", inner, *UNIX) and octets(inner) == b"7\n")
+    why = f'NOT_AN_IMAGE: {inner}: it has no state of a clock: ptpm-clock(8), "Saved state", says how to go on'
+    check("what is no state is refused", is_refused(1, why, "-s", inner, *UNIX) and octets(inner) == b"7\n")
 
 
 def places_without_rights():
