@@ -182,6 +182,10 @@ def places_without_rights():
         status, said = begins("-s", made, "--user", "nobody", "-m", MANAGER + "/1", "-u", os.path.join(work, "nobodys"), ME)
         check(f"a folder that is missing is made for the user that it becomes, at the {turn} start: {said}", status == 0)
     check("and is his", os.stat(os.path.dirname(made)).st_uid == os.stat(made).st_uid == NOBODY)
+    for name in (os.path.dirname(made), made, made + ".lock"):
+        os.chown(name, 1, 1)
+    check("one of another user is refused", is_refused(2, f"{made}.new: Permission denied", "-s", made, "--user", "nobody", *own[2:]))
+    check("and its lock stays that user's", os.stat(made + ".lock").st_uid == 1)
     os.mkdir(folder)
     run("mount", "-t", "tmpfs", "-o", "ro", "tmpfs", folder)
     check("a disk that can't be written", is_refused(2, f"{inner}.lock: Read-only file system", *own) and os.listdir(folder) == [])
