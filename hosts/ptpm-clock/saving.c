@@ -73,12 +73,14 @@ _Noreturn static void refuse_second(long owner) {
     end_with(NOT_OPENED);
 }
 
-/* What root has made belongs to the user that the program becomes. A lock of another user stays that user's, who may go on with the file. */
+/* What root has made belongs to the user that the program becomes; in the folder of another user to that user, who may go on with the file. */
 static void hand_over(int made) {
     const struct privileges *privileges = &options->privileges;
-    struct stat found;
-    if (privileges->user_name == NULL || fstat(made, &found) || found.st_uid != geteuid()) return;
-    if (fchown(made, privileges->user, privileges->group)) errno = 0;       /* it saves to see if it may */
+    struct stat found, folder;
+    if (privileges->user_name == NULL || fstat(made, &found) || fstat(file.folder, &folder) || found.st_uid != geteuid()) return;
+    bool is_of_other = folder.st_uid != geteuid();
+    uid_t user = is_of_other ? folder.st_uid : privileges->user;
+    if (fchown(made, user, is_of_other ? folder.st_gid : privileges->group)) errno = 0;     /* it saves to see if it may */
 }
 
 /* Two clocks that save to one file would each undo what the other said. */
