@@ -73,7 +73,7 @@ _Noreturn static void refuse_second(long owner) {
     end_with(NOT_OPENED);
 }
 
-/* What root has made belongs to the user that the program becomes; in the folder of another user to that user, who may go on with the file. */
+/* What root has made belongs to the user that the program becomes. In another user's folder it is that user's, who may go on with the file. */
 static void hand_over(int made) {
     const struct privileges *privileges = &options->privileges;
     struct stat found, folder;
