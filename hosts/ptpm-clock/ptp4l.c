@@ -19,7 +19,7 @@ bool has_ptp4l;
 
 static unsigned life;                   /* the one that the verdict is about */
 static enum found verdict;
-static bool is_told_closed, is_told_silent, is_told_missing;
+static bool is_told_closed, is_told_silent, is_told_missing, is_told_other;
 
 /* Any clock has to answer, so that one with another identity shows itself. */
 static bool ask_any(uint16_t id, uint16_t *number) {
@@ -95,7 +95,9 @@ static void tell(bool *is_told, bool is_so, const char *what, const char *why) {
     *is_told = is_so;
 }
 
+/* One that is not this clock is asked nothing more. So it is seen otherwise that it has ended, and another may be there. */
 enum found find_ptp4l(void) {
+    if (is_told_other) leave_ended_ptp4l();
     bool is_connected = connect_ptp4l(), is_closed = !is_connected && is_ptp4l_closed();
     tell(&is_told_closed, is_closed, strerror(errno), ": --unix-group names the group of this socket");
     if (is_connected && is_told_missing) say("%s: a ptp4l is there now", options->ptp4l);
@@ -108,6 +110,8 @@ enum found find_ptp4l(void) {
     if (verdict == IS_OURS) verdict = judge_ports();
     if (verdict == IS_OURS) compare_transports();
     tell(&is_told_silent, verdict == IS_SILENT, "the ptp4l does not answer: ", "is -d its domainNumber?");
+    if (verdict == IS_OURS && is_told_other) say("%s: the ptp4l of this clock is there now", options->ptp4l);
+    is_told_other = verdict == IS_ANOTHER_CLOCK || verdict == HAS_OTHER_PORTS || (is_told_other && verdict == IS_SILENT);
     return verdict;
 }
 

@@ -131,10 +131,14 @@ static void disconnect(void) {
     connected = -1;
 }
 
+void leave_ended_ptp4l(void) {
+    if (is_ptp4l_gone()) disconnect();
+}
+
 /* It may have answered by now, or ended without an answer. */
 static void hear_silent(void) {
     take_answers();
-    if (is_silent && is_ptp4l_gone()) disconnect();
+    if (is_silent) leave_ended_ptp4l();
 }
 
 /* Its hops are 0, since a ptp4l forwards what comes in on its Unix socket. Its source is not the clock, which drops its own messages. */

@@ -50,6 +50,9 @@ unsigned ptp4l_life(void);
 /* Whether the life that was asked last is over. */
 bool is_ptp4l_gone(void);
 
+/* Lets go of it if it is. */
+void leave_ended_ptp4l(void);
+
 /* Asks the clock of this identity once. Its sequenceId is in *number. Whether the ptp4l has the question in its socket now. It has no GET
    there while an earlier one is not answered. */
 bool ask_ptp4l(const uint8_t clock[8], uint8_t action, uint16_t id, uint16_t port, const uint8_t *field, size_t size, uint16_t *number);

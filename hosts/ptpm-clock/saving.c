@@ -73,10 +73,14 @@ _Noreturn static void refuse_second(long owner) {
     end_with(NOT_OPENED);
 }
 
-/* What root has made belongs to the user that the program becomes. */
+/* What root has made belongs to the user that the program becomes. In another user's folder it is that user's, who may go on with the file. */
 static void hand_over(int made) {
     const struct privileges *privileges = &options->privileges;
-    if (privileges->user_name != NULL && fchown(made, privileges->user, privileges->group)) errno = 0;     /* it saves to see if it may */
+    struct stat found, folder;
+    if (privileges->user_name == NULL || fstat(made, &found) || fstat(file.folder, &folder) || found.st_uid != geteuid()) return;
+    bool is_of_other = folder.st_uid != geteuid();
+    uid_t user = is_of_other ? folder.st_uid : privileges->user;
+    if (fchown(made, user, is_of_other ? folder.st_gid : privileges->group)) errno = 0;     /* it saves to see if it may */
 }
 
 /* Two clocks that save to one file would each undo what the other said. */
@@ -112,7 +116,7 @@ static bool read_state(size_t *size) {
 
 static const char *reason(enum ptpm_restored refusal) {
     switch (refusal) {
-    case PTPM_NOT_AN_IMAGE: return "it has no state of a clock";
+    case PTPM_NOT_AN_IMAGE: return "it has no state of a clock: ptpm-clock(8), \"Saved state\", says how to go on";
     case PTPM_DAMAGED: return "octets of the state were lost or changed: ptpm-clock(8), \"Saved state\", says how to go on";
     case PTPM_OTHER_VERSION: return "it has a state in the form of another version of this program";
     case PTPM_OTHER_KIND: return "it has the session of a manager, and not the state of a clock";

@@ -256,6 +256,12 @@ void tell_unfit_interfaces(void) {
     }
 }
 
+void say_not_sent(void) {
+    int why = errno;
+    complain("nothing was sent: %s: %s", transport_name(), strerror(why));
+    if (why == EADDRNOTAVAIL) tell_unfit_interfaces();
+}
+
 /* A socket beside the one at a path, from which that one is asked. The clock answers to its path, and may run in another folder. So that
    begins at the root, if there is room. */
 static int open_beside(const char *path) {

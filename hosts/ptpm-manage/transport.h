@@ -49,6 +49,9 @@ enum sending { OUT, NO_ROOM, NO_TRANSPORT, NONE_LEFT };
 /* Passes a message to the socket, and does not wait for room there. If it answers NO_TRANSPORT, errno says why. */
 enum sending send_message(const uint8_t *octets, size_t size);
 
+/* Says by errno why nothing was sent. */
+void say_not_sent(void);
+
 /* At which interface the latest message went out: the first, the second and so on, as they were named; NULL after the last. On a
    Unix socket there is none. */
 const char *sent_at(size_t place);

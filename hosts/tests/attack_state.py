@@ -157,7 +157,8 @@ def files_in_the_way():
     status, _ = begins("-s", inner, *UNIX)
     check("a file that a killed save left is not", status == 0 and sorted(os.listdir(folder)) == ["state", "state.lock"])
     write_octets(inner, b"7\n")
-    check("what is no state is refused", is_refused(1, f"NOT_AN_IMAGE: {inner}", "-s", inner, *UNIX) and octets(inner) == b"7\n")
+    why = f'NOT_AN_IMAGE: {inner}: it has no state of a clock: ptpm-clock(8), "Saved state", says how to go on'
+    check("what is no state is refused", is_refused(1, why, "-s", inner, *UNIX) and octets(inner) == b"7\n")
 
 
 def places_without_rights():
@@ -181,6 +182,12 @@ def places_without_rights():
         status, said = begins("-s", made, "--user", "nobody", "-m", MANAGER + "/1", "-u", os.path.join(work, "nobodys"), ME)
         check(f"a folder that is missing is made for the user that it becomes, at the {turn} start: {said}", status == 0)
     check("and is his", os.stat(os.path.dirname(made)).st_uid == os.stat(made).st_uid == NOBODY)
+    for name in (os.path.dirname(made), made, made + ".lock"):
+        os.chown(name, 1, 1)
+    for what in ["stays", "is"]:
+        check("one of another user is refused", is_refused(2, f"{made}.new: Permission denied", "-s", made, "--user", "nobody", *own[2:]))
+        check(f"and its lock {what} that user's", os.stat(made + ".lock").st_uid == 1)
+        os.unlink(made + ".lock")
     os.mkdir(folder)
     run("mount", "-t", "tmpfs", "-o", "ro", "tmpfs", folder)
     check("a disk that can't be written", is_refused(2, f"{inner}.lock: Read-only file system", *own) and os.listdir(folder) == [])

@@ -72,8 +72,11 @@ class Session(Requests):
         try:
             left, there = Asker(settings, octets).earlier(settings.domain)
         except Error as error:
-            if error.number == header.PTPM_DAMAGED and self._file is not None:
+            if self._file is None:
+                raise
+            if error.number == header.PTPM_DAMAGED:
                 raise DamagedFileError(self._file.path) from None
+            error.args = (f"{error.name}: {self._file.path}",)
             raise
         self._saved = self._in_file = octets
         self._go_on_from(octets)

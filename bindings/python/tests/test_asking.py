@@ -391,9 +391,9 @@ class Asking(Folder):
         for place, octet in enumerate(whole):
             for bit in range(8):
                 changed = whole[:place] + bytes([octet ^ 1 << bit]) + whole[place + 1 :]
-                self.assertEqual(self.refusal(path, changed), "NOT_AN_IMAGE" if place < 4 else why)
+                self.assertEqual(self.refusal(path, changed), f"NOT_AN_IMAGE: {path}" if place < 4 else why)
         for size in range(len(whole)):
-            self.assertEqual(self.refusal(path, whole[:size]), "NOT_AN_IMAGE" if size < 12 else why)
+            self.assertEqual(self.refusal(path, whole[:size]), f"NOT_AN_IMAGE: {path}" if size < 12 else why)
         for octets in (whole + b"\0", whole + whole, whole + whole[-16:]):
             self.assertEqual(self.refusal(path, octets), why)
 

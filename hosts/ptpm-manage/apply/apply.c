@@ -11,6 +11,7 @@
 #include "transport.h"
 #include <errno.h>
 #include <string.h>
+#include <unistd.h>
 
 /* The program's status after this end. */
 static int status_of(enum ending ending) {
@@ -327,7 +328,9 @@ static int show_applies(const struct task *task) {
     struct journal journal;
     if (!find_journals()) refuse_storage("neither XDG_STATE_HOME nor HOME names a folder with applies");
     if (task->plan.word == NULL) {
-        print_applies(task->is_json);
+        bool is_closed = access(journals_folder(), R_OK | X_OK) && errno != ENOENT;
+        if (is_closed) refuse_storage("%s: %s", journals_folder(), strerror(errno));
+        if (!print_applies(task->is_json)) complain("no apply has a journal in %s", journals_folder());
         return ANSWERED;
     }
     find_journal(&journal, task->plan.word);

@@ -303,12 +303,13 @@ static void list_one(struct journal *journal, enum found_journal found) {
     else print_listed(journal, file, is_read, end);
 }
 
-void print_applies(bool is_json) {
+bool print_applies(bool is_json) {
     is_list_json = is_json;
     is_first_listed = true;
     if (is_json) print_members("{\"applies\":[", strlen("{\"applies\":["));
     read_journals(list_one);
     if (is_json) putchar(']');
+    return !is_first_listed;
 }
 
 void print_apply(const struct journal *journal, const struct journal *back_of, bool is_silent, bool is_json) {

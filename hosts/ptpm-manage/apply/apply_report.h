@@ -28,8 +28,8 @@ void print_dry_run(const struct journal *back, bool is_json);
 /* Says on standard error what became of a step, if that is not a terminal. */
 void say_step(const struct journal *journal, long place);
 
-/* Prints each apply whose journal is there: when it began, its plan, how it ended, and its name. */
-void print_applies(bool is_json);
+/* Prints each apply whose journal is there: when it began, its plan, how it ended, and its name. Whether there is one. */
+bool print_applies(bool is_json);
 
 /* Writes whose member a step sets: `aabbccfffeddee01/1 LOG_SYNC_INTERVAL`. */
 void write_member_name(FILE *to, const struct step *step);

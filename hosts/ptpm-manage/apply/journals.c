@@ -15,6 +15,7 @@
 
 static const char ending[] = ".journal";
 static char folder[PATH_MAX - JOURNAL_NAME - 16];
+static char own[PATH_MAX];              /* the path of this run's journal; empty without one */
 
 _Noreturn static void refuse_folder(const char *path) { refuse_storage("nothing was sent: %s: %s", path, strerror(errno)); }
 
@@ -118,6 +119,7 @@ bool find_open_journal(struct journal *journal) {
         if (left == journal) *journal = one;
     }
     closedir(names);
+    memcpy(own, journal->path, sizeof own);
     return *journal->name != '\0';
 }
 
@@ -179,14 +181,18 @@ bool is_apply_open(char name[JOURNAL_NAME]) {
     return is_any_open;
 }
 
+/* The earliest by their names go. This run's journal is the latest, even if the time of this machine was set back. */
 void tidy_journals(size_t kept) {
     char path[PATH_MAX];
     struct dirent **names;
     count_journals();
-    int count = is_any_open || ended <= kept ? 0 : scandir(folder, &names, is_listed, alphasort);
+    size_t left = is_any_open || ended <= kept ? 0 : ended - kept;
+    int count = left == 0 ? 0 : scandir(folder, &names, is_listed, alphasort);
     for (int i = 0; i < count; i++) {
         write_path(path, names[i]->d_name);
-        if ((size_t)i + kept < ended && unlink(path)) complain("%s: %s", path, strerror(errno));
+        bool goes = left > 0 && (kept == 0 || strcmp(path, own) != 0);
+        if (goes && unlink(path)) complain("%s: %s", path, strerror(errno));
+        left -= goes;
         free(names[i]);
     }
     if (count > 0) free(names);
@@ -199,4 +205,5 @@ void name_journal(struct journal *journal, const char *word) {
     strftime(text, sizeof text, "%Y%m%d-%H%M%S", gmtime_r(&now, &parts));
     snprintf(journal->name, sizeof journal->name, "%s-%s-%04x", text, word, draw_number());
     snprintf(journal->path, sizeof journal->path, "%s/%s%s", folder, journal->name, ending);
+    memcpy(own, journal->path, sizeof own);
 }

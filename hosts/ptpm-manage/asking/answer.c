@@ -226,9 +226,11 @@ void say_of_ptp4l(uint16_t error) {
 
 /* Without a file the port of the manager is another one in each run. */
 void say_right(const struct task *task, uint16_t error) {
-    char manager[IDENTITY_TEXT + 16] = "a request without --manager";
+    static const uint8_t of_socket[8];
+    char manager[IDENTITY_TEXT + 64] = "a request without --manager";
     if (error != NOT_SUPPORTED) return;
-    if (task->is_kept) snprintf(manager, sizeof manager, "manager %s/%u", identity_text(task->settings.clock), task->settings.port);
+    const char *advice = memcmp(task->settings.clock, of_socket, 8) == 0 ? "; --manager names another" : "";
+    if (task->is_kept) snprintf(manager, sizeof manager, "manager %s/%u%s", identity_text(task->settings.clock), task->settings.port, advice);
     complain("the clock lacks that id, or takes no change of it from %s", manager);
     say_of_ptp4l(error);
 }

@@ -9,7 +9,6 @@
 #include "transport.h"
 #include "unanswered.h"
 #include "words.h"
-#include <errno.h>
 #include <stdbool.h>
 #include <stdio.h>
 #include <string.h>
@@ -41,7 +40,7 @@ static int not_asked(uint32_t refusal) {
 static bool count_sending(enum sending sending, long *sent) {
     *sent += sending == OUT;
     if (sending != NO_TRANSPORT || *sent > 0) return true;
-    complain("nothing was sent: %s: %s", transport_name(), strerror(errno));
+    say_not_sent();
     return false;
 }
 

@@ -10,7 +10,6 @@
 #include "unanswered.h"
 #include "untaken.h"
 #include "words.h"
-#include <errno.h>
 #include <stdbool.h>
 #include <stdlib.h>
 #include <string.h>
@@ -621,7 +620,7 @@ static int end_of_collection(const struct task *task, const struct domains *doma
     clear_progress();
     tell_sureness();
     if (let_go > 0) complain("%zu clocks gave no new answer when they were asked one by one: they are asked no more", let_go);
-    if (has_no_transport) complain("nothing was sent: %s: %s", transport_name(), strerror(errno));
+    if (has_no_transport) say_not_sent();
     else if (stopped && task->site.watch == 0) complain("ended by a signal: more may answer");
     else if (sent == 0 && !stopped) complain("nothing was sent: no message is taken at %s", transport_name());
     if (has_no_transport || (sent == 0 && !stopped)) return NOT_ASKED;

@@ -40,8 +40,10 @@ static uint64_t mix(uint64_t word) {
 
 /* Whether a place with this number has the clock. */
 static bool is_of(uint32_t number, struct domain domain, const uint8_t identity[8]) {
-    const struct seen_clock *seen = &clocks[number - 1];
-    if (number <= MOST_CLOCKS) return is_same_domain(seen->domain, domain) && memcmp(seen->identity, identity, 8) == 0;
+    if (number <= MOST_CLOCKS) {
+        const struct seen_clock *seen = &clocks[number - 1];
+        return is_same_domain(seen->domain, domain) && memcmp(seen->identity, identity, 8) == 0;
+    }
     const struct expected_clock *one = &expected[number - MOST_CLOCKS - 1];
     return is_same_domain(one->domain, domain) && memcmp(one->identity, identity, 8) == 0;
 }

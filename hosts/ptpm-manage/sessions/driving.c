@@ -5,8 +5,6 @@
 #include "names.h"
 #include "notices.h"
 #include "stopping.h"
-#include <errno.h>
-#include <string.h>
 
 static uint64_t time_of(struct driver *driver) { return (uint64_t)(driver->now = milliseconds()); }
 
@@ -60,7 +58,7 @@ static enum sending send_first(const struct driver *driver, const uint8_t *messa
 
 /* Nothing left so far, and nothing is to be sent. */
 static void turn_back(struct driver *driver, enum sending sending) {
-    if (sending == NO_TRANSPORT) complain("nothing was sent: %s: %s", transport_name(), strerror(errno));
+    if (sending == NO_TRANSPORT) say_not_sent();
     driver->is_way_said = sending == NO_TRANSPORT;
     driver->is_unsent = true;
     ptpm_asker_unsent(driver->asker, &driver->handed);
