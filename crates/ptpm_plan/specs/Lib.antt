@@ -12,7 +12,6 @@ pub mod Rows
 pub mod Naming
 pub mod FileText
 pub mod Asking
-pub mod Asks
 pub mod Planned
 pub mod Digest
 pub mod Outcome
