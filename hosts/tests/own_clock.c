@@ -1,5 +1,5 @@
-/* own_clock.so, for hosts/tests/servo: LD_PRELOAD of a ptp4l with software timestamps. It has an oscillator of its own, 20 ppm fast, which it
-   steers and steps in place of the host's clock. Each timestamp of a message is what that oscillator showed at that moment. */
+/* own_clock.so, for hosts/tests/servo: LD_PRELOAD of a ptp4l with software timestamps. The ptp4l steers and steps a clock of its own, which is
+   20 ppm fast, and never that of the machine. Each timestamp of a message is what that clock showed at that moment. */
 #define _GNU_SOURCE
 #include <stdint.h>
 #include <string.h>

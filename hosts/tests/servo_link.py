@@ -55,9 +55,12 @@ class Link:
 
     def counts(self):
         """What the master (0) and the servo's ptp4l (1) have sent and heard of each kind of message."""
-        asking = [subprocess.Popen(self.within(end, "pmc", "-u", "-b", "0", "-i", self.path(f"pmc{end}"), "-s", self.path(f"socket{end}"),
-                                               "GET PORT_STATS_NP"), stdout=subprocess.PIPE, text=True) for end in (0, 1)]
-        return {f"{end} {word}": int(number) for end in (0, 1) for word, number in re.findall(r"([rt]x_\w+) +(\d+)", asking[end].communicate()[0])}
+        found = {}
+        while len([word for word in found if word.endswith("tx_Sync")]) < 2:
+            asking = [subprocess.Popen(self.within(end, "pmc", "-u", "-b", "0", "-i", self.path(f"pmc{end}"), "-s", self.path(f"socket{end}"),
+                                                   "GET PORT_STATS_NP"), stdout=subprocess.PIPE, text=True) for end in (0, 1)]
+            found = {f"{end} {word}": int(number) for end in (0, 1) for word, number in re.findall(r"([rt]x_\w+) +(\d+)", asking[end].communicate()[0])}
+        return found
 
     def start_agent(self):
         run(*self.within(1, "nft", "-f", "-"), input=run(CLOCK, "--ptp4l-rules").stdout)
