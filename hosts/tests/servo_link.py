@@ -17,6 +17,11 @@ logMinDelayReqInterval -3
 """
 
 
+def stop(process):
+    process.terminate()
+    process.wait(10)
+
+
 class Link:
     """Number 1 or 2. What runs there writes into the folder `work`; own_clock.so is there. `lines` are more for the configuration of each ptp4l."""
 
@@ -68,10 +73,11 @@ class Link:
                    "-m", "020000fffe000010/2", self.identity, "e0")
 
     def end_agent(self):
-        self.end(self.running.pop())
+        stop(self.running.pop())
         run(*self.within(1, "nft", "flush", "ruleset"))
 
-    def end(self, *processes):
-        for process in processes or self.running:
-            process.terminate()
-            process.wait(10)
+    def end(self):
+        for process in self.running:
+            stop(process)
+        for name in self.names:
+            run("ip", "netns", "del", name)

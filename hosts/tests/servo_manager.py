@@ -26,8 +26,8 @@ def socket_of(name, address):
 
 
 class Manager(threading.Thread):
-    """55 times a second it reads as manager 2, or sets PRIORITY2 as manager 1; a SET without an answer is sent again after 100 ms. Of requests and
-    of answers 20% are lost, and 10% of the requests are sent twice."""
+    """55 times a second it reads as manager 2, or sets PRIORITY2 as manager 1; a SET without an answer is sent again after 100 ms. It drops 20% of
+    its requests and of the answers, and sends 10% of the requests twice."""
 
     def __init__(self, name, address, identity):
         super().__init__(daemon=True)
