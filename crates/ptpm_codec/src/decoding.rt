@@ -1,18 +1,18 @@
 //! Octets to messages: what is judged, in its order.
 
-ghost use Rattle.std.specs.Prelude.{◌≡◌, ◌≢◌, ◌≤◌, true, Ok, Err, Some, None, IfErr, IfOk, IfSome, MatchResult, OnOk, OnSome, length};
+ghost use Rattle.std.specs.Prelude.{◌≡◌, ◌≢◌, ◌≤◌, true, Ok, Err, Some, None, IfErr, IfOk, IfSome, MatchResult, OnOk, length};
 ghost use Rattle.ptpm_codec.specs.declared.error.DecodeError.{DecodeError};
 ghost use Rattle.ptpm_codec.specs.declared.message.Message.{Message};
 ghost use Rattle.ptpm_codec.specs.Layout as layout;
 ghost use Rattle.ptpm_codec.specs.Layout.{message_length, message_octets};
 ghost use Rattle.ptpm_codec.specs.Message.{IsValid};
-ghost use Rattle.ptpm_codec.specs.Reading.{IsOkUnlessMemory, IsWellFormed, reading};
+ghost use Rattle.ptpm_codec.specs.Reading.{IsOkUnlessMemory, IsPlain, IsWellFormed, reading};
 ghost use Rattle.ptpm_codec.specs.Refusal.{frame_refusal, is_text, refusal, text_refusal};
 ghost use Rattle.ptpm_codec.specs.Spelling.{Spells};
 
 use crate::encoding::MESSAGE_OCTETS;
 use crate::error::DecodeError;
-use crate::message::Message;
+use crate::message::{Action, Message};
 use crate::places::u16_at;
 use crate::ptp_text::is_ptp_text;
 use crate::tlv::{TlvKind, management_action, tlv};
@@ -86,35 +86,27 @@ pub fn view(datagram: &[u8]) -> Result<View<'_>, DecodeError>
     ensures well_formed { OnOk result (IsWellFormed datagram.now) }
     ensures refused { IfErr result (λ e. refusal datagram.now ≡ Some e) }
 {
-    match view_management(datagram) {
-        Some(view) => Ok(view),
+    match plain_action(datagram) {
+        Some(action) => Ok(View::plain(datagram, action)),
         None => view_any(datagram),
     }
 }
 
-/// A well-formed message with a MANAGEMENT TLV, which every message except an error status has; nothing for any other
-/// datagram. It does not say which refusal holds, so that most datagrams are read by the fewest tests.
+/// The action of a well-formed message with a MANAGEMENT TLV, which every message except an error status has; nothing for any other
+/// datagram. It does not say which refusal holds, so that most datagrams are read by the fewest tests. `View::plain` is then the message.
 #[inline(always)]
-fn view_management(datagram: &[u8]) -> Option<View<'_>>
-    ensures exact { IfSome result (λ v. reading datagram.now ≡ Ok v) }
-    ensures spelled { IfSome result (λ v. Spells v (message_octets datagram.now)) }
-    ensures valid { IfSome result (λ v. IsValid v) }
-    ensures well_formed { OnSome result (IsWellFormed datagram.now) }
+pub fn plain_action(datagram: &[u8]) -> Option<Action>
+    ensures { IfSome result (λ a. IsPlain a datagram.now) }
 {
     let Ok(message) = message_octets(datagram) else {
         return None;
     };
-    let action = management_action(
+    management_action(
         message[46] % 16,
         u16_at(message, 48),
         u16_at(message, 50),
         message.len(),
-    )?;
-    Some(View {
-        message,
-        action,
-        tlv: TlvKind::Management,
-    })
+    )
 }
 
 /// What `view` answers, with the refusal that holds.

@@ -38,6 +38,27 @@ impl<'a> Model for View<'a> {
 }
 
 impl<'a> View<'a> {
+    ghost use Rattle.std.specs.Prelude.{Ok};
+    ghost use Rattle.ptpm_codec.specs.Layout.{message_octets};
+    ghost use Rattle.ptpm_codec.specs.Message.{IsValid};
+    ghost use Rattle.ptpm_codec.specs.Reading.{IsPlain, reading};
+    ghost use Rattle.ptpm_codec.specs.Spelling.{Spells};
+
+    /// What a datagram reads as, of which `plain_action` gave this action. Copies nothing, and tests nothing again.
+    #[inline(always)]
+    pub fn plain(datagram: &'a [u8], action: Action) -> View<'a>
+        requires { IsPlain action datagram.now }
+        ensures exact { reading datagram.now ≡ Ok result }
+        ensures spelled { Spells result (message_octets datagram.now) }
+        ensures valid { IsValid result }
+    {
+        View {
+            message: &datagram[..u16_at(datagram, 2) as usize],
+            action,
+            tlv: TlvKind::Management,
+        }
+    }
+
     /// sdoId, of 12 bits.
     pub fn sdo(&self) -> u16
         ensures { result ≡ self.now.sdo }
