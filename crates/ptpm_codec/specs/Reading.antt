@@ -73,9 +73,3 @@ pub record IsViewed (m : List ℕ) (action : Action) (kind : TlvKind) : Type 0 w
   pub kind_is : kind ≡ tlv_kind_at m
   pub status_long : kind ≡ ErrorStatus → 60 ≤ length m
   pub text_fits : kind ≡ ErrorStatus → is_text (layout.display_data m) ≡ true
-
--- a well-formed message with this action and a MANAGEMENT TLV
-pub record IsPlain (action : Action) (d : List ℕ) : Type 0 where
-  pub well_formed : IsWellFormed d
-  pub action_is : action ≡ action_at (message_octets d)
-  pub kind_is : Management ≡ tlv_kind_at (message_octets d)

@@ -1,12 +1,12 @@
 //! Octets to messages: what is judged, in its order.
 
-ghost use Rattle.std.specs.Prelude.{◌≡◌, ◌≢◌, ◌≤◌, true, Ok, Err, Some, None, IfErr, IfOk, IfSome, MatchResult, OnOk, length};
+ghost use Rattle.std.specs.Prelude.{◌≡◌, ◌≢◌, ◌≤◌, true, Ok, Err, Some, None, IfErr, IfOk, IfSome, MatchResult, OnOk, OnSome, length};
 ghost use Rattle.ptpm_codec.specs.declared.error.DecodeError.{DecodeError};
 ghost use Rattle.ptpm_codec.specs.declared.message.Message.{Message};
 ghost use Rattle.ptpm_codec.specs.Layout as layout;
 ghost use Rattle.ptpm_codec.specs.Layout.{message_length, message_octets};
 ghost use Rattle.ptpm_codec.specs.Message.{IsValid};
-ghost use Rattle.ptpm_codec.specs.Reading.{IsOkUnlessMemory, IsPlain, IsWellFormed, reading};
+ghost use Rattle.ptpm_codec.specs.Reading.{IsOkUnlessMemory, IsViewed, IsWellFormed, reading};
 ghost use Rattle.ptpm_codec.specs.Refusal.{frame_refusal, is_text, refusal, text_refusal};
 ghost use Rattle.ptpm_codec.specs.Spelling.{Spells};
 
@@ -76,6 +76,7 @@ fn judge_text(message: &[u8], tlv: TlvKind) -> Result<(), DecodeError>
 
 /// Reads a datagram in place: the message value that its first messageLength octets spell, or the first refusal that
 /// holds. Octets past messageLength are ignored (this project's profile). Takes no memory and copies nothing.
+#[inline(always)]
 pub fn view(datagram: &[u8]) -> Result<View<'_>, DecodeError>
     ensures exact { result ≡ reading datagram.now }
 
@@ -86,17 +87,20 @@ pub fn view(datagram: &[u8]) -> Result<View<'_>, DecodeError>
     ensures well_formed { OnOk result (IsWellFormed datagram.now) }
     ensures refused { IfErr result (λ e. refusal datagram.now ≡ Some e) }
 {
-    match plain_action(datagram) {
-        Some(action) => Ok(View::plain(datagram, action)),
-        None => view_any(datagram),
+    if let Some(action) = plain_action(datagram) {
+        return Ok(View::of(datagram, action, TlvKind::Management));
     }
+    let (action, tlv) = any_action(datagram)?;
+    Ok(View::of(datagram, action, tlv))
 }
 
 /// The action of a well-formed message with a MANAGEMENT TLV, which every message except an error status has; nothing for any other
-/// datagram. It does not say which refusal holds, so that most datagrams are read by the fewest tests. `View::plain` is then the message.
+/// datagram. It does not say which refusal holds, so that most datagrams are read by the fewest tests.
 #[inline(always)]
-pub fn plain_action(datagram: &[u8]) -> Option<Action>
-    ensures { IfSome result (λ a. IsPlain a datagram.now) }
+fn plain_action(datagram: &[u8]) -> Option<Action>
+    ensures viewed { IfSome result
+        (λ action. IsViewed (message_octets datagram.now) action TlvKind.Management) }
+    ensures well_formed { OnSome result (IsWellFormed datagram.now) }
 {
     let Ok(message) = message_octets(datagram) else {
         return None;
@@ -109,13 +113,12 @@ pub fn plain_action(datagram: &[u8]) -> Option<Action>
     )
 }
 
-/// What `view` answers, with the refusal that holds.
+/// The action of a well-formed message and the kind of its TLV, or the refusal that holds. It is never inlined, and its answer is small.
+/// So a `View` is made once, in registers.
 #[cold]
 #[inline(never)]
-fn view_any(datagram: &[u8]) -> Result<View<'_>, DecodeError>
-    ensures exact { result ≡ reading datagram.now }
-    ensures spelled { IfOk result (λ v. Spells v (message_octets datagram.now)) }
-    ensures valid { IfOk result (λ v. IsValid v) }
+fn any_action(datagram: &[u8]) -> Result<(Action, TlvKind), DecodeError>
+    ensures viewed { IfOk result (λ read. IsViewed (message_octets datagram.now) read.0 read.1) }
     ensures well_formed { OnOk result (IsWellFormed datagram.now) }
     ensures refused { IfErr result (λ e. refusal datagram.now ≡ Some e) }
 {
@@ -127,11 +130,7 @@ fn view_any(datagram: &[u8]) -> Result<View<'_>, DecodeError>
         message.len(),
     )?;
     judge_text(message, tlv)?;
-    Ok(View {
-        message,
-        action,
-        tlv,
-    })
+    Ok((action, tlv))
 }
 
 /// The message value that a datagram's first messageLength octets spell, with octets of its own, or the first refusal

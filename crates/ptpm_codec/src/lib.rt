@@ -18,7 +18,7 @@ mod tlv;
 mod viewing;
 
 pub use buffers::{copy_message, overwrite, overwrite_message, put, put_message, put_u16};
-pub use decoding::{decode, plain_action, view};
+pub use decoding::{decode, view};
 pub use draft::{DATA_FIELD_OCTETS, Draft, DraftBody, is_data_field};
 pub use encoding::{Buffer, MESSAGE_OCTETS, encode, encode_behind};
 pub use envelope::{Envelope, HEAD_OCTETS, REFUSAL_OCTETS};
