@@ -63,14 +63,13 @@ impl<T: ReplyTable + Drop> Agent<T> {
     }
 }
 
-/// Whether a message of the clock's domain, from another clock, is passed on: with a hop left, and not for exactly this clock.
+/// Whether a message of the clock's domain, from another clock, is passed on: it has a hop left, is not for exactly this clock, and
+/// came in at a port in a forwarding state.
 fn goes_on(me: &ClockIdentity, sets: &DataSets, ingress: u16, message: &View<'_>) -> bool
     ensures { result ≡ (not (same_clock message.now.target.clock me.now)
         && (nat_lt 0 message.now.hops && may_forward ingress sets.now)) }
 {
-    message.target().clock != *me
-        && message.hops() > 0
-        && sets.may_forward(ingress)
+    message.target().clock != *me && message.hops() > 0 && sets.may_forward(ingress)
 }
 
 /// Sends a copy at each egress port. It is never inlined, so that its loop keeps what it reads in registers.

@@ -87,10 +87,10 @@ pub fn view(datagram: &[u8]) -> Result<View<'_>, DecodeError>
     ensures well_formed { OnOk result (IsWellFormed datagram.now) }
     ensures refused { IfErr result (λ e. refusal datagram.now ≡ Some e) }
 {
-    if let Some(action) = plain_action(datagram) {
-        return Ok(View::of(datagram, action, TlvKind::Management));
-    }
-    let (action, tlv) = any_action(datagram)?;
+    let (action, tlv) = match plain_action(datagram) {
+        Some(action) => (action, TlvKind::Management),
+        None => any_action(datagram)?,
+    };
     Ok(View::of(datagram, action, tlv))
 }
 
