@@ -63,7 +63,7 @@ impl<T: ReplyTable + Drop> Agent<T> {
     }
 }
 
-/// Whether a message of the clock's domain, from another clock, is passed on: it has a hop left, is not for exactly this clock, and
+/// Whether a message of the clock's domain, from another clock, is passed on. Then it is not for exactly this clock, has a hop left, and
 /// came in at a port in a forwarding state.
 fn goes_on(me: &ClockIdentity, sets: &DataSets, ingress: u16, message: &View<'_>) -> bool
     ensures { result ≡ (not (same_clock message.now.target.clock me.now)
