@@ -105,12 +105,9 @@ fn plain_action(datagram: &[u8]) -> Option<Action>
     let Ok(message) = message_octets(datagram) else {
         return None;
     };
-    management_action(
-        message[46] % 16,
-        u16_at(message, 48),
-        u16_at(message, 50),
-        message.len(),
-    )
+    let tlv_type = u16_at(message, 48);
+    let length_field = u16_at(message, 50);
+    management_action(message[46] % 16, tlv_type, length_field, message.len())
 }
 
 /// The action of a well-formed message and the kind of its TLV, or the refusal that holds. It is never inlined, and its answer is small.

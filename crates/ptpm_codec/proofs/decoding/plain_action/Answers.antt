@@ -42,12 +42,12 @@ well_formed (Some a) d m type field frame e t f tlv one =
 
 pub returns-clause-viewed : goal.returns-clause-viewed
 returns-clause-viewed c =
-    viewed c.management_action.result c.args.datagram.now c.in-Ok.message.now c.u16_at.result
-    c.in-Ok.ensures.octets c.in-Ok.ensures.long c.u16_at.ensures
+    viewed c.management_action.result c.args.datagram.now c.in-Ok.message.now c.u16_at-tlv_type.result
+    c.in-Ok.ensures.octets c.in-Ok.ensures.long c.u16_at-tlv_type.ensures
     c.management_action.ensures.action c.management_action.ensures.tlv
 
 pub returns-clause-well_formed : goal.returns-clause-well_formed
 returns-clause-well_formed c =
-    well_formed c.management_action.result c.args.datagram.now c.in-Ok.message.now c.u16_at.result c.u16_at-2.result
-    c.in-Ok.ensures.refusal c.in-Ok.ensures.octets c.u16_at.ensures c.u16_at-2.ensures
+    well_formed c.management_action.result c.args.datagram.now c.in-Ok.message.now c.u16_at-tlv_type.result c.u16_at-length_field.result
+    c.in-Ok.ensures.refusal c.in-Ok.ensures.octets c.u16_at-tlv_type.ensures c.u16_at-length_field.ensures
     c.management_action.ensures.sound c.management_action.ensures.tlv
