@@ -1,5 +1,5 @@
 -- What a turn does with a message, by what the message is to the clock.
-use Rattle.std.proofs.Common.{arith, ◌≡◌, ℕ, ◌==◌, ◌||◌, not, List, [], length, Option, Some, Result, Ok, Err, OnErr, map, ◌++◌, Bool, true, false, refl, sym, ◌∙◌, ap, subst}
+use Rattle.std.proofs.Common.{arith, ◌≡◌, ℕ, ◌==◌, ◌||◌, ◌&&◌, nat_lt, not, List, [], length, Option, Some, Result, Ok, Err, OnErr, map, ◌++◌, Bool, true, false, refl, sym, inl, inr, ◌∙◌, ap, subst}
 use Rattle.std.proofs.lemmas.Bool.{and_parts, and_from, cases_Bool, or_left, or_parts, or_right, not-true, cond-true, cond-false, false≢true}
 use Rattle.std.specs.FinMap.{get}
 use Rattle.ptpm_codec.specs.declared.error.DecodeError.{DecodeError}
@@ -9,8 +9,9 @@ use Rattle.ptpm_codec.specs.Identity.{every_clock, same_clock}
 use Rattle.ptpm_codec.specs.Message.{action_of}
 use Rattle.ptpm_codec.specs.Reading.{message_of, reading}
 use Rattle.ptpm_data.specs.Changed.{changed, no_members}
-use Rattle.ptpm_data.specs.Members.{DataSetsValue}
+use Rattle.ptpm_data.specs.Members.{DataSetsValue, may_forward}
 use Rattle.ptpm_table.specs.declared.reply_table.Look.{Look}
+use Rattle.ptpm_table.specs.declared.reply_table.Look.TheVariants as looks
 use Rattle.ptpm_table.specs.Entries.{Entry, is_known}
 use Rattle.ptpm_table.specs.Numbering.{look_at}
 use Rattle.ptpm_table.specs.Rendering.{rendered}
@@ -199,6 +200,91 @@ pub copies_are : (me : ClockIdentity) (ingress : ℕ) (d : DataSetsValue) (datag
 unfolding forwarded
 copies_are me ingress d datagram v passed e is =
     ap (λ (b : Bool). copies_if b ingress d datagram) is ∙ sym (ap (forwarded_by me ingress d datagram) (message_of-reading datagram v e))
+
+-- ---- what is passed on, by the verdict
+
+-- what is passed on is in the clock's domain, and from another clock
+forwarded_parts : (c : Clock) (s : State) (ingress : ℕ) (v : Message)
+    → is_forwarded c.identity ingress s.sets v ≡ true
+    → (is_in_domain c s v ≡ true) × (is_own c v ≡ false)
+forwarded_parts c s ingress v h =
+    let sdo = and_parts _ _ h in
+    let domain = and_parts _ _ sdo.1 in
+    let own = and_parts _ _ domain.1 in
+    (and_from _ _ sdo.0 (or_left _ (is_accepted_repeat c s v) domain.0), not-true _ own.0)
+
+-- a verdict on what is in the clock's domain, and from another clock
+abbrev is_near : Verdict → Bool
+is_near verdicts.OtherDomain = false
+is_near verdicts.OwnMessage = false
+is_near _ = true
+
+is_near-look : (l : Look) → is_near (verdict_at l) ≡ true
+is_near-look looks.Unknown = refl
+is_near-look looks.New = refl
+is_near-look looks.Repeat = refl
+is_near-look looks.Conflict = refl
+is_near-look looks.Old = refl
+
+is_near-judged : (c : Clock) (s : State) (v : Message)
+    → is_in_domain c s v ≡ true
+    → is_own c v ≡ false
+    → is_near (judged c s v) ≡ true
+is_near-judged c s v d o = elim (cases_Bool (is_addressed c s.sets v)) [
+  | inr away ↦ ap is_near (judged-away c s v d o away)
+  | inl here ↦ elim (cases_Bool (is_request v)) [
+    | inr reply ↦ ap is_near (judged-reply c s v d o here reply)
+    | inl request ↦ ap is_near (judged-request c s v d o here request) ∙ is_near-look (look c s v)
+  ]
+]
+
+-- of what has another verdict nothing is passed on
+not_forwarded-far : (c : Clock) (s : State) (ingress : ℕ) (v : Message)
+    → is_near (judged c s v) ≡ false
+    → is_forwarded c.identity ingress s.sets v ≡ false
+not_forwarded-far c s ingress v far = elim (cases_Bool (is_forwarded c.identity ingress s.sets v)) [
+  | inl passed ↦
+      let p = forwarded_parts c s ingress v passed in absurd (false≢true (sym far ∙ is_near-judged c s v p.0 p.1))
+  | inr no ↦ no
+]
+
+pub not_forwarded-foreign : (c : Clock) (s : State) (ingress : ℕ) (v : Message)
+    → judged c s v ≡ verdicts.OtherDomain
+    → is_forwarded c.identity ingress s.sets v ≡ false
+not_forwarded-foreign c s ingress v e = not_forwarded-far c s ingress v (ap is_near e)
+
+pub not_forwarded-own : (c : Clock) (s : State) (ingress : ℕ) (v : Message)
+    → judged c s v ≡ verdicts.OwnMessage
+    → is_forwarded c.identity ingress s.sets v ≡ false
+not_forwarded-own c s ingress v e = not_forwarded-far c s ingress v (ap is_near e)
+
+false_unless : (b : Bool) → (b ≡ true → ⊥) → b ≡ false
+false_unless true no = absurd (no refl)
+false_unless false no = refl
+
+true_unless : (b : Bool) → (b ≡ false → ⊥) → b ≡ true
+true_unless true no = refl
+true_unless false no = absurd (no refl)
+
+either_true : (x y : Bool) → (x || y) ≡ true → y ≡ false → x ≡ true
+either_true true y h no = refl
+either_true false y h no = absurd (false≢true (sym no ∙ h))
+
+-- by any other verdict than these, only the target, the hops and the ingress port are left to see
+pub forwarded_near : (c : Clock) (s : State) (ingress : ℕ) (v : Message)
+    → (judged c s v ≡ verdicts.OtherDomain → ⊥)
+    → (judged c s v ≡ verdicts.OwnMessage → ⊥)
+    → (judged c s v ≡ verdicts.AnsweredRepeat → ⊥)
+    → is_forwarded c.identity ingress s.sets v
+    ≡ (not (same_clock v.target.clock c.identity) && (nat_lt 0 v.hops && may_forward ingress s.sets))
+forwarded_near c s ingress v not_foreign not_own not_repeat =
+    let d : is_in_domain c s v ≡ true = true_unless _ (λ no. not_foreign (judged-foreign c s v no)) in
+    let sdo = and_parts _ _ d in
+    let repeat : is_accepted_repeat c s v ≡ false = false_unless _ (λ yes. not_repeat (judged-repeat c s v sdo.0 yes)) in
+    let domain : (v.domain == s.sets.default.domain) ≡ true = either_true _ (is_accepted_repeat c s v) sdo.1 repeat in
+    let own : is_own c v ≡ false = false_unless _ (λ yes. not_own (judged-own c s v d yes)) in
+    (λ i. sdo.0 i && (domain i && (not (own i) && (not (same_clock v.target.clock c.identity)
+    && (nat_lt 0 v.hops && may_forward ingress s.sets)))))
 
 -- ---- any other message changes nothing
 

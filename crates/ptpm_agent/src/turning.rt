@@ -29,7 +29,6 @@ ghost use Rattle.ptpm_agent.specs.Addressing.{heard_of, is_addressed, request_of
 ghost use Rattle.ptpm_agent.specs.Turn.{carried_out, is_accepted_repeat, judged, look, new_reply, outbox_of, reply_by, reply_messages, turn, verdict_of};
 
 use crate::agent::Agent;
-use crate::forwarding::{forward, is_forwarded};
 use crate::verdict::Verdict;
 use ptpm_codec::{Action, ClockIdentity, ErrorId, Octets, OutOfMemory, PortIdentity, View, view};
 use ptpm_data::{
@@ -272,14 +271,7 @@ impl<T: ReplyTable + Drop> Agent<T> {
             message.now) }
         ensures grown { O.grown out.old out.new }
     {
-        forward(
-            &self.table.clock(),
-            &self.sets,
-            ingress,
-            datagram,
-            message,
-            out,
-        );
+        self.forward(verdict, ingress, datagram, message, out);
         self.reply(verdict, ingress, message, out);
     }
 
@@ -513,7 +505,7 @@ impl<T: SureTable + Drop> Agent<T> {
             Verdict::AnsweredRepeat => self.table.send_again(&heard_of(&message), ingress, out),
             _ => {
                 self.reply(verdict, ingress, &message, out);
-                let passed = is_forwarded(&self.table.clock(), &self.sets, ingress, &message);
+                let passed = self.passes_on(verdict, ingress, &message);
                 return (verdict, passed);
             }
         }

@@ -69,7 +69,7 @@ even-text text d n rest whole (inr (some, e)) = omega (arith, rest, some)
 
 -- ---- the body that is read is spelled
 
-tlv_kind-management : (m : List ℕ) → layout.tlv_type m ≡ 1 → tlv_kind_at m ≡ Management
+pub tlv_kind-management : (m : List ℕ) → layout.tlv_type m ≡ 1 → tlv_kind_at m ≡ Management
 tlv_kind-management m e = rw e refl
 
 tlv_kind-status : (m : List ℕ) → layout.tlv_type m ≡ 2 → tlv_kind_at m ≡ ErrorStatus

@@ -6,13 +6,13 @@ ghost use Rattle.ptpm_codec.specs.declared.message.Message.{Message};
 ghost use Rattle.ptpm_codec.specs.Layout as layout;
 ghost use Rattle.ptpm_codec.specs.Layout.{message_length, message_octets};
 ghost use Rattle.ptpm_codec.specs.Message.{IsValid};
-ghost use Rattle.ptpm_codec.specs.Reading.{IsOkUnlessMemory, IsWellFormed, reading};
+ghost use Rattle.ptpm_codec.specs.Reading.{IsOkUnlessMemory, IsViewed, IsWellFormed, reading};
 ghost use Rattle.ptpm_codec.specs.Refusal.{frame_refusal, is_text, refusal, text_refusal};
 ghost use Rattle.ptpm_codec.specs.Spelling.{Spells};
 
 use crate::encoding::MESSAGE_OCTETS;
 use crate::error::DecodeError;
-use crate::message::Message;
+use crate::message::{Action, Message};
 use crate::places::u16_at;
 use crate::ptp_text::is_ptp_text;
 use crate::tlv::{TlvKind, management_action, tlv};
@@ -76,6 +76,7 @@ fn judge_text(message: &[u8], tlv: TlvKind) -> Result<(), DecodeError>
 
 /// Reads a datagram in place: the message value that its first messageLength octets spell, or the first refusal that
 /// holds. Octets past messageLength are ignored (this project's profile). Takes no memory and copies nothing.
+#[inline(always)]
 pub fn view(datagram: &[u8]) -> Result<View<'_>, DecodeError>
     ensures exact { result ≡ reading datagram.now }
 
@@ -86,44 +87,35 @@ pub fn view(datagram: &[u8]) -> Result<View<'_>, DecodeError>
     ensures well_formed { OnOk result (IsWellFormed datagram.now) }
     ensures refused { IfErr result (λ e. refusal datagram.now ≡ Some e) }
 {
-    match view_management(datagram) {
-        Some(view) => Ok(view),
-        None => view_any(datagram),
-    }
+    let (action, tlv) = match plain_action(datagram) {
+        Some(action) => (action, TlvKind::Management),
+        None => any_action(datagram)?,
+    };
+    Ok(View::of(datagram, action, tlv))
 }
 
-/// A well-formed message with a MANAGEMENT TLV, which every message except an error status has; nothing for any other
+/// The action of a well-formed message with a MANAGEMENT TLV, which every message except an error status has; nothing for any other
 /// datagram. It does not say which refusal holds, so that most datagrams are read by the fewest tests.
 #[inline(always)]
-fn view_management(datagram: &[u8]) -> Option<View<'_>>
-    ensures exact { IfSome result (λ v. reading datagram.now ≡ Ok v) }
-    ensures spelled { IfSome result (λ v. Spells v (message_octets datagram.now)) }
-    ensures valid { IfSome result (λ v. IsValid v) }
+fn plain_action(datagram: &[u8]) -> Option<Action>
+    ensures viewed { IfSome result
+        (λ action. IsViewed (message_octets datagram.now) action TlvKind.Management) }
     ensures well_formed { OnSome result (IsWellFormed datagram.now) }
 {
     let Ok(message) = message_octets(datagram) else {
         return None;
     };
-    let action = management_action(
-        message[46] % 16,
-        u16_at(message, 48),
-        u16_at(message, 50),
-        message.len(),
-    )?;
-    Some(View {
-        message,
-        action,
-        tlv: TlvKind::Management,
-    })
+    let tlv_type = u16_at(message, 48);
+    let length_field = u16_at(message, 50);
+    management_action(message[46] % 16, tlv_type, length_field, message.len())
 }
 
-/// What `view` answers, with the refusal that holds.
+/// The action of a well-formed message and the kind of its TLV, or the refusal that holds. It is never inlined, and its answer is small.
+/// So a `View` is made once, in registers.
 #[cold]
 #[inline(never)]
-fn view_any(datagram: &[u8]) -> Result<View<'_>, DecodeError>
-    ensures exact { result ≡ reading datagram.now }
-    ensures spelled { IfOk result (λ v. Spells v (message_octets datagram.now)) }
-    ensures valid { IfOk result (λ v. IsValid v) }
+fn any_action(datagram: &[u8]) -> Result<(Action, TlvKind), DecodeError>
+    ensures viewed { IfOk result (λ read. IsViewed (message_octets datagram.now) read.0 read.1) }
     ensures well_formed { OnOk result (IsWellFormed datagram.now) }
     ensures refused { IfErr result (λ e. refusal datagram.now ≡ Some e) }
 {
@@ -135,11 +127,7 @@ fn view_any(datagram: &[u8]) -> Result<View<'_>, DecodeError>
         message.len(),
     )?;
     judge_text(message, tlv)?;
-    Ok(View {
-        message,
-        action,
-        tlv,
-    })
+    Ok((action, tlv))
 }
 
 /// The message value that a datagram's first messageLength octets spell, with octets of its own, or the first refusal

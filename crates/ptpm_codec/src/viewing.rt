@@ -38,6 +38,28 @@ impl<'a> Model for View<'a> {
 }
 
 impl<'a> View<'a> {
+    ghost use Rattle.std.specs.Prelude.{Ok};
+    ghost use Rattle.ptpm_codec.specs.Layout.{message_octets};
+    ghost use Rattle.ptpm_codec.specs.Message.{IsValid};
+    ghost use Rattle.ptpm_codec.specs.Reading.{IsViewed, IsWellFormed, reading};
+    ghost use Rattle.ptpm_codec.specs.Spelling.{Spells};
+
+    /// What a well-formed datagram reads as, with this action and this kind of TLV. Copies nothing, and tests nothing again.
+    #[inline(always)]
+    pub(crate) fn of(datagram: &'a [u8], action: Action, tlv: TlvKind) -> View<'a>
+        requires viewed { IsViewed (message_octets datagram.now) action tlv }
+        requires well_formed { IsWellFormed datagram.now }
+        ensures exact { reading datagram.now ≡ Ok result }
+        ensures spelled { Spells result (message_octets datagram.now) }
+        ensures valid { IsValid result }
+    {
+        View {
+            message: &datagram[..u16_at(datagram, 2) as usize],
+            action,
+            tlv,
+        }
+    }
+
     /// sdoId, of 12 bits.
     pub fn sdo(&self) -> u16
         ensures { result ≡ self.now.sdo }

@@ -6,7 +6,7 @@ use Rattle.ptpm_table.specs.Entries.{Entry}
 use Rattle.ptpm_table.specs.declared.heard.Heard.{Heard}
 use Rattle.ptpm_agent.specs.Addressing.{heard_of}
 use Rattle.ptpm_agent.specs.Agent.{state_of}
-use Rattle.ptpm_agent.specs.Forwarding.{copies_if, forwarded}
+use Rattle.ptpm_agent.specs.Forwarding.{copies_if}
 use Rattle.ptpm_agent.specs.Turn.{kept_reply_of, new_reply, reply_by, reply_messages}
 use Rattle.ptpm_agent.specs.declared.verdict.Verdict.{Verdict}
 use Rattle.ptpm_agent.proofs.MostSent.{rendered_count}
@@ -92,10 +92,9 @@ returns-in_default-clause-turned g c =
     let state = state_of g.T.ReplyTable.entries c.args.self.now in
     let sets = c.args.self.now.sets in
     let read = sym c.view.ensures.exact ∙ c.in-Ok.is in
-    let copies = copies_are c.clock.result c.args.ingress sets c.args.datagram.now c.in-Ok.message c.is_forwarded-passed.result read c.is_forwarded-passed.ensures
-    ∙ ap (λ me. forwarded me c.args.ingress sets c.args.datagram.now) c.clock.ensures in
+    let copies = copies_are clock.identity c.args.ingress sets c.args.datagram.now c.in-Ok.message c.passes_on-passed.result read c.passes_on-passed.ensures in
     let replies = reply_messages clock c.args.ingress (heard_of c.in-Ok.message) (reply_by c.judge-verdict.result.0 clock state c.in-Ok.message) in
     let sent = c.reply.ensures.sent ∙ ap (λ (xs : List (ℕ × List ℕ)). xs ++ replies) c.requires.empty in
     turned_other clock state c.args.ingress c.args.datagram.now c.in-Ok.message c.judge-verdict.result.0
-    (copies_if c.is_forwarded-passed.result c.args.ingress sets c.args.datagram.now ++ g.O.Outgoing.sent c.reply.new.out) state
+    (copies_if c.passes_on-passed.result c.args.ingress sets c.args.datagram.now ++ g.O.Outgoing.sent c.reply.new.out) state
     read c.judge-verdict.ensures.verdict c.in_default.not-AnsweredNew (λ i. copies i ++ sent i) refl
