@@ -12,6 +12,7 @@ pub mod Rows
 pub mod Naming
 pub mod FileText
 pub mod Asking
+pub mod Asks
 pub mod Planned
 pub mod Digest
 pub mod Outcome

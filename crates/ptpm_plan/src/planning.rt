@@ -2,10 +2,11 @@
 
 ghost use Rattle.std.specs.Prelude.{◌≡◌, IfOk, OnOk};
 ghost use Rattle.ptpm_commands.specs.Lines.{datagram_in, latest_line};
+ghost use Rattle.std.specs.Io.KnownBytes.{Appends};
+ghost use Rattle.ptpm_plan.specs.Asks.{AreAsked, lines_below};
 ghost use Rattle.ptpm_plan.specs.Printed.{AreAnswersOf, IsPrinted, IsReport, TakesLine, status_by};
 
 use crate::answers::Answers;
-use crate::asks::print_asks;
 use crate::file_fault::FileFault;
 use crate::outcome::{status_of, status_telling_changes};
 use crate::plan::Plan;
@@ -109,10 +110,19 @@ fn status_by(tells_changes: bool, plan: &Plan) -> u8
 }
 
 /// Prints what is asked before the plan of a file can be made.
-pub fn print_questions<O: Write>(alloc: Global, text: &[u8], out: &mut O) -> Result<(), PlanFault> {
+pub fn print_questions<O: Write>(alloc: Global, text: &[u8], out: &mut O) -> Result<(), PlanFault>
+    ensures { OnOk result (AreAsked text.now (O.contents out.old) (O.contents out.new)) }
+{
     let file = PlanFile::read(alloc, text)?;
-    let domains = file.domains(alloc).map_err(Fault::from)?;
-    print_asks(&file, domains.as_slice(), out).map_err(Fault::from)?;
+    print_asks(alloc, &file, out)?;
+    Ok(())
+}
+
+fn print_asks<O: Write>(alloc: Global, file: &PlanFile, out: &mut O) -> Result<(), Fault>
+    ensures { OnOk result (Appends (O.contents out.old) (O.contents out.new) (lines_below file.now 256)) }
+{
+    let text = file.asks(alloc)?;
+    out.write_all(text.as_bytes())?;
     Ok(())
 }
 
