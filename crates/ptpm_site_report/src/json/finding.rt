@@ -53,8 +53,8 @@ fn finding_value(
 impl TakeValues for Members {
     type Error = AllocError;
 
-    fn take(&mut self, values: &FindingValues<'_>) -> Result<(), AllocError> {
-        for (name, value) in values {
+    fn take(&mut self, values: FindingValues<'_>) -> Result<(), AllocError> {
+        for (name, value) in &values {
             if !name.is_empty() {
                 self.put_value(name, value_of(self.alloc, value)?)?;
             }
