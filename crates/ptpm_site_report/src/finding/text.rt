@@ -15,9 +15,9 @@ use std::fmt;
 
 /// The values of a finding, with the words round them. They come after its name.
 #[derive(Clone, Copy)]
-pub(crate) struct Values<'a>(pub(crate) &'a What<'a>);
+pub(crate) struct Values<'a, 'b>(pub(crate) &'a What<'b>);
 
-impl fmt::Display for Values<'_> {
+impl fmt::Display for Values<'_, '_> {
     fn fmt<W: fmt::Write>(&self, f: &mut fmt::Formatter<W>) -> fmt::Result {
         hand_values(self.0, f)
     }

@@ -19,7 +19,7 @@ use std::alloc::{AllocError, Global};
 pub(crate) fn found_object(
     alloc: Global,
     look: &Look<'_, '_>,
-    remark: &Remark<'_>,
+    remark: &Remark<'_, '_>,
 ) -> Result<FoundLine, AllocError> {
     let described = look.picture.site.description(remark.source());
     Ok(FoundLine {
@@ -35,7 +35,7 @@ pub(crate) fn found_object(
 /// A finding: its clock with its description, its name, from which other it follows, and its values.
 fn finding_value(
     alloc: Global,
-    remark: &Remark<'_>,
+    remark: &Remark<'_, '_>,
     described: Option<&str>,
 ) -> Result<Value, AllocError> {
     let mut members = Members::none(alloc);
@@ -64,7 +64,7 @@ impl TakeValues for Members {
 }
 
 /// Puts the domain and the clock.
-fn put_place(members: &mut Members, remark: &Remark<'_>) -> Result<(), AllocError> {
+fn put_place(members: &mut Members, remark: &Remark<'_, '_>) -> Result<(), AllocError> {
     let source = remark.source();
     members.put_number("domainNumber", source.domain.number() as i64)?;
     members.put_number("sdoId", source.domain.sdo() as i64)?;

@@ -82,7 +82,7 @@ fn add_trees(alloc: Global, look: &Look<'_, '_>, lines: &mut Vec<Line>) -> Resul
 fn add_unseen(
     alloc: Global,
     look: &Look<'_, '_>,
-    remarks: &[Remark<'_>],
+    remarks: &[Remark<'_, '_>],
     lines: &mut Vec<Line>,
 ) -> Result<(), AllocError> {
     for remark in remarks {
@@ -97,7 +97,7 @@ fn add_unseen(
 fn unseen_line(
     alloc: Global,
     look: &Look<'_, '_>,
-    remark: &Remark<'_>,
+    remark: &Remark<'_, '_>,
 ) -> Result<Line, AllocError> {
     let mut line = match clock_of(remark.finding) {
         Some(_) => silent_line(alloc, look, remark.source())?,
@@ -118,7 +118,7 @@ fn silent_line(alloc: Global, look: &Look<'_, '_>, source: Source) -> Result<Lin
     Ok(line)
 }
 
-fn drawn(alloc: Global, remark: &Remark<'_>) -> Result<DrawnRemark, AllocError> {
+fn drawn(alloc: Global, remark: &Remark<'_, '_>) -> Result<DrawnRemark, AllocError> {
     let words = format!(in alloc; "{remark}")?;
     let weight = remark.weight;
     Ok(DrawnRemark { weight, words })
@@ -175,7 +175,7 @@ fn drawn_at(
 
 fn add_drawn(
     alloc: Global,
-    remarks: &[Remark<'_>],
+    remarks: &[Remark<'_, '_>],
     all: &mut Vec<DrawnRemark>,
 ) -> Result<(), AllocError> {
     for remark in remarks {
