@@ -180,7 +180,7 @@ fn of_unmet<'a>(unmet: &Unmet<'a>) -> FindingValues<'a> {
 }
 
 /// The clocks that lead, if there are any, and those that are wanted.
-fn of_other_leaders<'a>(other: &'a OtherLeaders<'a>) -> FindingValues<'a> {
+fn of_other_leaders<'a>(other: &'a OtherLeaders<'_>) -> FindingValues<'a> {
     let value = if other.leading.is_empty() {
         Null("none")
     } else {

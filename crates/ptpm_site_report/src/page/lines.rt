@@ -62,20 +62,21 @@ fn add_trees(alloc: Global, look: &Look<'_, '_>, lines: &mut Vec<Line>) -> Resul
     for tree in trees.as_slice() {
         lines.push(said(alloc, format!(in alloc; "{tree}")?))?;
         for row in tree.rows.as_slice() {
-            lines.push(match row {
-                Row::Clock(row) => clock_line(alloc, look, row)?,
-                Row::NotSeen(parent) => {
-                    let name = look.beside.names.quoted(parent.clock);
-                    line_of(
-                        alloc,
-                        Frame::Dashed,
-                        format!(in alloc; "not seen: {parent}{name}")?,
-                    )
-                }
-            })?;
+            lines.push(row_line(alloc, look, row)?)?;
         }
     }
     Ok(())
+}
+
+fn row_line(alloc: Global, look: &Look<'_, '_>, row: &Row<'_>) -> Result<Line, AllocError> {
+    match row {
+        Row::Clock(row) => clock_line(alloc, look, row),
+        Row::NotSeen(parent) => {
+            let name = look.beside.names.quoted(parent.clock);
+            let name = format!(in alloc; "not seen: {parent}{name}")?;
+            Ok(line_of(alloc, Frame::Dashed, name))
+        }
+    }
 }
 
 /// Adds the rows of clocks that are not seen and of whole domains.
