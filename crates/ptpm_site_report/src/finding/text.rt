@@ -1,7 +1,7 @@
 //! The values of a finding as a text.
 
 use crate::finding::phrases::{Phrase, Shown};
-use crate::finding::values::{FindingValue, FindingValues, TakeValues, hand_values};
+use crate::finding::values::{FindingValue, values_of};
 use crate::intervals::{Exact, Seconds, Whole};
 use crate::monitoring::seconds::NanosecondSeconds;
 use crate::printable::Printable;
@@ -19,24 +19,17 @@ pub(crate) struct Values<'a, 'b>(pub(crate) &'a What<'b>);
 
 impl fmt::Display for Values<'_, '_> {
     fn fmt<W: fmt::Write>(&self, f: &mut fmt::Formatter<W>) -> fmt::Result {
-        hand_values(self.0, f)
-    }
-}
-
-impl<W: fmt::Write> TakeValues for fmt::Formatter<W> {
-    type Error = fmt::Error;
-
-    fn take(&mut self, values: FindingValues<'_>) -> fmt::Result {
+        let values = values_of(self.0);
         let words = match values.first() {
             Some((_, FindingValue::Template(words))) => *words,
             _ => return Ok(()),
         };
         for (place, piece) in words.split("{}").enumerate() {
             match values.get(place) {
-                Some((_, value)) if 0 < place => write!(self, "{value}")?,
+                Some((_, value)) if 0 < place => write!(f, "{value}")?,
                 _ => {}
             }
-            self.write_str(piece)?;
+            f.write_str(piece)?;
         }
         Ok(())
     }

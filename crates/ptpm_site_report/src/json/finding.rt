@@ -4,12 +4,13 @@ use crate::finding::found_line::FoundLine;
 use crate::finding::phrases::{clock_of, clock_of_cause};
 use crate::finding::remarks::Remark;
 use crate::finding::report::key_of;
-use crate::finding::values::{FindingValue, FindingValues, TakeValues, hand_values};
+use crate::finding::values::{FindingValue, values_of};
 use crate::json::members::{Members, identity_value, text_value};
 use crate::look::Look;
 use ptpm_causes::Cause;
 use ptpm_codec::ClockIdentity;
 use ptpm_message_json::member_value;
+use ptpm_site::judging::finding::What;
 use ptpm_site::judging::twice::OtherMember;
 use ptpm_site::reading::asked::Asked;
 use serde_json::{Value, json};
@@ -46,21 +47,18 @@ fn finding_value(
     }
     members.put_text("finding", remark.named.kind.name())?;
     members.put_text("severity", remark.severity.word())?;
-    hand_values(&remark.finding.what, &mut members)?;
+    put_values(&mut members, &remark.finding.what)?;
     Ok(members.object())
 }
 
-impl TakeValues for Members {
-    type Error = AllocError;
-
-    fn take(&mut self, values: FindingValues<'_>) -> Result<(), AllocError> {
-        for (name, value) in &values {
-            if !name.is_empty() {
-                self.put_value(name, value_of(self.alloc, value)?)?;
-            }
+fn put_values(members: &mut Members, what: &What<'_>) -> Result<(), AllocError> {
+    let values = values_of(what);
+    for (name, value) in &values {
+        if !name.is_empty() {
+            members.put_value(name, value_of(members.alloc, value)?)?;
         }
-        Ok(())
     }
+    Ok(())
 }
 
 /// Puts the domain and the clock.
