@@ -171,7 +171,7 @@ fn print_found_row<O: Write>(
     out: &mut O,
 ) -> Result<(), Fault> {
     let name = called(alloc, look, remark.source())?;
-    let (kind, values) = (remark.named.kind.name(), Values(&remark.finding.what));
+    let (kind, values) = (remark.named.kind.name(), Values(remark.finding));
     let words = format!(in alloc; "{kind}{values}")?;
     print_cells(remark, name.as_str(), words.as_str(), out)?;
     Ok(())

@@ -141,7 +141,7 @@ pub(crate) fn alike_together(
 /// What a finding says, without its clock.
 fn words_of(alloc: Global, remark: &Remark<'_, '_>) -> Result<String, AllocError> {
     let (domain, name) = (remark.source().domain, remark.named.kind.name());
-    let values = Values(&remark.finding.what);
+    let values = Values(remark.finding);
     format!(in alloc; "{domain} {name}{values}")
 }
 

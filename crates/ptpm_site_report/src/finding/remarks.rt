@@ -134,7 +134,7 @@ impl Remark<'_, '_> {
 /// The name and the values, and from what it follows, with the clock of that if it is another.
 impl fmt::Display for Remark<'_, '_> {
     fn fmt<W: fmt::Write>(&self, f: &mut fmt::Formatter<W>) -> fmt::Result {
-        let (name, values) = (self.named.kind.name(), Values(&self.finding.what));
+        let (name, values) = (self.named.kind.name(), Values(self.finding));
         write!(f, "{name}{values}")?;
         let Some(cause) = self.cause else {
             return Ok(());

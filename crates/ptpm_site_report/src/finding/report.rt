@@ -140,7 +140,7 @@ impl FindingReport {
         is_first: bool,
     ) -> Result<FoundLine, AllocError> {
         let so_too = self.so_too(look, is_first, Head::of(remark.named));
-        let (values, name) = (Values(&remark.finding.what), look.name_at(remark.finding));
+        let (values, name) = (Values(remark.finding), look.name_at(remark.finding));
         let key = key_of(alloc, remark)?;
         let words = format!(in alloc; "{key}{values}")?;
         let whole = format!(in alloc; "{words}{so_too}{name}")?;
@@ -214,7 +214,7 @@ fn many_line(
     so_too: SoToo<'_>,
 ) -> Result<FoundLine, AllocError> {
     let (domain, name) = (remark.source().domain, remark.named.kind.name());
-    let (values, clocks) = (Values(&remark.finding.what), Clocks(more));
+    let (values, clocks) = (Values(remark.finding), Clocks(more));
     let key = format!(in alloc; "{domain} - {name}")?;
     let words = format!(in alloc; "{key}{values} of {clocks} more")?;
     let whole = format!(in alloc; "{words}{so_too}")?;

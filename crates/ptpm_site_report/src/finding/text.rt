@@ -5,7 +5,7 @@ use crate::finding::values::{FindingValue, values_of};
 use crate::intervals::{Exact, Seconds, Whole};
 use crate::monitoring::seconds::NanosecondSeconds;
 use crate::printable::Printable;
-use ptpm_site::judging::finding::What;
+use ptpm_site::judging::finding::Finding;
 use ptpm_site::judging::twice::OtherMember;
 use ptpm_site::judging::two_addresses::TwoAddresses;
 use ptpm_site::judging::two_offsets::TwoOffsets;
@@ -15,11 +15,11 @@ use std::fmt;
 
 /// The values of a finding, with the words round them. They come after its name.
 #[derive(Clone, Copy)]
-pub(crate) struct Values<'a, 'b>(pub(crate) &'a What<'b>);
+pub(crate) struct Values<'a, 'b>(pub(crate) &'a Finding<'b>);
 
 impl fmt::Display for Values<'_, '_> {
     fn fmt<W: fmt::Write>(&self, f: &mut fmt::Formatter<W>) -> fmt::Result {
-        let values = values_of(self.0);
+        let values = values_of(&self.0.what);
         let words = match values.first() {
             Some((_, FindingValue::Template(words))) => *words,
             _ => return Ok(()),
