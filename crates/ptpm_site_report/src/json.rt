@@ -202,7 +202,7 @@ fn print_findings<O: Write>(
     alloc: Global,
     look: &Look<'_, '_>,
     name: &str,
-    remarks: &[Remark<'_, '_>],
+    remarks: &[Remark<'_>],
     out: &mut O,
 ) -> Result<Vec<FoundLine>, Fault> {
     write!(out, "\"{name}\":[")?;

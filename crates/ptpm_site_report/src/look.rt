@@ -18,12 +18,12 @@ use std::alloc::{AllocError, Global};
 /// A picture, what is said of it, and what is said beside it.
 #[derive(Drop)]
 pub(crate) struct Look<'a, 'b> {
-    pub(crate) picture: &'a Picture<'b>,
+    pub(crate) picture: &'a Picture<'a>,
     /// The findings.
-    pub(crate) found: Vec<Remark<'a, 'b>>,
+    pub(crate) found: Vec<Remark<'a>>,
     /// What is open.
-    pub(crate) open: Vec<Remark<'a, 'b>>,
-    pub(crate) beside: Beside<'a>,
+    pub(crate) open: Vec<Remark<'a>>,
+    pub(crate) beside: Beside<'b>,
 }
 
 /// What is said beside a picture.
@@ -44,8 +44,8 @@ impl<'a, 'b> Look<'a, 'b> {
     /// Each finding of a picture has its remark.
     pub(crate) fn of(
         alloc: Global,
-        picture: &'a Picture<'b>,
-        beside: Beside<'a>,
+        picture: &'a Picture<'a>,
+        beside: Beside<'b>,
     ) -> Result<Look<'a, 'b>, AllocError>
         ensures picture { IfOk result (λ look. look.picture.now ≡ picture.now) }
         ensures findings { IfOk result (λ look. map (λ r. r.finding.now) look.found.items ≡ picture.now.findings.items) }

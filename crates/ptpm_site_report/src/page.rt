@@ -142,7 +142,7 @@ fn print_findings<O: Write>(
     alloc: Global,
     look: &Look<'_, '_>,
     title: &str,
-    remarks: &[Remark<'_, '_>],
+    remarks: &[Remark<'_>],
     out: &mut O,
 ) -> Result<(), Fault> {
     if remarks.is_empty() {
@@ -167,7 +167,7 @@ fn print_findings<O: Write>(
 fn print_found_row<O: Write>(
     alloc: Global,
     look: &Look<'_, '_>,
-    remark: &Remark<'_, '_>,
+    remark: &Remark<'_>,
     out: &mut O,
 ) -> Result<(), Fault> {
     let name = called(alloc, look, remark.source())?;
@@ -178,7 +178,7 @@ fn print_found_row<O: Write>(
 }
 
 fn print_cells<O: Write>(
-    remark: &Remark<'_, '_>,
+    remark: &Remark<'_>,
     name: &str,
     words: &str,
     out: &mut O,
@@ -198,7 +198,7 @@ fn print_cells<O: Write>(
 }
 
 /// Prints the column of a finding's clock.
-fn print_link<O: Write>(remark: &Remark<'_, '_>, name: &str, out: &mut O) -> io::Result<()> {
+fn print_link<O: Write>(remark: &Remark<'_>, name: &str, out: &mut O) -> io::Result<()> {
     let (domain, name) = (remark.source().domain, Escaped(name));
     match clock_of(remark.finding) {
         Some(clock) => write!(
@@ -305,7 +305,7 @@ impl fmt::Display for Shift {
 
 fn print_remarks<O: Write>(
     alloc: Global,
-    remarks: &[Remark<'_, '_>],
+    remarks: &[Remark<'_>],
     out: &mut O,
 ) -> Result<(), Fault> {
     for remark in remarks {
@@ -314,11 +314,7 @@ fn print_remarks<O: Write>(
     Ok(())
 }
 
-fn print_remark<O: Write>(
-    alloc: Global,
-    remark: &Remark<'_, '_>,
-    out: &mut O,
-) -> Result<(), Fault> {
+fn print_remark<O: Write>(alloc: Global, remark: &Remark<'_>, out: &mut O) -> Result<(), Fault> {
     let words = format!(in alloc; "{remark}")?;
     let (class, words) = (class_of(remark), Escaped(words.as_str()));
     let meaning = remark.named.kind.meaning();
@@ -330,7 +326,7 @@ fn print_remark<O: Write>(
 }
 
 /// How bad it is, in a word that the style has too.
-fn class_of(remark: &Remark<'_, '_>) -> &'static str {
+fn class_of(remark: &Remark<'_>) -> &'static str {
     match remark.weight {
         Weight::Wrong => remark.severity.word(),
         Weight::Follows => "follows",

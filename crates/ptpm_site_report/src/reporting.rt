@@ -189,11 +189,11 @@ fn print_judged<O: Write, J: Judge>(
 }
 
 /// Prints a picture, and answers what came of its site.
-fn print_picture<'a, O: Write>(
+fn print_picture<O: Write>(
     alloc: Global,
     options: Options,
-    picture: &'a Picture<'_>,
-    beside: Beside<'a>,
+    picture: &Picture<'_>,
+    beside: Beside<'_>,
     out: &mut O,
 ) -> Result<Came, Fault>
     ensures { IfOk result (AreConcluded picture.now.forest.sources.items picture.now.findings.items) }

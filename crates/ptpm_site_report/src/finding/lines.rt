@@ -86,7 +86,7 @@ fn unseen_of(alloc: Global, look: &Look<'_, '_>, is_all: bool) -> Result<Vec<Sou
     Ok(unseen)
 }
 
-fn is_of_unseen(remark: &Remark<'_, '_>) -> bool {
+fn is_of_unseen(remark: &Remark<'_>) -> bool {
     matches!(remark.named.kind, Kind::GrandmasterNotSeen)
 }
 
@@ -115,7 +115,7 @@ fn add_unseen<'a>(
 /// The same lines, with one in place of those past the first ones that say the same.
 pub(crate) fn alike_together(
     alloc: Global,
-    remarks: &[Remark<'_, '_>],
+    remarks: &[Remark<'_>],
     lines: &[FindingLine],
     followers: &Followers,
 ) -> Result<FindingLines, AllocError> {
@@ -139,17 +139,14 @@ pub(crate) fn alike_together(
 }
 
 /// What a finding says, without its clock.
-fn words_of(alloc: Global, remark: &Remark<'_, '_>) -> Result<String, AllocError> {
+fn words_of(alloc: Global, remark: &Remark<'_>) -> Result<String, AllocError> {
     let (domain, name) = (remark.source().domain, remark.named.kind.name());
     let values = Values(remark.finding);
     format!(in alloc; "{domain} {name}{values}")
 }
 
 /// The finding of a line that has one alone.
-fn remark_of<'a, 'b, 'c>(
-    remarks: &'a [Remark<'b, 'c>],
-    line: &FindingLine,
-) -> Option<&'a Remark<'b, 'c>> {
+fn remark_of<'a, 'b>(remarks: &'a [Remark<'b>], line: &FindingLine) -> Option<&'a Remark<'b>> {
     match line {
         FindingLine::One { place, .. } => remarks.get(*place),
         _ => None,
@@ -194,7 +191,7 @@ fn put_line(
 fn add_of_many(
     of_many: &mut Vec<Follower>,
     line: &FindingLine,
-    remark: &Remark<'_, '_>,
+    remark: &Remark<'_>,
     repeat: Repeat,
     followers: &Followers,
 ) -> Result<(), AllocError> {

@@ -25,8 +25,8 @@ pub(crate) enum Weight {
 
 /// A finding, or what is open.
 #[derive(Clone, Copy)]
-pub(crate) struct Remark<'a, 'b> {
-    pub(crate) finding: &'a Finding<'b>,
+pub(crate) struct Remark<'a> {
+    pub(crate) finding: &'a Finding<'a>,
     /// Its name, and the clock at which it is printed.
     pub(crate) named: Cause,
     pub(crate) severity: Severity,
@@ -37,11 +37,11 @@ pub(crate) struct Remark<'a, 'b> {
 
 /// The findings of a picture, in their order. `causes` has of each from what it follows.
 #[tactic(auto, using(std::proofs::lemmas::List::take_more))]
-pub(crate) fn remarks_of<'a, 'b>(
+pub(crate) fn remarks_of<'a>(
     alloc: Global,
-    picture: &'a Picture<'b>,
+    picture: &'a Picture<'a>,
     causes: &[Option<Cause>],
-) -> Result<Vec<Remark<'a, 'b>>, AllocError>
+) -> Result<Vec<Remark<'a>>, AllocError>
     ensures findings { IfOk result (λ remarks. map (λ r. r.finding.now) remarks.items ≡ picture.now.findings.items) }
     ensures causes { length causes.now ≡ length picture.now.findings.items → IfOk result (λ remarks. map (λ r. r.cause) remarks.items ≡ causes.now) }
 {
@@ -63,7 +63,7 @@ fn cause_at(causes: &[Option<Cause>], place: usize) -> Option<Cause>
 }
 
 /// A finding that is found: what follows from another weighs less.
-fn found_remark<'a, 'b>(finding: &'a Finding<'b>, cause: Option<Cause>) -> Remark<'a, 'b>
+fn found_remark<'a>(finding: &'a Finding<'a>, cause: Option<Cause>) -> Remark<'a>
     ensures finding { result.finding.now ≡ finding.now }
     ensures cause { result.cause ≡ cause }
 {
@@ -75,10 +75,10 @@ fn found_remark<'a, 'b>(finding: &'a Finding<'b>, cause: Option<Cause>) -> Remar
 }
 
 /// What of a picture is open, in its order.
-pub(crate) fn open_of<'a, 'b>(
+pub(crate) fn open_of<'a>(
     alloc: Global,
-    picture: &'a Picture<'b>,
-) -> Result<Vec<Remark<'a, 'b>>, AllocError> {
+    picture: &'a Picture<'a>,
+) -> Result<Vec<Remark<'a>>, AllocError> {
     let mut remarks = Vec::new(alloc);
     for finding in picture.open_findings.as_slice() {
         remarks.push(remark_of(finding, Weight::Open, None))?;
@@ -86,11 +86,7 @@ pub(crate) fn open_of<'a, 'b>(
     Ok(remarks)
 }
 
-fn remark_of<'a, 'b>(
-    finding: &'a Finding<'b>,
-    weight: Weight,
-    cause: Option<Cause>,
-) -> Remark<'a, 'b>
+fn remark_of<'a>(finding: &'a Finding<'a>, weight: Weight, cause: Option<Cause>) -> Remark<'a>
     ensures finding { result.finding.now ≡ finding.now }
     ensures cause { result.cause ≡ cause }
 {
@@ -104,7 +100,7 @@ fn remark_of<'a, 'b>(
     }
 }
 
-impl Remark<'_, '_> {
+impl Remark<'_> {
     pub(crate) fn source(&self) -> Source {
         self.finding.source
     }
@@ -132,7 +128,7 @@ impl Remark<'_, '_> {
 }
 
 /// The name and the values, and from what it follows, with the clock of that if it is another.
-impl fmt::Display for Remark<'_, '_> {
+impl fmt::Display for Remark<'_> {
     fn fmt<W: fmt::Write>(&self, f: &mut fmt::Formatter<W>) -> fmt::Result {
         let (name, values) = (self.named.kind.name(), Values(self.finding));
         write!(f, "{name}{values}")?;
@@ -148,14 +144,14 @@ impl fmt::Display for Remark<'_, '_> {
 }
 
 /// Whether one counts.
-pub(crate) fn any_counts(remarks: &[Remark<'_, '_>]) -> bool
+pub(crate) fn any_counts(remarks: &[Remark<'_>]) -> bool
     ensures { result ≡ list_any (λ r. counts r.cause) remarks.now }
 {
     remarks.iter().any(|remark| remark.counts())
 }
 
 /// Whether one counts that is critical.
-pub(crate) fn any_critical(remarks: &[Remark<'_, '_>]) -> bool
+pub(crate) fn any_critical(remarks: &[Remark<'_>]) -> bool
     ensures { result ≡ list_any (λ r. counts r.cause && is_critical r.severity) remarks.now }
 {
     remarks
@@ -164,10 +160,7 @@ pub(crate) fn any_critical(remarks: &[Remark<'_, '_>]) -> bool
 }
 
 /// Those of a clock. They are in the order of their clocks.
-pub(crate) fn remarks_at<'a, 'b, 'c>(
-    remarks: &'a [Remark<'b, 'c>],
-    source: Source,
-) -> &'a [Remark<'b, 'c>] {
+pub(crate) fn remarks_at<'a, 'b>(remarks: &'a [Remark<'b>], source: Source) -> &'a [Remark<'b>] {
     let from = remarks.partition_point(|remark| remark.source() < source);
     let to = remarks.partition_point(|remark| remark.source() <= source);
     remarks.get(from..to).unwrap_or(&[])

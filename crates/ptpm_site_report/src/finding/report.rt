@@ -107,7 +107,7 @@ impl FindingReport {
         &self,
         alloc: Global,
         look: &Look<'_, '_>,
-        remarks: &[Remark<'_, '_>],
+        remarks: &[Remark<'_>],
         all: &FindingLines,
     ) -> Result<Vec<FoundLine>, AllocError> {
         let mut lines = Vec::new(alloc);
@@ -136,7 +136,7 @@ impl FindingReport {
         &self,
         alloc: Global,
         look: &Look<'_, '_>,
-        remark: &Remark<'_, '_>,
+        remark: &Remark<'_>,
         is_first: bool,
     ) -> Result<FoundLine, AllocError> {
         let so_too = self.so_too(look, is_first, Head::of(remark.named));
@@ -198,7 +198,7 @@ fn count_following(look: &Look<'_, '_>) -> usize {
 }
 
 /// The domain, the clock and the name of a finding.
-pub(crate) fn key_of(alloc: Global, remark: &Remark<'_, '_>) -> Result<String, AllocError> {
+pub(crate) fn key_of(alloc: Global, remark: &Remark<'_>) -> Result<String, AllocError> {
     let (domain, name) = (remark.source().domain, remark.named.kind.name());
     match clock_of(remark.finding) {
         Some(clock) => format!(in alloc; "{domain} {clock} {name}"),
@@ -209,7 +209,7 @@ pub(crate) fn key_of(alloc: Global, remark: &Remark<'_, '_>) -> Result<String, A
 /// The line for many clocks more that have the same finding.
 fn many_line(
     alloc: Global,
-    remark: &Remark<'_, '_>,
+    remark: &Remark<'_>,
     more: usize,
     so_too: SoToo<'_>,
 ) -> Result<FoundLine, AllocError> {
@@ -239,7 +239,7 @@ fn print_lines<O: Write>(lines: &[FoundLine], out: &mut O) -> io::Result<()> {
 fn lines_of(
     alloc: Global,
     look: &Look<'_, '_>,
-    remarks: &[Remark<'_, '_>],
+    remarks: &[Remark<'_>],
     lines: Vec<FindingLine>,
     followers: &Followers,
 ) -> Result<FindingLines, AllocError> {

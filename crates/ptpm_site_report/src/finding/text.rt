@@ -1,7 +1,7 @@
 //! The values of a finding as a text.
 
 use crate::finding::phrases::{Phrase, Shown};
-use crate::finding::values::{FindingValue, values_of};
+use crate::finding::values::{FindingValue, FindingValues, TakeValues, hand_values};
 use crate::intervals::{Exact, Seconds, Whole};
 use crate::monitoring::seconds::NanosecondSeconds;
 use crate::printable::Printable;
@@ -15,21 +15,28 @@ use std::fmt;
 
 /// The values of a finding, with the words round them. They come after its name.
 #[derive(Clone, Copy)]
-pub(crate) struct Values<'a, 'b>(pub(crate) &'a Finding<'b>);
+pub(crate) struct Values<'a>(pub(crate) &'a Finding<'a>);
 
-impl fmt::Display for Values<'_, '_> {
+impl fmt::Display for Values<'_> {
     fn fmt<W: fmt::Write>(&self, f: &mut fmt::Formatter<W>) -> fmt::Result {
-        let values = values_of(&self.0.what);
+        hand_values(&self.0.what, f)
+    }
+}
+
+impl<W: fmt::Write> TakeValues for fmt::Formatter<W> {
+    type Error = fmt::Error;
+
+    fn take(&mut self, values: &FindingValues<'_>) -> fmt::Result {
         let words = match values.first() {
             Some((_, FindingValue::Template(words))) => *words,
             _ => return Ok(()),
         };
         for (place, piece) in words.split("{}").enumerate() {
             match values.get(place) {
-                Some((_, value)) if 0 < place => write!(f, "{value}")?,
+                Some((_, value)) if 0 < place => write!(self, "{value}")?,
                 _ => {}
             }
-            f.write_str(piece)?;
+            self.write_str(piece)?;
         }
         Ok(())
     }

@@ -103,52 +103,61 @@ fn say_both<'a>(
     all
 }
 
-/// What a finding says.
-pub(crate) fn values_of<'a>(what: &'a What<'_>) -> FindingValues<'a> {
+/// What takes the values of a finding.
+pub(crate) trait TakeValues {
+    type Error;
+
+    fn take(&mut self, values: &FindingValues<'_>) -> Result<(), Self::Error>;
+}
+
+/// Hands over what a finding says.
+pub(crate) fn hand_values<T: TakeValues>(what: &What<'_>, to: &mut T) -> Result<(), T::Error> {
     match what {
-        What::Unexpected | What::TwoGrandmasters | What::Absent(None) => say("", &[]),
-        What::Absent(Some(description)) => just("", Of(Text(description.as_bytes()))),
-        What::NotAsExpected(unmet) => of_unmet(unmet),
-        What::OtherLeaders(other) => of_other_leaders(other),
-        What::Profile(outside) => of_outside(outside),
-        What::Gone => say(" answers no more", &[]),
-        What::NotTaken(not_taken) => of_not_taken(not_taken),
-        What::Unseen(unseen) => of_unseen(unseen),
-        What::NotAsked(clocks) => of_not_asked(*clocks),
-        What::NoMaster(why) => of_masterless(why),
-        What::GrandmasterNotSeen(clock) => just("grandmasterIdentity", Of(Clock(*clock))),
-        What::ParentNotSeen(parent) => just("parentPortIdentity", Of(Port(*parent))),
-        What::ParentNotMaster(parent, why) => of_not_master(*parent, why),
-        What::Steps(steps) => of_steps(steps),
-        What::GrandmasterDiffers(differs) | What::Utc(differs) => of_differs(differs),
-        What::Loop(clocks) => just("clocks", FindingValue::Clocks(clocks.as_slice())),
-        What::PortState(port, stay) => of_state(*port, stay),
-        What::NotLocked(port, unlocked) => of_unlocked(*port, unlocked),
-        What::OffsetFrozen(frozen) => of_frozen(frozen),
-        What::GrandmasterTime(error) => of_time_error(error),
-        What::OffByUtc(how) => of_off_by_utc(how),
-        What::Offset(offset) => of_offset(offset),
-        What::Delay(delay) => say(" meanDelay {} ns", &[("meanDelay", Exact(*delay))]),
-        What::LinkDelay(port, delay) => of_link_delay(*port, *delay),
-        What::Intervals(port, seldom) => of_seldom(*port, seldom),
-        What::DelayMechanism(port, other) => of_mechanism(*port, other),
-        What::GrandmasterDoubtful(doubtful) => of_doubtful(doubtful),
-        What::Degraded(degraded) => just("clockQuality", Of(Quality(degraded.quality))),
-        What::NotTraceable(untraceable) => of_untraceable(untraceable),
-        What::UtcInvalid(offset) => of_utc_invalid(*offset),
-        What::UtcOffset(offset) => of_utc_offset(offset),
-        What::LeapFalse(leap) => of_false_leap(leap),
-        What::Leap(leap) => of_leap(leap),
-        What::BetterClock(better) => of_better(better),
-        What::Incomplete(missing) => of_missing(missing),
-        What::OutOfReach(hops) => of_reach(*hops),
-        What::GrandmasterChanged(change) => of_grandmaster_change(change),
-        What::Changed(port, change) => say("{} {} {}, then {}", &of_change(*port, change)),
-        What::IdentityTwice(twice) => of_twice(twice),
+        What::Unexpected | What::TwoGrandmasters | What::Absent(None) => to.take(&say("", &[])),
+        What::Absent(Some(description)) => to.take(&just("", Of(Text(description.as_bytes())))),
+        What::NotAsExpected(unmet) => to.take(&of_unmet(unmet)),
+        What::OtherLeaders(other) => to.take(&of_other_leaders(other)),
+        What::Profile(outside) => to.take(&of_outside(outside)),
+        What::Gone => to.take(&say(" answers no more", &[])),
+        What::NotTaken(not_taken) => to.take(&of_not_taken(not_taken)),
+        What::Unseen(unseen) => to.take(&of_unseen(*unseen)),
+        What::NotAsked(clocks) => to.take(&of_not_asked(*clocks)),
+        What::NoMaster(why) => to.take(&of_masterless(why)),
+        What::GrandmasterNotSeen(clock) => to.take(&just("grandmasterIdentity", Of(Clock(*clock)))),
+        What::ParentNotSeen(parent) => to.take(&just("parentPortIdentity", Of(Port(*parent)))),
+        What::ParentNotMaster(parent, why) => to.take(&of_not_master(*parent, why)),
+        What::Steps(steps) => to.take(&of_steps(steps)),
+        What::GrandmasterDiffers(differs) | What::Utc(differs) => to.take(&of_differs(differs)),
+        What::Loop(clocks) => to.take(&just("clocks", FindingValue::Clocks(clocks.as_slice()))),
+        What::PortState(port, stay) => to.take(&of_state(*port, stay)),
+        What::NotLocked(port, unlocked) => to.take(&of_unlocked(*port, unlocked)),
+        What::OffsetFrozen(frozen) => to.take(&of_frozen(frozen)),
+        What::GrandmasterTime(error) => to.take(&of_time_error(error)),
+        What::OffByUtc(how) => to.take(&of_off_by_utc(how)),
+        What::Offset(offset) => to.take(&of_offset(offset)),
+        What::Delay(delay) => to.take(&say(" meanDelay {} ns", &[("meanDelay", Exact(*delay))])),
+        What::LinkDelay(port, delay) => to.take(&of_link_delay(*port, *delay)),
+        What::Intervals(port, seldom) => to.take(&of_seldom(*port, seldom)),
+        What::DelayMechanism(port, other) => to.take(&of_mechanism(*port, other)),
+        What::GrandmasterDoubtful(doubtful) => to.take(&of_doubtful(doubtful)),
+        What::Degraded(degraded) => to.take(&just("clockQuality", Of(Quality(degraded.quality)))),
+        What::NotTraceable(untraceable) => to.take(&of_untraceable(untraceable)),
+        What::UtcInvalid(offset) => to.take(&of_utc_invalid(*offset)),
+        What::UtcOffset(offset) => to.take(&of_utc_offset(offset)),
+        What::LeapFalse(leap) => to.take(&of_false_leap(leap)),
+        What::Leap(leap) => to.take(&of_leap(leap)),
+        What::BetterClock(better) => to.take(&of_better(better)),
+        What::Incomplete(missing) => to.take(&of_missing(missing)),
+        What::OutOfReach(hops) => to.take(&of_reach(*hops)),
+        What::GrandmasterChanged(change) => to.take(&of_grandmaster_change(change)),
+        What::Changed(port, change) => {
+            to.take(&say("{} {} {}, then {}", &of_change(*port, change)))
+        }
+        What::IdentityTwice(twice) => to.take(&of_twice(twice)),
     }
 }
 
-fn of_link_delay<'a>(port: u16, delay: i64) -> FindingValues<'a> {
+fn of_link_delay(port: u16, delay: i64) -> FindingValues<'static> {
     let values = [
         ("portNumber", number(port)),
         ("meanLinkDelay", Exact(delay)),
@@ -156,7 +165,7 @@ fn of_link_delay<'a>(port: u16, delay: i64) -> FindingValues<'a> {
     say(" port {} meanLinkDelay {} ns", &values)
 }
 
-fn of_unmet<'a>(unmet: &'a Unmet<'_>) -> FindingValues<'a> {
+fn of_unmet<'a>(unmet: &Unmet<'a>) -> FindingValues<'a> {
     let wanted = unmet.wanted;
     let value = match unmet.value {
         Some(value) => Words(Phrase::Said(value, wanted)),
@@ -171,7 +180,7 @@ fn of_unmet<'a>(unmet: &'a Unmet<'_>) -> FindingValues<'a> {
 }
 
 /// The clocks that lead, if there are any, and those that are wanted.
-fn of_other_leaders<'a>(other: &'a OtherLeaders<'_>) -> FindingValues<'a> {
+fn of_other_leaders<'a>(other: &'a OtherLeaders<'a>) -> FindingValues<'a> {
     let value = if other.leading.is_empty() {
         Null("none")
     } else {
@@ -186,7 +195,7 @@ fn of_other_leaders<'a>(other: &'a OtherLeaders<'_>) -> FindingValues<'a> {
     say(" {} {}, not {}", &values)
 }
 
-fn of_outside(outside: &Outside) -> FindingValues<'_> {
+fn of_outside(outside: &Outside) -> FindingValues<'static> {
     let values = [
         ("portNumber", AtPort(outside.port)),
         ("member", Name(outside.member.name())),
@@ -197,7 +206,7 @@ fn of_outside(outside: &Outside) -> FindingValues<'_> {
 }
 
 /// Why the answers of a clock were not taken, by one of them.
-fn of_not_taken<'a>(not_taken: &'a NotTaken<'_>) -> FindingValues<'a> {
+fn of_not_taken<'a>(not_taken: &NotTaken<'a>) -> FindingValues<'a> {
     let address = match not_taken.from {
         Some(from) => Name(from),
         None => Null("an address"),
@@ -227,20 +236,20 @@ fn of_not_taken<'a>(not_taken: &'a NotTaken<'_>) -> FindingValues<'a> {
     say(words, &values)
 }
 
-fn of_unseen(unseen: &Absence) -> FindingValues<'_> {
+fn of_unseen(unseen: Absence) -> FindingValues<'static> {
     match unseen {
         Absence::OwnHost => say(
             " is the host that asks: at an interface it does not hear itself; ask its Unix socket too",
             &[],
         ),
         Absence::Mute(kind) => {
-            let message = ("message", Name(kind_name(*kind)));
+            let message = ("message", Name(kind_name(kind)));
             say(" sends {}, and answers no management message", &[message])
         }
     }
 }
 
-fn of_not_asked<'a>(clocks: usize) -> FindingValues<'a> {
+fn of_not_asked(clocks: usize) -> FindingValues<'static> {
     let words = if clocks == 1 {
         " {} clock sends here"
     } else {
@@ -249,7 +258,7 @@ fn of_not_asked<'a>(clocks: usize) -> FindingValues<'a> {
     say(words, &[("clocks", Of(Unsigned(clocks as u64)))])
 }
 
-fn of_masterless(why: &Masterless) -> FindingValues<'_> {
+fn of_masterless(why: &Masterless) -> FindingValues<'static> {
     match why {
         Masterless::SlaveOnly => say(
             " {}, and its own grandmaster",
@@ -269,7 +278,7 @@ fn of_masterless(why: &Masterless) -> FindingValues<'_> {
     }
 }
 
-fn of_not_master(parent: PortIdentity, why: &NoMaster) -> FindingValues<'_> {
+fn of_not_master(parent: PortIdentity, why: &NoMaster) -> FindingValues<'static> {
     let parent = ("parentPortIdentity", Of(Port(parent)));
     match why {
         NoMaster::NoPort => say(
@@ -283,7 +292,7 @@ fn of_not_master(parent: PortIdentity, why: &NoMaster) -> FindingValues<'_> {
     }
 }
 
-fn of_steps(steps: &Steps) -> FindingValues<'_> {
+fn of_steps(steps: &Steps) -> FindingValues<'static> {
     let own = ("stepsRemoved", number(steps.steps));
     match steps.parent {
         Some(parent) => say(
@@ -297,12 +306,12 @@ fn of_steps(steps: &Steps) -> FindingValues<'_> {
     }
 }
 
-fn number<'a>(number: u16) -> FindingValue<'a> {
+fn number(number: u16) -> FindingValue<'static> {
     Of(Unsigned(number as u64))
 }
 
 /// The member, its value, and what the other clock has.
-fn of_differs(differs: &Differs) -> FindingValues<'_> {
+fn of_differs(differs: &Differs) -> FindingValues<'static> {
     let values = [
         ("member", Name(differs.member.name())),
         ("value", Of(differs.own)),
@@ -312,7 +321,7 @@ fn of_differs(differs: &Differs) -> FindingValues<'_> {
 }
 
 /// The member, the value of the earlier answer, and that of the later.
-fn of_change<'a>(port: Option<u16>, change: &'a Change<'_>) -> [NamedValue<'a>; 4] {
+fn of_change<'a>(port: Option<u16>, change: &Change<'a>) -> [NamedValue<'a>; 4] {
     [
         (if port.is_some() { "portNumber" } else { "" }, AtPort(port)),
         ("member", Name(change.member.name())),
@@ -322,7 +331,7 @@ fn of_change<'a>(port: Option<u16>, change: &'a Change<'_>) -> [NamedValue<'a>; 
 }
 
 /// The state of a port, and for how many whole seconds it is known to be in it or in another on its way.
-fn of_state(port: u16, stay: &Stay) -> FindingValues<'_> {
+fn of_state(port: u16, stay: &Stay) -> FindingValues<'static> {
     let state = ("portState", Name(state_name(stay.state)));
     let words = if stay.time.is_some() {
         " port {} {} for {} s"
@@ -339,14 +348,14 @@ fn of_state(port: u16, stay: &Stay) -> FindingValues<'_> {
     )
 }
 
-fn seconds<'a>(time: Option<u64>) -> FindingValue<'a> {
+fn seconds(time: Option<u64>) -> FindingValue<'static> {
     match time {
         Some(time) => Of(Unsigned(whole_seconds(time))),
         None => Null(""),
     }
 }
 
-fn of_unlocked(port: u16, unlocked: &Unlocked) -> FindingValues<'_> {
+fn of_unlocked(port: u16, unlocked: &Unlocked) -> FindingValues<'static> {
     let words = match (unlocked.time, unlocked.offset) {
         (Some(_), Some(_)) => " port {} {} for {} s, offset {} ns",
         (Some(_), None) => " port {} {} for {} s",
@@ -366,7 +375,7 @@ fn of_unlocked(port: u16, unlocked: &Unlocked) -> FindingValues<'_> {
     say(words, &values)
 }
 
-fn of_frozen(frozen: &FrozenOffset) -> FindingValues<'_> {
+fn of_frozen(frozen: &FrozenOffset) -> FindingValues<'static> {
     let values = [
         ("offsetFromMaster", Exact(frozen.offset)),
         ("answers", Of(Unsigned(frozen.answers as u64))),
@@ -400,7 +409,7 @@ fn of_time_error(error: &TimeError) -> FindingValues<'_> {
     say(words, &values)
 }
 
-fn amount_of(error: &TimeError) -> (FindingValue<'_>, &'static str) {
+fn amount_of(error: &TimeError) -> (FindingValue<'static>, &'static str) {
     let tenths = (u64::from(error.nanoseconds) + 50_000_000) / 100_000_000;
     let tenths = error.seconds.saturating_mul(10).saturating_add(tenths);
     match error.seconds / 86_400 {
@@ -411,7 +420,7 @@ fn amount_of(error: &TimeError) -> (FindingValue<'_>, &'static str) {
 }
 
 /// The clock's own offset, or those of all clocks that follow it.
-fn of_offset(offset: &TooFarOff) -> FindingValues<'_> {
+fn of_offset(offset: &TooFarOff) -> FindingValues<'static> {
     match offset {
         TooFarOff::Own(offset) => say(
             " offsetFromMaster {} ns",
@@ -465,7 +474,7 @@ fn of_origin(origin: &Origin) -> FindingValues<'_> {
 }
 
 /// What the port says of its intervals, and the interval of the port that it follows.
-fn of_seldom(port: u16, seldom: &Seldom) -> FindingValues<'_> {
+fn of_seldom(port: u16, seldom: &Seldom) -> FindingValues<'static> {
     let values = [
         ("portNumber", number(port)),
         (
@@ -485,7 +494,7 @@ fn of_seldom(port: u16, seldom: &Seldom) -> FindingValues<'_> {
 }
 
 /// How a port measures the delay, and how the port that it follows does.
-fn of_mechanism(port: u16, other: &OtherMechanism) -> FindingValues<'_> {
+fn of_mechanism(port: u16, other: &OtherMechanism) -> FindingValues<'static> {
     let values = [
         ("portNumber", number(port)),
         ("delayMechanism", Of(other.own)),
@@ -495,7 +504,7 @@ fn of_mechanism(port: u16, other: &OtherMechanism) -> FindingValues<'_> {
     say(" port {} {}, and {} has {}", &values)
 }
 
-fn of_doubtful(doubtful: &Doubtful) -> FindingValues<'_> {
+fn of_doubtful(doubtful: &Doubtful) -> FindingValues<'static> {
     let quality = doubtful.quality;
     let source = MemberValue::Named(Enumeration::TimeSource, doubtful.time_source);
     let values = [
@@ -507,7 +516,7 @@ fn of_doubtful(doubtful: &Doubtful) -> FindingValues<'_> {
     say(" class {}, accuracy {}, {}", &values)
 }
 
-fn of_untraceable(untraceable: &Untraceable) -> FindingValues<'_> {
+fn of_untraceable(untraceable: &Untraceable) -> FindingValues<'static> {
     let values = [
         ("clockClass", number(untraceable.class as u16)),
         ("timeTraceable", Of(Flag(untraceable.time))),
@@ -519,13 +528,13 @@ fn of_untraceable(untraceable: &Untraceable) -> FindingValues<'_> {
     )
 }
 
-fn of_utc_invalid<'a>(offset: i16) -> FindingValues<'a> {
+fn of_utc_invalid(offset: i16) -> FindingValues<'static> {
     let offset = ("currentUtcOffset", Of(Signed(offset as i64)));
     let valid = ("currentUtcOffsetValid", Of(Flag(false)));
     say(" currentUtcOffset {} is not valid", &[offset, valid])
 }
 
-fn of_utc_offset(offset: &WrongOffset) -> FindingValues<'_> {
+fn of_utc_offset(offset: &WrongOffset) -> FindingValues<'static> {
     let said = ("currentUtcOffset", Of(Signed(offset.said as i64)));
     let is = ("expected", Of(Signed(offset.is as i64)));
     say(
@@ -534,7 +543,7 @@ fn of_utc_offset(offset: &WrongOffset) -> FindingValues<'_> {
     )
 }
 
-fn of_leap(leap: &Leap) -> FindingValues<'_> {
+fn of_leap(leap: &Leap) -> FindingValues<'static> {
     let words = if leap.is_unusual {
         " {} at the end of this day in UTC, and so far none came but in June and December"
     } else {
@@ -550,7 +559,7 @@ fn of_leap(leap: &Leap) -> FindingValues<'_> {
 }
 
 /// The leap second that is announced, and the day, unless both are.
-fn of_false_leap(leap: &FalseLeap) -> FindingValues<'_> {
+fn of_false_leap(leap: &FalseLeap) -> FindingValues<'static> {
     let (words, date) = match leap.date {
         Some(date) => (
             " {}, and {} is not the last day of a month",
@@ -572,7 +581,7 @@ fn of_false_leap(leap: &FalseLeap) -> FindingValues<'_> {
 }
 
 /// The clock of a better class, with what it says of itself.
-fn of_better(better: &Better) -> FindingValues<'_> {
+fn of_better(better: &Better) -> FindingValues<'static> {
     let values = [
         ("", number(better.class as u16)),
         ("better", Of(Clock(better.clock))),
@@ -591,12 +600,12 @@ fn of_missing(missing: &Missing) -> FindingValues<'_> {
     say("{}{}", &[("managementIds", ids), ("portNumbers", ports)])
 }
 
-fn of_reach<'a>(hops: u8) -> FindingValues<'a> {
+fn of_reach(hops: u8) -> FindingValues<'static> {
     let words = " the last of {} boundary hops: clocks behind it are not asked";
     say(words, &[("boundaryHops", number(hops as u16))])
 }
 
-fn of_grandmaster_change(change: &GrandmasterChange) -> FindingValues<'_> {
+fn of_grandmaster_change(change: &GrandmasterChange) -> FindingValues<'static> {
     let words = if change.clocks == 1 {
         " {}, then {}; {} clock"
     } else {
@@ -611,7 +620,7 @@ fn of_grandmaster_change(change: &GrandmasterChange) -> FindingValues<'_> {
 }
 
 /// Two addresses, two offsets, or members, and all that is known beside what the words begin with.
-fn of_twice<'a>(twice: &'a Twice<'_>) -> FindingValues<'a> {
+fn of_twice<'a>(twice: &'a Twice<'a>) -> FindingValues<'a> {
     let addresses = match &twice.addresses {
         Some(two) => ("addresses", FindingValue::Addresses(two)),
         None => ("addresses", Null("")),

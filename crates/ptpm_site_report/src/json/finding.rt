@@ -4,13 +4,12 @@ use crate::finding::found_line::FoundLine;
 use crate::finding::phrases::{clock_of, clock_of_cause};
 use crate::finding::remarks::Remark;
 use crate::finding::report::key_of;
-use crate::finding::values::{FindingValue, values_of};
+use crate::finding::values::{FindingValue, FindingValues, TakeValues, hand_values};
 use crate::json::members::{Members, identity_value, text_value};
 use crate::look::Look;
 use ptpm_causes::Cause;
 use ptpm_codec::ClockIdentity;
 use ptpm_message_json::member_value;
-use ptpm_site::judging::finding::What;
 use ptpm_site::judging::twice::OtherMember;
 use ptpm_site::reading::asked::Asked;
 use serde_json::{Value, json};
@@ -20,7 +19,7 @@ use std::alloc::{AllocError, Global};
 pub(crate) fn found_object(
     alloc: Global,
     look: &Look<'_, '_>,
-    remark: &Remark<'_, '_>,
+    remark: &Remark<'_>,
 ) -> Result<FoundLine, AllocError> {
     let described = look.picture.site.description(remark.source());
     Ok(FoundLine {
@@ -36,7 +35,7 @@ pub(crate) fn found_object(
 /// A finding: its clock with its description, its name, from which other it follows, and its values.
 fn finding_value(
     alloc: Global,
-    remark: &Remark<'_, '_>,
+    remark: &Remark<'_>,
     described: Option<&str>,
 ) -> Result<Value, AllocError> {
     let mut members = Members::none(alloc);
@@ -47,22 +46,25 @@ fn finding_value(
     }
     members.put_text("finding", remark.named.kind.name())?;
     members.put_text("severity", remark.severity.word())?;
-    put_values(&mut members, &remark.finding.what)?;
+    hand_values(&remark.finding.what, &mut members)?;
     Ok(members.object())
 }
 
-fn put_values(members: &mut Members, what: &What<'_>) -> Result<(), AllocError> {
-    let values = values_of(what);
-    for (name, value) in &values {
-        if !name.is_empty() {
-            members.put_value(name, value_of(members.alloc, value)?)?;
+impl TakeValues for Members {
+    type Error = AllocError;
+
+    fn take(&mut self, values: &FindingValues<'_>) -> Result<(), AllocError> {
+        for (name, value) in values {
+            if !name.is_empty() {
+                self.put_value(name, value_of(self.alloc, value)?)?;
+            }
         }
+        Ok(())
     }
-    Ok(())
 }
 
 /// Puts the domain and the clock.
-fn put_place(members: &mut Members, remark: &Remark<'_, '_>) -> Result<(), AllocError> {
+fn put_place(members: &mut Members, remark: &Remark<'_>) -> Result<(), AllocError> {
     let source = remark.source();
     members.put_number("domainNumber", source.domain.number() as i64)?;
     members.put_number("sdoId", source.domain.sdo() as i64)?;

@@ -83,10 +83,7 @@ fn domains_of(alloc: Global, look: &Look<'_, '_>) -> Result<BTreeSet<Domain>, Al
     Ok(domains)
 }
 
-fn add_domains(
-    domains: &mut BTreeSet<Domain>,
-    remarks: &[Remark<'_, '_>],
-) -> Result<(), AllocError> {
+fn add_domains(domains: &mut BTreeSet<Domain>, remarks: &[Remark<'_>]) -> Result<(), AllocError> {
     for remark in remarks {
         let _ = domains.insert(remark.source().domain)?;
     }
@@ -152,11 +149,7 @@ fn print_counts_of_findings<O: Write>(
 }
 
 /// Prints how many findings of each name there are among those of a domain, also if there is none.
-fn print_counts<O: Write>(
-    domain: Domain,
-    remarks: &[Remark<'_, '_>],
-    out: &mut O,
-) -> io::Result<()> {
+fn print_counts<O: Write>(domain: Domain, remarks: &[Remark<'_>], out: &mut O) -> io::Result<()> {
     let labels = OfDomain(domain);
     for kind in Kind::ALL {
         let (name, severity) = (kind.name(), kind.row().severity.word());
@@ -194,7 +187,7 @@ fn clocks_in(picture: &Picture<'_>, domain: Domain) -> usize {
 }
 
 /// Those of a domain. They are in the order of their domains.
-fn found_in<'a, 'b, 'c>(remarks: &'a [Remark<'b, 'c>], domain: Domain) -> &'a [Remark<'b, 'c>] {
+fn found_in<'a, 'b>(remarks: &'a [Remark<'b>], domain: Domain) -> &'a [Remark<'b>] {
     let from = remarks.partition_point(|remark| remark.source().domain < domain);
     let to = remarks.partition_point(|remark| remark.source().domain <= domain);
     remarks.get(from..to).unwrap_or(&[])

@@ -83,7 +83,7 @@ fn row_line(alloc: Global, look: &Look<'_, '_>, row: &Row<'_>) -> Result<Line, A
 fn add_unseen(
     alloc: Global,
     look: &Look<'_, '_>,
-    remarks: &[Remark<'_, '_>],
+    remarks: &[Remark<'_>],
     lines: &mut Vec<Line>,
 ) -> Result<(), AllocError> {
     for remark in remarks {
@@ -98,7 +98,7 @@ fn add_unseen(
 fn unseen_line(
     alloc: Global,
     look: &Look<'_, '_>,
-    remark: &Remark<'_, '_>,
+    remark: &Remark<'_>,
 ) -> Result<Line, AllocError> {
     let mut line = match clock_of(remark.finding) {
         Some(_) => silent_line(alloc, look, remark.source())?,
@@ -119,7 +119,7 @@ fn silent_line(alloc: Global, look: &Look<'_, '_>, source: Source) -> Result<Lin
     Ok(line)
 }
 
-fn drawn(alloc: Global, remark: &Remark<'_, '_>) -> Result<DrawnRemark, AllocError> {
+fn drawn(alloc: Global, remark: &Remark<'_>) -> Result<DrawnRemark, AllocError> {
     let words = format!(in alloc; "{remark}")?;
     let weight = remark.weight;
     Ok(DrawnRemark { weight, words })
@@ -176,7 +176,7 @@ fn drawn_at(
 
 fn add_drawn(
     alloc: Global,
-    remarks: &[Remark<'_, '_>],
+    remarks: &[Remark<'_>],
     all: &mut Vec<DrawnRemark>,
 ) -> Result<(), AllocError> {
     for remark in remarks {
