@@ -15,7 +15,7 @@ pub enum Compared {
 
 impl Compared {
     /// What is wrong if the two differ in a member.
-    fn what(self, differs: Differs) -> What<'static> {
+    fn what<'a>(self, differs: Differs) -> What<'a> {
         match self {
             Compared::Grandmaster => What::GrandmasterDiffers(differs),
             Compared::Time => What::Utc(differs),

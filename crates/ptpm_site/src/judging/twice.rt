@@ -22,9 +22,9 @@ pub struct Twice<'a> {
     pub members: Vec<OtherMember<'a>>,
 }
 
-impl Twice<'_> {
+impl<'a> Twice<'a> {
     /// Two offsets alone.
-    pub fn by_offsets(alloc: Global, offsets: TwoOffsets) -> Twice<'static> {
+    pub fn by_offsets(alloc: Global, offsets: TwoOffsets) -> Twice<'a> {
         Twice {
             addresses: None,
             offsets: Some(offsets),
