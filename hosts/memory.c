@@ -13,7 +13,7 @@
 
 /* A piece lies at a multiple of UNIT, and its size is one. Its two words take UNIT octets on every machine. A clock takes CLOCK
    octets for itself and SLOT for each manager. */
-enum { UNIT = 16, CLOCK = 616, SLOT = 2144 };
+enum { UNIT = 16, CLOCK = 640, SLOT = 2144 };
 
 struct piece {
     size_t size;                /* with these two words; odd if the piece is taken */

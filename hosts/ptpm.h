@@ -68,7 +68,7 @@ enum {
 #endif
 
 /* The most ports that a clock has, and the most managers. */
-enum { PTPM_MOST_PORTS = 64, PTPM_MOST_MANAGERS = 64 };
+enum { PTPM_MOST_PORTS = 64, PTPM_MOST_MANAGERS = 64, PTPM_MOST_IDS = 32 };
 
 /* A clock, at one pointer: with up to eight ports 2,760 octets with one manager, and 34,920 with sixteen (ptpm_clock_start). All
    zeros hold no clock: struct ptpm_clock clock = { 0 }; */
@@ -285,9 +285,9 @@ struct ptpm_question {
     uint16_t number;                    /* sequenceId */
     uint16_t id;                        /* managementId */
     uint16_t port;                      /* portNumber of the target; 0xFFFF is every port */
-    uint16_t size;                      /* of the dataField of a SET; 0 for a GET and a COMMAND */
+    uint16_t size;                      /* of the dataField of a SET or COMMAND; 0 for a GET */
     uint8_t action;                     /* PTPM_GET, PTPM_SET or PTPM_COMMAND */
-    uint8_t octets[130];                /* the dataField of a SET, and zeros after it */
+    uint8_t octets[130];                /* this dataField, and zeros after it */
 };
 
 /* What a device says of a request. Any other kind is refused with PTPM_BAD_SAY. */
@@ -312,6 +312,17 @@ struct ptpm_limit {
     uint16_t id;                        /* managementId */
     uint16_t port;                      /* portNumber; 0xFFFF is every port */
     uint8_t values[32];                 /* ptpm_limit_range writes them. All zeros: no value */
+};
+
+/* An id that the clock lacks and its device has (ptpm_clock_relay): which SETs and COMMANDs of it reach the device. */
+enum { PTPM_OF_CLOCK = 0, PTPM_OF_PORT = 1, PTPM_MAY_SET = 2, PTPM_MAY_COMMAND = 4 };
+struct ptpm_relayed_id {
+    uint16_t id;                        /* managementId: none of the 21 that the clock knows */
+    uint8_t scope;                      /* PTPM_OF_CLOCK or PTPM_OF_PORT */
+    uint8_t actions;                    /* PTPM_MAY_SET, PTPM_MAY_COMMAND, or their sum */
+    uint8_t right;                      /* what a manager needs: rights of ptpm_manager_settings, summed up. 0: none */
+    uint16_t least;                     /* how many octets its dataField has at least */
+    uint16_t most;                      /* and at most: 130 or fewer */
 };
 
 /* A session of a manager, about 1,600 octets at one pointer. All zeros hold no session. */
@@ -549,6 +560,7 @@ PTPM_HAS_SIZE(ptpm_taken, 88);
 PTPM_HAS_SIZE(ptpm_question, 150);
 PTPM_HAS_SIZE(ptpm_say, 1424);
 PTPM_HAS_SIZE(ptpm_limit, 36);
+PTPM_HAS_SIZE(ptpm_relayed_id, 10);
 PTPM_HAS_SIZE(ptpm_session, 16);
 PTPM_HAS_SIZE(ptpm_session_settings, 26);
 PTPM_HAS_SIZE(ptpm_survey, 16);
@@ -725,10 +737,23 @@ __extension__ enum PTPM_FOUR_OCTETS(ptpm_handled) {
     PTPM_NOTHING_UNDER_WAY = 124        /* ptpm_clock_decide */
 };
 
+/* ptpm_clock_relay. After PTPM_TOO_MANY_IDS the ids are judged one after another. */
+__extension__ enum PTPM_FOUR_OCTETS(ptpm_relaying) {
+    PTPM_RELAYING = 0,
+    PTPM_RELAY_NO_CLOCK = PTPM_NO_CLOCK,
+    PTPM_TOO_MANY_IDS = 133,            /* over PTPM_MOST_IDS */
+    PTPM_CLOCK_HAS_ID = 134,            /* the clock knows the id */
+    PTPM_RELAYED_TWICE = 135,
+    PTPM_BAD_SCOPE = 136,
+    PTPM_BAD_ACTIONS = 137,             /* neither PTPM_MAY_SET nor PTPM_MAY_COMMAND, or another action */
+    PTPM_BAD_SIZES = 138,               /* least is over most, or most is over 130 */
+    PTPM_RELAY_NO_MEMORY = PTPM_NO_MEMORY
+};
+
 /* ptpm_clock_ask, _undertake and _under_way. Only the second returns the last two. */
 __extension__ enum PTPM_FOUR_OCTETS(ptpm_asking) {
     PTPM_ASKED_NOTHING = 0,
-    PTPM_ASKED_CHANGE = 29,             /* a new SET or COMMAND of a manager, which the clock itself does not refuse */
+    PTPM_ASKED_CHANGE = 29,             /* a new SET or COMMAND of a manager that nothing refuses before */
     PTPM_ASKED_VALUE = 30,              /* a GET that would be answered, of an id that the clock lacks */
     PTPM_ASKING_NO_CLOCK = PTPM_NO_CLOCK,
     PTPM_ASKING_NO_PORT = PTPM_NO_PORT,
@@ -987,6 +1012,7 @@ PTPM_IS_WIDE(ptpm_journaled);
 PTPM_IS_WIDE(ptpm_rolled);
 PTPM_IS_WIDE(ptpm_asking);
 PTPM_IS_WIDE(ptpm_set_here);
+PTPM_IS_WIDE(ptpm_relaying);
 #undef PTPM_IS_WIDE
 #undef PTPM_FOUR_OCTETS
 
@@ -1016,7 +1042,8 @@ static inline enum ptpm_started ptpm_header_agrees(void) {
         sizeof(struct ptpm_session), sizeof(struct ptpm_session_settings), sizeof(struct ptpm_survey),
         sizeof(struct ptpm_survey_settings), sizeof(struct ptpm_source), sizeof(struct ptpm_passed_on),
         sizeof(struct ptpm_rate), sizeof(struct ptpm_asker), sizeof(struct ptpm_asker_settings), sizeof(struct ptpm_handed),
-        sizeof(struct ptpm_question), sizeof(struct ptpm_say), sizeof(struct ptpm_limit), sizeof(struct ptpm_taken),
+        sizeof(struct ptpm_question), sizeof(struct ptpm_say), sizeof(struct ptpm_limit), sizeof(struct ptpm_relayed_id),
+        sizeof(struct ptpm_taken),
         sizeof(struct ptpm_journal), sizeof(struct ptpm_journal_record), sizeof(struct ptpm_rollout), sizeof(struct ptpm_rollout_event),
         sizeof(struct ptpm_rollout_action)
     };
@@ -1037,7 +1064,7 @@ void ptpm_port_defaults(struct ptpm_port_settings *settings);
    Takes:   1 to PTPM_MOST_PORTS ports, and 0 to PTPM_MOST_MANAGERS managers. The first port is port 1. All port_count settings are
             read, even if they are too many.
    Returns: PTPM_STARTED; or why not, and then the handle holds nothing.
-   Memory:  the clock, until it is stopped: 616 octets, and 2,144 for each manager. A clock of over eight ports takes 16 more for each
+   Memory:  the clock, until it is stopped: 640 octets, and 2,144 for each manager. A clock of over eight ports takes 16 more for each
             port, and 81 for each port of each manager. And a copy of the ports until the call returns.
    Caller:  stops the clock. */
 enum ptpm_started ptpm_clock_start(struct ptpm_clock *clock, const struct ptpm_clock_settings *settings,
@@ -1074,6 +1101,22 @@ enum ptpm_handled ptpm_clock_handle(struct ptpm_clock *clock, uint16_t port, con
             port. After PTPM_ANSWERED_NEW it does what it does after ptpm_clock_handle. */
 enum ptpm_handled ptpm_clock_handle_shared(struct ptpm_clock *clock, uint16_t port, uint8_t *datagram, size_t size,
                                            struct ptpm_answer *answers, size_t room, struct ptpm_shared *shared);
+
+/* Gives a clock the ids that its device has and the clock lacks, instead of those that it has. A SET or COMMAND of such an id then
+   reaches the device, as one of the 21 ids does (ptpm_clock_ask). First it is judged by these rules, in their order. If it breaks one,
+   that error is the answer, and is kept:
+   - NOT_SETABLE of a SET, and NOT_SUPPORTED of a COMMAND, that is not among the actions;
+   - NOT_SUPPORTED without the right;
+   - WRONG_LENGTH outside least..most;
+   - RESPONSE_TOO_BIG for every port of an id of a port.
+   If the device agrees, a COMMAND is acknowledged, and a SET is answered with its octets. If it gives octets, a SET is answered with
+   these. The data sets stay. The answer comes from the port at which the request came in.
+   A GET needs no such id. ptpm_clock_handle, and a request of the owner or of a stranger, do not read them.
+   Takes:   id_count ids, PTPM_MOST_IDS at most. 0 takes them away.
+   Returns: PTPM_RELAYING; or why not, and then nothing changes. PTPM_NO_CLOCK also for a clock that saves (ptpm_clock_saving).
+   Memory:  10 octets for each id, until the clock is stopped.
+   Caller:  calls it after the start or the restore, before ptpm_clock_saving and the first datagram. The ids are in no image. */
+enum ptpm_relaying ptpm_clock_relay(struct ptpm_clock *clock, const struct ptpm_relayed_id *ids, size_t id_count);
 
 /* Says what a datagram would have the device do, if it came in now at this port. Nothing changes. Between this call and
    ptpm_clock_take anything may happen: that call judges the datagram again.

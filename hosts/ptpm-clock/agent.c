@@ -30,7 +30,7 @@ enum {
 
 static struct ptpm_clock clock_held;
 
-void start_clock(void) {
+static void start_held_clock(void) {
     struct ptpm_port_settings settings[PORTS];
     if (restore_clock(&clock_held)) return;
     size_t count = clock_ports();
@@ -38,6 +38,14 @@ void start_clock(void) {
     enum ptpm_started answer = ptpm_clock_start(&clock_held, &options->settings, settings, count, options->managers,
                                                 options->manager_count);
     if (answer == PTPM_STARTED) return;
+    say("it does not start: %s", answer_name(answer));
+    exit(1);
+}
+
+void start_clock(void) {
+    start_held_clock();
+    enum ptpm_relaying answer = ptpm_clock_relay(&clock_held, options->relayed, options->relayed_count);
+    if (answer == PTPM_RELAYING) return;
     say("it does not start: %s", answer_name(answer));
     exit(1);
 }
@@ -126,8 +134,11 @@ static struct ptpm_sent *free_places(void) {
     return places_to_send();
 }
 
-/* The port at which a datagram is handed in. A GET of a port's value is handed in at that port, whose answer it then has. */
-static inline uint16_t handed_in_at(const struct heard *heard) { return options->value_count > 0 ? port_asked(heard) : ingress_of(heard); }
+/* The port at which a datagram is handed in. A request of an id that only a port of the device has is handed in at that port, whose answer
+   it then has. */
+static inline uint16_t handed_in_at(const struct heard *heard) {
+    return options->value_count + options->relayed_count > 0 ? port_asked(heard) : ingress_of(heard);
+}
 
 /* A message to a program that asked on the Unix socket goes back there. Any other goes out with the round. Who asked an earlier run asks
    again. How many messages were not taken. */
@@ -181,6 +192,7 @@ static unsigned long take_turn(struct heard *heard, const struct ptpm_say *say) 
     lower_hops(heard);
     if (has_ptp4l && !learn_value(heard)) return 1;
     struct ptpm_sent *places = free_places();
+    bool is_of_change = say != NULL;
     if (options->value_count > 0 && say == NULL) say = value_to_give(&clock_held, heard);
     if (has_ptp4l && say == NULL) say = learned_to_give(&clock_held, heard);
     enum ptpm_handled answer = ptpm_clock_take(&clock_held, handed_in_at(heard), heard->octets, heard->size, say != NULL ? say : &nothing,
@@ -192,8 +204,8 @@ static unsigned long take_turn(struct heard *heard, const struct ptpm_say *say) 
     if (options->limits.is_passed_on_unread && taken.count == 0) {
         taken.count = ptpm_clock_transit(&clock_held, ingress_of(heard), heard->octets, heard->size, places, TURN);
     }
-    if (say != NULL && say->kind == PTPM_GIVES) taken.count = answer_from_ports(&clock_held, heard, places, (size_t)taken.count);
-    else if (say != NULL) tell_not_made(answer);
+    if (is_of_change) tell_not_made(answer);
+    else if (say != NULL) taken.count = answer_from_ports(&clock_held, heard, places, (size_t)taken.count);
     return hand_on(heard, answer, places, &taken);
 }
 
@@ -208,7 +220,7 @@ static unsigned long end_change(struct heard *heard, const struct ptpm_say *say)
 }
 
 static bool is_asked(const struct heard *held, struct ptpm_question *asked) {
-    return ptpm_clock_ask(&clock_held, ingress_of(held), held->octets, held->size, asked) == PTPM_ASKED_CHANGE;
+    return ptpm_clock_ask(&clock_held, handed_in_at(held), held->octets, held->size, asked) == PTPM_ASKED_CHANGE;
 }
 
 /* A manager's request. The device is asked about a change, which waits if its program is to be asked. Nothing else of its manager
@@ -268,6 +280,7 @@ static bool take_decided(void) {
     const struct ptpm_say *say;
     if (ptpm_clock_free(&clock_held) < ptpm_clock_most_sent(&clock_held)) return false;
     struct heard *change = take_change(&say);
+    if (change != NULL && say != NULL && say->kind == PTPM_AGREES && options->value_count > 0) say = value_by_now(change, say);
     if (change != NULL) count_dropped((is_under_way() ? end_change(change, say) : take_turn(change, say)) + send_round());
     return change != NULL;
 }
@@ -277,7 +290,7 @@ static void ask_for(struct heard *change, struct ptpm_question *asked) {
     if (!may_ask(asked)) return;
     lower_hops(change);
     if (options->state == NULL) ask_program(asked);
-    else ptpm_clock_undertake(&clock_held, ingress_of(change), change->octets, change->size, asked);
+    else ptpm_clock_undertake(&clock_held, handed_in_at(change), change->octets, change->size, asked);
 }
 
 /* Sees to the change that is next, if none is under way. By now the clock, or a limit, may refuse it. */

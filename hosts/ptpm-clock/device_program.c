@@ -212,7 +212,7 @@ static size_t put_members(char *words, size_t size, const struct ptpm_question *
 
 bool start_run(const struct ptpm_question *asked, bool is_look) {
     char words[MOST_WORD_OCTETS];
-    const char *name = id_name(asked->id);
+    const char *name = read_id_name(asked->id);
     if (beside < 0) return false;
     size_t size = put_word(words, 0, "%s", options->device_program);
     if (is_look) size = put_word(words, size, "look");

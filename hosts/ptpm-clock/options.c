@@ -27,7 +27,7 @@ enum { SECOND = 1000, HOPS_AT_FIRST = 8, RATE_AT_FIRST = 1000, MANAGER_RATE_AT_F
 /* Options without a letter of their own. */
 enum {
     VERSION = 256, HOPS, RATE, MANAGER_RATE, NO_FORWARD, TRANSIT, ANY_SOURCE, TTL_SECURITY, USER, UNIX_GROUP, UNIX_MODE, OWNER, NO_FILTER, LIMITS,
-    ASK, ASK_TIME, GIVE, PTP4L, DIVERTED, PTP4L_RULES
+    ASK, ASK_TIME, GIVE, RELAY, PTP4L, DIVERTED, PTP4L_RULES
 };
 
 static struct options given;
@@ -37,12 +37,13 @@ static const struct option names[] = {
     ALONE("ipv6", '6'), ALONE("ethernet", '2'), TAKES("hops", HOPS), TAKES("rate", RATE), TAKES("manager-rate", MANAGER_RATE),
     ALONE("no-forward", NO_FORWARD), ALONE("transit", TRANSIT), ALONE("any-source", ANY_SOURCE), ALONE("ttl-security", TTL_SECURITY),
     TAKES("user", USER), TAKES("unix-group", UNIX_GROUP), TAKES("unix-mode", UNIX_MODE), TAKES("owner", OWNER), TAKES("limits", LIMITS),
-    TAKES("ask", ASK), TAKES("ask-time", ASK_TIME), TAKES("give", GIVE), TAKES("ptp4l", PTP4L), TAKES("diverted", DIVERTED),
+    TAKES("ask", ASK), TAKES("ask-time", ASK_TIME), TAKES("give", GIVE), TAKES("relay", RELAY), TAKES("ptp4l", PTP4L),
+    TAKES("diverted", DIVERTED),
     ALONE("ptp4l-rules", PTP4L_RULES), ALONE("no-filter", NO_FILTER), TAKES("state", 's'), ALONE("help", 'h'), ALONE("version", VERSION),
     { NULL, 0, NULL, 0 },
 };
 
-static const char help[] =
+static const char help_text[] =
     "ptpm-clock [OPTION].. IDENTITY INTERFACE..\n"
     "ptpm-clock [OPTION].. -u PATH IDENTITY [INTERFACE..]\n"
     "ptpm-clock [--diverted PORT] --ptp4l-rules\n"
@@ -82,6 +83,11 @@ static const char help[] =
     "  --ask-time SECONDS  how long PROGRAM may run (10)\n"
     "  --give ID FILE      the octets of FILE answer a GET of ID, which the clock itself lacks. ID is for example\n"
     "                      CLOCK_DESCRIPTION, or 2014/2 for port 2. FILE is read at each GET\n"
+    "  --relay ID,clock|port,set|command|set+command[,LEAST..MOST]\n"
+    "                      PROGRAM is asked for changes of ID too, which the clock itself lacks. Its dataField has LEAST\n"
+    "                      to MOST octets (0..130). A SET is answered with the octets of --give if ID has a file\n";
+
+static const char help_end[] =
     "  --ptp4l PATH        answers for the ptp4l with Unix socket PATH, and asks that ptp4l at most once for each change\n"
     "  --diverted PORT     the UDP port to which a firewall diverts management messages for the ptp4l (10320). It is\n"
     "                      320 if nothing is diverted, since the ptp4l itself ignores these messages\n"
@@ -194,17 +200,26 @@ static const char *program_path(void) {
     return optarg;
 }
 
+/* The id of these octets of an option, which the clock lacks. */
+static uint16_t id_of_device(const char *option, size_t size) {
+    char name[PTPM_MOST_NAME + 2];
+    snprintf(name, sizeof name, "%.*s", (int)size, optarg);
+    long id = read_id_named(name);
+    if (id < 0) refuse_command_line("%s %s: it takes a managementId, such as CLOCK_DESCRIPTION", option, optarg);
+    if (id_name((uint16_t)id) != NULL) refuse_command_line("%s %s: the clock has a value of its own", option, optarg);
+    if (id >= IDS_OF_MAKERS && read_id_name((uint16_t)id) != NULL) {
+        refuse_command_line("%s %s: it is an id of ptp4l: take another one", option, optarg);
+    }
+    return (uint16_t)id;
+}
+
 /* The id of a value, of the clock or of a port. */
 static struct value value_named(void) {
-    char name[PTPM_MOST_NAME + 2];
+    uint16_t id = id_of_device("--give", strcspn(optarg, "/"));
     const char *slash = strchr(optarg, '/');
-    snprintf(name, sizeof name, "%.*s", (int)(slash == NULL ? strlen(optarg) : (size_t)(slash - optarg)), optarg);
-    long id = read_id_named(name), port = slash == NULL ? 0 : decimal(slash + 1, PORTS);
-    if (id < 0) refuse_command_line("--give %s: it takes a managementId, such as CLOCK_DESCRIPTION", optarg);
-    if (id_name((uint16_t)id) != NULL) refuse_command_line("--give %s: the clock has a value of its own", optarg);
-    if (id >= IDS_OF_MAKERS && read_id_name((uint16_t)id) != NULL) refuse_command_line("--give %s: it is an id of ptp4l: take another one", optarg);
+    long port = slash == NULL ? 0 : decimal(slash + 1, PORTS);
     if (slash != NULL && port < 1) refuse_command_line("--give %s: a port has a number from 1 to %d", optarg, PORTS);
-    return (struct value){ .id = (uint16_t)id, .port = (uint16_t)port };
+    return (struct value){ .id = id, .port = (uint16_t)port };
 }
 
 /* An id and the file of its value, which are two words. */
@@ -219,6 +234,38 @@ static void take_value(char *const *rest) {
     }
     value.path = rest[optind++];
     given.values[given.value_count++] = value;
+}
+
+_Noreturn static void refuse_relay(void) {
+    refuse_command_line("--relay %s: it takes for example c010,clock,set,2..8, or 0005,clock,command,2..2", optarg);
+}
+
+/* The words between the commas of --relay: after the id its scope, its actions, and how many octets it has. */
+static void take_relayed(void) {
+    static const char *const all_actions[] = { [PTPM_MAY_SET] = "set", [PTPM_MAY_COMMAND] = "command", [PTPM_MAY_SET | PTPM_MAY_COMMAND] = "set+command" };
+    char text[LINE], *rest = text;
+    snprintf(text, sizeof text, "%s", optarg);
+    size_t size = strlen(strsep(&rest, ","));
+    struct ptpm_relayed_id id = { .id = id_of_device("--relay", size), .most = sizeof ((struct ptpm_question *)0)->octets };
+    const char *scope = strsep(&rest, ","), *actions = strsep(&rest, ","), *least = strsep(&rest, ".");
+    if (scope == NULL || actions == NULL) refuse_relay();
+    id.scope = strcmp(scope, "port") == 0 ? PTPM_OF_PORT : PTPM_OF_CLOCK;
+    if (id.scope == PTPM_OF_CLOCK && strcmp(scope, "clock") != 0) refuse_relay();
+    for (uint8_t one = 0; one < sizeof all_actions / sizeof *all_actions; one++) {
+        if (all_actions[one] != NULL && strcmp(actions, all_actions[one]) == 0) id.actions = one;
+    }
+    if (id.actions == 0) refuse_relay();
+    if (least != NULL) {
+        long from = decimal(least, id.most), to = rest != NULL && *rest == '.' ? decimal(rest + 1, id.most) : -1;
+        if (from < 0 || to < from) refuse_relay();
+        id.least = (uint16_t)from;
+        id.most = (uint16_t)to;
+    }
+    if (given.relayed_count == PTPM_MOST_IDS) refuse_command_line("--relay: %d ids at most", PTPM_MOST_IDS);
+    for (size_t i = 0; i < given.relayed_count; i++) {
+        if (given.relayed[i].id == id.id) refuse_command_line("--relay %s: the id is given twice", optarg);
+    }
+    given.relayed[given.relayed_count++] = id;
 }
 
 /* Options of what the host is to do. */
@@ -238,6 +285,7 @@ static void take_limit(int option) {
     case NO_FILTER: given.privileges.is_unfiltered = true; break;
     case LIMITS: given.limits_file = optarg; break;
     case ASK: given.device_program = program_path(); break;
+    case RELAY: take_relayed(); break;
     case PTP4L: given.ptp4l = socket_path("--ptp4l"); break;
     case DIVERTED: given.diverted_port = port_diverted_to(); break;
     case PTP4L_RULES: given.is_asked_for_rules = true; break;
@@ -264,7 +312,7 @@ static void take_option(int option, char *const *words) {
     case 'm':
         if (given.manager_count <= MANAGERS) given.managers[given.manager_count++] = read_manager(optarg);
         break;
-    case 'h': exit(fputs(help, stdout) < 0 || fflush(stdout) != 0);
+    case 'h': exit(fputs(help_text, stdout) < 0 || fputs(help_end, stdout) < 0 || fflush(stdout) != 0);
     case VERSION: exit(puts("ptpm-clock " PTPM_VERSION) < 0 || fflush(stdout) != 0);
     default: take_limit(option);
     }
@@ -312,6 +360,7 @@ static void refuse_alone(void) {
     if (options->device_program == NULL && options->device_seconds != ASK_TIME_AT_FIRST) {
         refuse_command_line("--ask-time: its program is missing: --ask PROGRAM");
     }
+    if (options->device_program == NULL && options->relayed_count > 0) refuse_command_line("--relay: its program is missing: --ask PROGRAM");
 }
 
 static void refuse_port(void) {

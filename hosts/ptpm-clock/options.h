@@ -34,6 +34,8 @@ struct options {
     uint16_t diverted_port;             /* the UDP port to which management messages are diverted then */
     struct value values[VALUES];
     size_t value_count;
+    struct ptpm_relayed_id relayed[PTPM_MOST_IDS];      /* ids that the program is asked to set or command */
+    size_t relayed_count;
     bool is_asked_for_rules;            /* it prints rules of the firewall, and ends */
     const char *source;                 /* what the clock observes: a file, a pipe, or NULL */
     bool is_verbose;                    /* a line for each datagram */

@@ -16,13 +16,18 @@ static bool is_told[VALUES];            /* that the file of this value has none 
 static struct { uint16_t port; struct ptpm_say say; } said[PORTS];
 static size_t said_count;
 
-/* Whether a datagram is a GET of this value. */
-static bool is_asked(const struct heard *heard, const struct value *value) {
-    bool is_get = heard->size >= LEAST_MESSAGE && (heard->octets[ACTION_AT] & LOWER_HALF) == PTPM_GET;
-    if (!is_get || number_at(heard->octets + ID_AT) != value->id) return false;
+static bool is_action(const struct heard *heard, uint8_t action) {
+    return heard->size >= LEAST_MESSAGE && (heard->octets[ACTION_AT] & LOWER_HALF) == action;
+}
+
+/* Whether a request names this value. */
+static bool is_named(const struct heard *heard, const struct value *value) {
+    if (number_at(heard->octets + ID_AT) != value->id) return false;
     uint16_t port = number_at(heard->octets + TARGET_PORT_AT);
     return value->port == 0 || port == EVERY_PORT || port == value->port;
 }
+
+static bool is_asked(const struct heard *heard, const struct value *value) { return is_action(heard, PTPM_GET) && is_named(heard, value); }
 
 /* Reads what a file has, as far as there is room. Why it can't, or NULL. */
 static const char *read_file(const char *path, uint8_t *octets, size_t room, size_t *size) {
@@ -83,7 +88,29 @@ const struct ptpm_say *value_to_give(const struct ptpm_clock *clock, struct hear
     return said_count > 0 ? &said[0].say : NULL;
 }
 
+/* Whether it is a SET or COMMAND of an id of --relay that ports have. */
+static bool is_relayed_to_port(const struct heard *heard) {
+    if (!is_action(heard, PTPM_SET) && !is_action(heard, PTPM_COMMAND)) return false;
+    for (size_t place = 0; place < options->relayed_count; place++) {
+        const struct ptpm_relayed_id *id = &options->relayed[place];
+        if (id->id == number_at(heard->octets + ID_AT)) return id->scope == PTPM_OF_PORT;
+    }
+    return false;
+}
+
+const struct ptpm_say *value_by_now(const struct heard *change, const struct ptpm_say *say) {
+    static struct ptpm_say now;
+    for (size_t place = 0; place < options->value_count; place++) {
+        const struct value *value = &options->values[place];
+        if (is_action(change, PTPM_SET) && is_named(change, value) && read_value(value->path, &now) == NULL) return &now;
+    }
+    return say;
+}
+
 uint16_t port_asked(const struct heard *heard) {
+    uint16_t port = number_at(heard->octets + TARGET_PORT_AT);
+    bool is_of_port = is_relayed_to_port(heard) && port >= 1 && port <= clock_ports();
+    if (is_of_port && memcmp(heard->octets + TARGET_AT, options->settings.identity, 8) == 0) return port;
     for (size_t place = 0; place < options->value_count; place++) {
         const struct value *value = &options->values[place];
         bool is_here = is_asked(heard, value) && value->port == number_at(heard->octets + TARGET_PORT_AT);

@@ -20,7 +20,7 @@ from .clock import Changed, Clock, Handled
 from .data_sets import (
     ClockQuality, CurrentDataSet, DefaultDataSet, ParentDataSet, PortDataSet, TimeInterval, TimePropertiesDataSet,
 )
-from .device import Asked, ChangeRefused, Gives, Limit, Objection, Say
+from .device import Asked, ChangeRefused, Gives, Limit, Objection, RelayedId, Say
 from .identity import Identity, PortIdentity
 from .ids import Action, ManagementId, error_name, id_name, id_of
 from .members import data_field, members
@@ -47,7 +47,7 @@ __all__ = [
     "HandleAnswer", "Handled", "id_name", "id_of", "Identity", "Lack", "Limit", "ManagementId", "Manager", "members",
     "newest_image", "NoAnswer", "Objection", "ObservedClock", "ObservedGrandmaster", "ObservedPort", "OpenApplyError",
     "ParentDataSet", "PassedOn", "PortDataSet", "PortIdentity", "PortMembers", "PortSettings", "PortState", "PtpmError", "Rate",
-    "read_site", "Report", "Requests", "Rights", "Rollout", "Saved", "SavingClock", "Say", "sealed", "Session", "SessionAnswer",
+    "read_site", "RelayedId", "Report", "Requests", "Rights", "Rollout", "Saved", "SavingClock", "Say", "sealed", "Session", "SessionAnswer",
     "SessionFile", "SessionFileError", "SessionSettings", "Site", "site", "SiteClock", "SiteError", "Survey", "survey",
     "SURVEY_PORT", "SurveyAnswer", "SurveySettings", "TimeInterval", "TimePropertiesDataSet", "TimeSource", "Transport",
     "UdpTransport", "UnixTransport", "unsealed", "usual_path",

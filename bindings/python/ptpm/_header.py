@@ -16,10 +16,11 @@ if sizeof(c_void_p) != 8 or sys.byteorder != "little":
 # tools/bindings -u writes all that follows from ptpm.h.
 
 PTPM_VERSION = "0.1.0"; PTPM_VERSION_NUMBER = 100
-PTPM_MOST_PORTS = 64; PTPM_MOST_MANAGERS = 64
+PTPM_MOST_PORTS = 64; PTPM_MOST_MANAGERS = 64; PTPM_MOST_IDS = 32
 PTPM_DELAY_E2E = 1; PTPM_DELAY_P2P = 2; PTPM_DELAY_NONE = 0xFE
 PTPM_CLOCK_SET = 1; PTPM_PORT_SET = 2; PTPM_PORT_COMMAND = 4
 PTPM_AGREES = 0; PTPM_OBJECTS = 1; PTPM_GIVES = 2
+PTPM_OF_CLOCK = 0; PTPM_OF_PORT = 1; PTPM_MAY_SET = 2; PTPM_MAY_COMMAND = 4
 PTPM_NOTHING = 0; PTPM_NOTE_BEGUN = 1; PTPM_SAVE_IT = 2; PTPM_SEND_IT = 3; PTPM_SEND_READ = 4; PTPM_WAIT = 5
 PTPM_NOTE_ANSWER = 6; PTPM_FAILED = 7
 PTPM_RECORD_HEAD = 1; PTPM_RECORD_STEP = 2; PTPM_RECORD_BEGUN = 3; PTPM_RECORD_NOT_BEGUN = 4; PTPM_RECORD_LET_GO = 5
@@ -65,6 +66,8 @@ PTPM_BAD_LEAP61 = 87; PTPM_BAD_UTC_VALID = 89; PTPM_BAD_PTP_TIMESCALE = 90; PTPM
 PTPM_BAD_FREQUENCY_TRACEABLE = 92; PTPM_BAD_TIME_SOURCE = 93; PTPM_BAD_LOG_MIN_DELAY_REQ = 95; PTPM_BAD_PEER_DELAY = 96
 PTPM_OWN_MESSAGE = 2; PTPM_NOT_ADDRESSED = 3; PTPM_NOT_A_REQUEST = 4; PTPM_ANSWERED_NEW = 5; PTPM_ANSWERED_REPEAT = 6
 PTPM_DROPPED_OLD = 7; PTPM_DROPPED_CONFLICT = 8; PTPM_ANSWERED_UNNUMBERED = 9; PTPM_BAD_SAY = 121; PTPM_NOTHING_UNDER_WAY = 124
+PTPM_RELAYING = 0; PTPM_TOO_MANY_IDS = 133; PTPM_CLOCK_HAS_ID = 134; PTPM_RELAYED_TWICE = 135; PTPM_BAD_SCOPE = 136
+PTPM_BAD_ACTIONS = 137; PTPM_BAD_SIZES = 138
 PTPM_ASKED_CHANGE = 29; PTPM_ASKED_VALUE = 30
 PTPM_SET_HERE = 0
 PTPM_OBSERVED = 0
@@ -246,6 +249,11 @@ class ptpm_limit(Structure):
     _fields_ = [("id", c_uint16), ("port", c_uint16), ("values", c_uint8 * 32)]
 
 
+class ptpm_relayed_id(Structure):
+    _fields_ = [("id", c_uint16), ("scope", c_uint8), ("actions", c_uint8), ("right", c_uint8), ("least", c_uint16),
+        ("most", c_uint16)]
+
+
 class ptpm_session(Structure):
     _fields_ = [("at", c_void_p), ("live", c_bool), ("restored", c_bool)]
 
@@ -324,6 +332,7 @@ CALLS: Dict[str, Tuple[Any, List[Any]]] = {
         POINTER(c_size_t)]),
     "ptpm_clock_handle_shared": (c_uint32, [POINTER(ptpm_clock), c_uint16, POINTER(c_uint8), c_size_t, POINTER(ptpm_answer),
         c_size_t, POINTER(ptpm_shared)]),
+    "ptpm_clock_relay": (c_uint32, [POINTER(ptpm_clock), POINTER(ptpm_relayed_id), c_size_t]),
     "ptpm_clock_ask": (c_uint32, [POINTER(ptpm_clock), c_uint16, c_char_p, c_size_t, POINTER(ptpm_question)]),
     "ptpm_clock_take": (c_uint32, [POINTER(ptpm_clock), c_uint16, c_char_p, c_size_t, POINTER(ptpm_say), c_uint8,
         POINTER(ptpm_sent), c_size_t, POINTER(ptpm_taken)]),
@@ -427,5 +436,5 @@ STRUCTS: List[Type[Structure]] = [
     ptpm_clock, ptpm_clock_settings, ptpm_port_settings, ptpm_observed_clock, ptpm_observed_port, ptpm_manager_settings,
     ptpm_sent, ptpm_answer, ptpm_shared, ptpm_changed, ptpm_session, ptpm_session_settings, ptpm_survey, ptpm_survey_settings,
     ptpm_source, ptpm_passed_on, ptpm_rate, ptpm_asker, ptpm_asker_settings, ptpm_handed, ptpm_question, ptpm_say, ptpm_limit,
-    ptpm_taken, ptpm_journal, ptpm_journal_record, ptpm_rollout, ptpm_rollout_event, ptpm_rollout_action
+    ptpm_relayed_id, ptpm_taken, ptpm_journal, ptpm_journal_record, ptpm_rollout, ptpm_rollout_event, ptpm_rollout_action
 ]

@@ -12,7 +12,7 @@ from ._header import ClockMembers, PortMembers
 from ._library import Handle, library, octets_of
 from .answers import HandleAnswer, done, judged, written
 from .data_sets import AnyDataSet, id_of_data_set, of_members
-from .device import Asked, ChangeRefused, Say, say_of
+from .device import Asked, ChangeRefused, RelayedId, Say, say_of
 from .identity import Identity, IdentityLike
 from .ids import Action, IdLike, id_of
 from .members import members
@@ -126,6 +126,11 @@ class Clock(Handle):
         """The clock's image: what a host saves before it sends the messages of a turn that is ANSWERED_NEW. Managers and their rights
         are not in it."""
         return written(self._call, library.ptpm_clock_image, self._image_room)
+
+    def relay(self, ids: Sequence[RelayedId]) -> None:
+        """Gives the clock the ids that its device has and the clock lacks, instead of those that it has. A SET or COMMAND of such an id
+        then reaches the device (ask), if its row permits it. They are in no image: give them again after a restore."""
+        done(self._call(library.ptpm_clock_relay, _array(header.ptpm_relayed_id, [row.as_in_c() for row in ids]), len(ids)))
 
     def ask(self, port: int, octets: bytes) -> Optional[Asked]:
         """What a datagram would ask of the device, if it came in now at this port. The device is asked to carry out a new SET or

@@ -12,7 +12,7 @@ from ._library import library, octets_of
 from .answers import PtpmError
 from .identity import Identity, PortIdentity
 from .ids import Action, IdLike, error_name, id_of
-from .settings import write_number
+from .settings import Rights, write_number
 
 
 class ChangeRefused(PtpmError):
@@ -92,6 +92,27 @@ class Asked:
         question.manager_port = self.manager.port
         question.octets[: len(self.octets)] = self.octets
         return question
+
+
+@dataclass(frozen=True)
+class RelayedId:
+    """An id that the clock lacks and its device has. `actions` are those that reach the device: SET, COMMAND or both. `sizes` are
+    the least and the most octets of its dataField, 130 at most. A request of an id of a port names one port."""
+
+    id: IdLike
+    actions: AbstractSet[Action]
+    sizes: Tuple[int, int] = (0, 130)
+    right: Rights = Rights(0)
+    is_of_port: bool = False
+
+    def as_in_c(self) -> Any:
+        """The row as the library has it."""
+        bits = {Action.SET: header.PTPM_MAY_SET, Action.COMMAND: header.PTPM_MAY_COMMAND}
+        row = header.ptpm_relayed_id(id=id_of(self.id), actions=sum(bits.get(action, 1) for action in self.actions))
+        row.scope = header.PTPM_OF_PORT if self.is_of_port else header.PTPM_OF_CLOCK
+        for name, number in (("right", self.right), ("least", self.sizes[0]), ("most", self.sizes[1])):
+            write_number(row, name, number)
+        return row
 
 
 @dataclass(frozen=True)

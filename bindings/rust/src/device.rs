@@ -2,11 +2,12 @@
 
 use crate::changed::Changed;
 use crate::clock::{Clock, Turn};
-use crate::error::{judged, Error};
+use crate::error::{done, judged, Error};
 use crate::id::{ManagementErrorId, ManagementId};
 use crate::identity::{Identity, PortIdentity};
 use crate::outbox::Outbox;
 use crate::session::Action;
+use crate::settings::Rights;
 use crate::sys;
 use core::fmt;
 use core::mem::MaybeUninit;
@@ -248,6 +249,38 @@ impl<'a> Taken<'a> {
     }
 }
 
+/// An id that the clock lacks and its device has, and which SETs and COMMANDs of it reach the device.
+#[derive(Clone, Debug, PartialEq, Eq)]
+pub struct RelayedId {
+    /// managementId: none that the clock knows.
+    pub id: ManagementId,
+    /// Whether it is of a port. A request of it then names one port.
+    pub is_of_port: bool,
+    /// Whether a manager may SET it.
+    pub may_set: bool,
+    /// Whether a manager may send a COMMAND of it.
+    pub may_command: bool,
+    /// The rights that a manager needs.
+    pub right: Rights,
+    /// How many octets its dataField has: 130 at most.
+    pub sizes: RangeInclusive<u16>,
+}
+
+impl RelayedId {
+    fn as_in_c(&self) -> sys::ptpm_relayed_id {
+        let set = if self.may_set { sys::PTPM_MAY_SET } else { 0 };
+        let command = if self.may_command { sys::PTPM_MAY_COMMAND } else { 0 };
+        sys::ptpm_relayed_id {
+            id: self.id.0,
+            scope: u8::from(self.is_of_port),
+            actions: (set | command) as u8,
+            right: self.right.octet(),
+            least: *self.sizes.start(),
+            most: *self.sizes.end(),
+        }
+    }
+}
+
 impl Clock {
     /// What a datagram would have the device do, if it came in now at this port. The device is asked to carry out a new SET or
     /// COMMAND of a manager, which the clock itself does not refuse. Or it is asked for the value of an id that the clock lacks,
@@ -259,6 +292,24 @@ impl Clock {
     pub fn ask(&self, port: u16, datagram: &[u8]) -> Result<Option<Asked>, Error> {
         // SAFETY: the datagram may be read, and the question may be written.
         Asked::by(|question| unsafe { sys::ptpm_clock_ask(self.handle_ref(), port, datagram.as_ptr(), datagram.len(), question) })
+    }
+
+    /// Gives the clock the ids that its device has and the clock lacks, instead of those that it has. A SET or COMMAND of such an id then
+    /// reaches the device, if its row permits it. They are in no image: give them again after a restore.
+    ///
+    /// # Errors
+    ///
+    /// [`Error::TooManyIds`], and then the first reason of the first id that has one: [`Error::ClockHasId`], [`Error::RelayedTwice`],
+    /// [`Error::BadActions`] or [`Error::BadSizes`]. [`Error::NoMemory`] comes last.
+    pub fn relay(&mut self, ids: &[RelayedId]) -> Result<(), Error> {
+        let blank = sys::ptpm_relayed_id { id: 0, scope: 0, actions: 0, right: 0, least: 0, most: 0 };
+        let mut rows = [blank; sys::PTPM_MOST_IDS + 1];
+        for (row, id) in rows.iter_mut().zip(ids) {
+            *row = id.as_in_c();
+        }
+        let count = ids.len().min(rows.len());
+        // SAFETY: the rows may be read.
+        done(unsafe { sys::ptpm_clock_relay(self.handle_mut(), rows.as_ptr(), count) })
     }
 
     /// Does what [`Clock::handle`] does, with what the device says, and reports which members of the data sets changed. There are

@@ -107,6 +107,12 @@ errors! {
     NoRollout = PTPM_NO_ROLLOUT, "the handle holds no rollout";
     HasEnded = PTPM_HAS_ENDED, "the journal has an end";
     OutOfTurn = PTPM_OUT_OF_TURN, "the event answers no action that is due";
+    TooManyIds = PTPM_TOO_MANY_IDS, "a device has 32 ids of its own at most";
+    ClockHasId = PTPM_CLOCK_HAS_ID, "the clock itself knows the id";
+    RelayedTwice = PTPM_RELAYED_TWICE, "the id is given twice";
+    BadScope = PTPM_BAD_SCOPE, "an id is of the clock or of a port";
+    BadActions = PTPM_BAD_ACTIONS, "an id takes SET, COMMAND or both";
+    BadSizes = PTPM_BAD_SIZES, "the least size is over the most, or the most is over 130";
     BadSay = PTPM_BAD_SAY, "what a device says is of no kind, has an error that no device gives, or gives what is not a dataField";
 }
 

@@ -91,7 +91,7 @@ pub use clock::{clock_image_octets, Clock, Ports, Turn, CLOCK_IMAGE_OCTETS, MOST
 #[cfg(feature = "alloc")]
 pub use data_field::NoField;
 pub use data_sets::{ClockQuality, CurrentDataSet, DataSet, DefaultDataSet, ParentDataSet, PortDataSet, TimePropertiesDataSet};
-pub use device::{Asked, Limit, Objection, Say, Taken};
+pub use device::{Asked, Limit, Objection, RelayedId, Say, Taken};
 pub use error::Error;
 pub use id::{ManagementErrorId, ManagementId, UnknownId};
 pub use identity::{Identity, NoIdentity, PortIdentity};
@@ -103,7 +103,7 @@ pub use outbox::{Messages, Outbox};
 pub use passing::{PassedOn, Rate};
 pub use refusals::{
     AskError, AskerRestoreError, BeginError, GiveUpError, HandleError, JournalError, ObserveError, ParseError, QuestionError,
-    ReadError, ReceiveError, ReportError, RestoreError, ResumeError, RetuneError, RolloutError, SaveError, SendError, SetError,
+    ReadError, ReceiveError, RelayError, ReportError, RestoreError, ResumeError, RetuneError, RolloutError, SaveError, SendError, SetError,
     StartError, SurveyError,
 };
 #[cfg(feature = "alloc")]

@@ -64,6 +64,8 @@ refusals! {
     HandleError { NoClock NoPort NoRoom NoMemory Unsaved BadSay UnderWay NothingUnderWay }
     /// Why a device is not asked (`enum ptpm_asking`).
     QuestionError { NoClock NoPort Unsaved UnderWay }
+    /// Why a clock's device gets no ids of its own (`enum ptpm_relaying`).
+    RelayError { NoClock TooManyIds ClockHasId RelayedTwice BadScope BadActions BadSizes NoMemory }
     /// Why nothing is set at the device itself (`enum ptpm_set_here`).
     SetError { NoClock NoPort NotPermitted BadValue UnderWay }
     /// Why nothing is observed (`enum ptpm_observed`).

@@ -267,6 +267,11 @@ impl Rights {
     pub const PORT_COMMAND: Self = Self(sys::PTPM_PORT_COMMAND);
     /// All three.
     pub const ALL: Self = Self(sys::PTPM_CLOCK_SET | sys::PTPM_PORT_SET | sys::PTPM_PORT_COMMAND);
+
+    /// The octet that the library has.
+    pub(crate) const fn octet(self) -> u8 {
+        self.0
+    }
 }
 
 impl BitOr for Rights {

@@ -31,7 +31,7 @@ pub const PTPM_ID_LOG_SYNC_INTERVAL: u16 = 0x200b; pub const PTPM_ID_VERSION_NUM
 pub const PTPM_ID_ENABLE_PORT: u16 = 0x200d; pub const PTPM_ID_DISABLE_PORT: u16 = 0x200e;
 pub const PTPM_ID_CLOCK_ACCURACY: u16 = 0x2010; pub const PTPM_ID_UTC_PROPERTIES: u16 = 0x2011;
 pub const PTPM_ID_DELAY_MECHANISM: u16 = 0x6000; pub const PTPM_ID_LOG_MIN_PDELAY_REQ_INTERVAL: u16 = 0x6001;
-pub const PTPM_MOST_PORTS: usize = 64; pub const PTPM_MOST_MANAGERS: usize = 64;
+pub const PTPM_MOST_PORTS: usize = 64; pub const PTPM_MOST_MANAGERS: usize = 64; pub const PTPM_MOST_IDS: usize = 32;
 pub const PTPM_STATE_INITIALIZING: u8 = 1; pub const PTPM_STATE_FAULTY: u8 = 2; pub const PTPM_STATE_DISABLED: u8 = 3;
 pub const PTPM_STATE_LISTENING: u8 = 4; pub const PTPM_STATE_PRE_MASTER: u8 = 5; pub const PTPM_STATE_MASTER: u8 = 6;
 pub const PTPM_STATE_PASSIVE: u8 = 7; pub const PTPM_STATE_UNCALIBRATED: u8 = 8; pub const PTPM_STATE_SLAVE: u8 = 9;
@@ -63,6 +63,8 @@ pub const PTPM_CHANGED_DELAY_MECHANISM: u8 = 1 << 6; pub const PTPM_CHANGED_LOG_
 pub const PTPM_AGREES: u8 = 0; pub const PTPM_OBJECTS: u8 = 1; pub const PTPM_GIVES: u8 = 2;
 pub const PTPM_ERROR_WRONG_VALUE: u16 = 4; pub const PTPM_ERROR_NOT_SETABLE: u16 = 5; pub const PTPM_ERROR_NOT_SUPPORTED: u16 = 6;
 pub const PTPM_ERROR_GENERAL_ERROR: u16 = 0xFFFE;
+pub const PTPM_OF_CLOCK: u32 = 0; pub const PTPM_OF_PORT: u32 = 1; pub const PTPM_MAY_SET: u32 = 2;
+pub const PTPM_MAY_COMMAND: u32 = 4;
 pub const PTPM_GET: u8 = 0; pub const PTPM_SET: u8 = 1; pub const PTPM_COMMAND: u8 = 3;
 pub const PTPM_NOTHING: u32 = 0; pub const PTPM_NOTE_BEGUN: u32 = 1; pub const PTPM_SAVE_IT: u32 = 2;
 pub const PTPM_SEND_IT: u32 = 3; pub const PTPM_SEND_READ: u32 = 4; pub const PTPM_WAIT: u32 = 5;
@@ -144,6 +146,10 @@ pub const PTPM_HANDLE_BAD_TLV_TYPE: u32 = 21; pub const PTPM_HANDLE_BAD_TLV_LENG
 pub const PTPM_HANDLE_BAD_TEXT: u32 = 23; pub const PTPM_HANDLE_NO_CLOCK: u32 = 32; pub const PTPM_HANDLE_NO_PORT: u32 = 33;
 pub const PTPM_HANDLE_NO_ROOM: u32 = 34; pub const PTPM_HANDLE_NO_MEMORY: u32 = 35; pub const PTPM_HANDLE_UNSAVED: u32 = 118;
 pub const PTPM_BAD_SAY: u32 = 121; pub const PTPM_HANDLE_UNDER_WAY: u32 = 123; pub const PTPM_NOTHING_UNDER_WAY: u32 = 124;
+pub type ptpm_relaying = u32; pub const PTPM_RELAYING: u32 = 0; pub const PTPM_RELAY_NO_CLOCK: u32 = 32;
+pub const PTPM_TOO_MANY_IDS: u32 = 133; pub const PTPM_CLOCK_HAS_ID: u32 = 134; pub const PTPM_RELAYED_TWICE: u32 = 135;
+pub const PTPM_BAD_SCOPE: u32 = 136; pub const PTPM_BAD_ACTIONS: u32 = 137; pub const PTPM_BAD_SIZES: u32 = 138;
+pub const PTPM_RELAY_NO_MEMORY: u32 = 35;
 pub type ptpm_asking = u32; pub const PTPM_ASKED_NOTHING: u32 = 0; pub const PTPM_ASKED_CHANGE: u32 = 29;
 pub const PTPM_ASKED_VALUE: u32 = 30; pub const PTPM_ASKING_NO_CLOCK: u32 = 32; pub const PTPM_ASKING_NO_PORT: u32 = 33;
 pub const PTPM_ASKING_UNSAVED: u32 = 118; pub const PTPM_ASKING_UNDER_WAY: u32 = 123;
@@ -277,6 +283,8 @@ pub struct ptpm_question { pub manager: [u8; 8], pub manager_port: u16, pub numb
 pub struct ptpm_say { pub error: u16, pub size: u16, pub kind: u8, pub octets: [u8; 1418] }
 #[repr(C)] #[derive(Clone, Copy)]
 pub struct ptpm_limit { pub id: u16, pub port: u16, pub values: [u8; 32] }
+#[repr(C)] #[derive(Clone, Copy)]
+pub struct ptpm_relayed_id { pub id: u16, pub scope: u8, pub actions: u8, pub right: u8, pub least: u16, pub most: u16 }
 #[repr(C)]
 pub struct ptpm_session { pub at: *mut c_void, pub live: bool, pub restored: bool }
 #[repr(C)] #[derive(Clone, Copy)]
@@ -360,6 +368,7 @@ extern "C" {
         room: usize, count: *mut usize) -> ptpm_handled;
     pub fn ptpm_clock_handle_shared(clock: *mut ptpm_clock, port: u16, datagram: *mut u8, size: usize, answers: *mut ptpm_answer,
         room: usize, shared: *mut ptpm_shared) -> ptpm_handled;
+    pub fn ptpm_clock_relay(clock: *mut ptpm_clock, ids: *const ptpm_relayed_id, id_count: usize) -> ptpm_relaying;
     pub fn ptpm_clock_ask(clock: *const ptpm_clock, port: u16, datagram: *const u8, size: usize,
         asked: *mut ptpm_question) -> ptpm_asking;
     pub fn ptpm_clock_take(clock: *mut ptpm_clock, port: u16, datagram: *const u8, size: usize, say: *const ptpm_say,
@@ -476,13 +485,13 @@ extern "C" {
     pub fn ptpm_field_takes(id: u16, place: usize, text: *mut c_char, room: usize) -> usize;
 }
 
-const SIZES: [usize; 29] = [
+const SIZES: [usize; 30] = [
     size_of::<ptpm_clock>(), size_of::<ptpm_clock_settings>(), size_of::<ptpm_port_settings>(), size_of::<ptpm_observed_clock>(),
     size_of::<ptpm_observed_port>(), size_of::<ptpm_manager_settings>(), size_of::<ptpm_sent>(), size_of::<ptpm_answer>(),
     size_of::<ptpm_shared>(), size_of::<ptpm_changed>(), size_of::<ptpm_session>(), size_of::<ptpm_session_settings>(),
     size_of::<ptpm_survey>(), size_of::<ptpm_survey_settings>(), size_of::<ptpm_source>(), size_of::<ptpm_passed_on>(),
     size_of::<ptpm_rate>(), size_of::<ptpm_asker>(), size_of::<ptpm_asker_settings>(), size_of::<ptpm_handed>(),
-    size_of::<ptpm_question>(), size_of::<ptpm_say>(), size_of::<ptpm_limit>(), size_of::<ptpm_taken>(),
-    size_of::<ptpm_journal>(), size_of::<ptpm_journal_record>(), size_of::<ptpm_rollout>(), size_of::<ptpm_rollout_event>(),
-    size_of::<ptpm_rollout_action>()
+    size_of::<ptpm_question>(), size_of::<ptpm_say>(), size_of::<ptpm_limit>(), size_of::<ptpm_relayed_id>(),
+    size_of::<ptpm_taken>(), size_of::<ptpm_journal>(), size_of::<ptpm_journal_record>(), size_of::<ptpm_rollout>(),
+    size_of::<ptpm_rollout_event>(), size_of::<ptpm_rollout_action>()
 ];

@@ -89,8 +89,8 @@ pub record IsUndertakenTo (w : SavingClock) (port : ℕ) (datagram : List ℕ) (
   pub called : IsCalledAt w (Handles (Undertakes port datagram)) x
   pub under_way_is : request_under_way x.clock.value.under_way
       ≡ (undertaken (clock_in w.clock.value) (clock_state_in w.clock.value) port datagram).under_way
-  pub waits_is : x.waits ≡ (w.waits || is_some (asked (clock_in w.clock.value) (state_in w.clock.value) datagram))
-  pub others : asked (clock_in w.clock.value) (state_in w.clock.value) datagram ≡ None → x ≡ w
+  pub waits_is : x.waits ≡ (w.waits || is_some (asked (clock_in w.clock.value).rows (clock_in w.clock.value).clock (state_in w.clock.value) datagram))
+  pub others : asked (clock_in w.clock.value).rows (clock_in w.clock.value).clock (state_in w.clock.value) datagram ≡ None → x ≡ w
   pub agent_is : x.clock.value.agent ≡ w.clock.value.agent
   pub free_is : free_places x ≡ free_places w
   pub begun_is : x.is_begun ≡ w.is_begun
@@ -114,7 +114,7 @@ pub record IsDecidedTo (w : SavingClock) (o : says.Say) (number : ℕ) (taken : 
   pub called : IsCalled w (Handles (Decides o)) [] x
   pub number_is : (d : Datagram)
       → request_under_way w.clock.value.under_way ≡ Some d
-      → number ≡ verdict_number (turn_said (clock_in w.clock.value) (state_in w.clock.value) o d.0 d.1).verdict
+      → number ≡ verdict_number (turn_said (clock_in w.clock.value).rows (clock_in w.clock.value).clock (state_in w.clock.value) o d.0 d.1).verdict
   pub changed_is : taken.changed ≡ changed w.clock.value.agent.sets x.clock.value.agent.sets
   pub nothing_is : x.clock.value.under_way ≡ None
   pub waits_is : x.waits ≡ true

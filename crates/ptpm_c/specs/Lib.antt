@@ -12,6 +12,7 @@ pub mod Typed
 pub mod Said
 pub mod Batching
 pub mod Changing
+pub mod Relaying
 pub mod JournalHeld
 pub mod RolloutHeld
 pub mod Sharing

@@ -6,14 +6,13 @@ use Rattle.ptpm_data.specs.Members.{has_port}
 use Rattle.ptpm_agent.specs.Turn.{NumberedRequest, State, Turned, outbox_of}
 use Rattle.ptpm_device.specs.Asking.{asked, wanted}
 use Rattle.ptpm_device.specs.Saying as says
-use Rattle.ptpm_table.specs.Managers.{Clock}
 use Rattle.ptpm_host.specs.declared.clock.HostedClock.{HostedClock}
 use Rattle.ptpm_host.specs.declared.device.Question.{Question}
 use Rattle.ptpm_host.specs.declared.device.Say.{Say}
 use Rattle.ptpm_host.specs.declared.refusal.SaidRefusal.{SaidRefusal}
 use Rattle.ptpm_host.specs.declared.sent.Sent.{Sent}
 use Rattle.ptpm_host.specs.Blanks.{AreBlanked}
-use Rattle.ptpm_host.specs.Clock.{IsWhole, KeepsBehind, clock_in, messages_in, state_in}
+use Rattle.ptpm_host.specs.Clock.{DeviceClock, IsWhole, KeepsBehind, clock_in, messages_in, state_in}
 use Rattle.ptpm_host.specs.Coming.{turn_of}
 use Rattle.ptpm_host.specs.Device.{AsksNothing, IsAsked, IsWanted, said_refusal, say_in}
 use Rattle.ptpm_host.specs.MostSent.{most_sent}
@@ -30,8 +29,8 @@ AsksIn None (Some r) number place = (number ≡ asked_value) × IsWanted r place
 AsksIn (Some r) o number place = (number ≡ asked_change) × IsAsked r place
 
 -- a clock in this state asks this of a datagram
-abbrev pub AsksBy : Clock → State → List ℕ → ℕ → Question → Type 0
-AsksBy c s datagram number place = AsksIn (asked c s datagram) (wanted c s datagram) number place
+abbrev pub AsksBy : DeviceClock → State → List ℕ → ℕ → Question → Type 0
+AsksBy c s datagram number place = AsksIn (asked c.rows c.clock s datagram) (wanted c.clock s datagram) number place
 
 -- ---- what came of a datagram
 

@@ -5,4 +5,4 @@ use Rattle.std.specs.Prelude.{ℕ, List, [], ◌∷◌}
 -- a size, a kind and 1,418 octets. What came of a datagram has two numbers of eight octets, and the members that changed.
 abbrev pub header_sizes : List ℕ
 header_sizes = 16 ∷ 216 ∷ 16 ∷ 88 ∷ 16 ∷ 12 ∷ 1476 ∷ 188 ∷ 24 ∷ 68 ∷ 16 ∷ 26 ∷ 16 ∷ 16 ∷ 10 ∷ 196616 ∷ 24 ∷ 16 ∷ 36 ∷ 24 ∷ 150 ∷ 1424
-    ∷ 36 ∷ 88 ∷ 16 ∷ 48 ∷ 16 ∷ 16 ∷ 12 ∷ []
+    ∷ 36 ∷ 10 ∷ 88 ∷ 16 ∷ 48 ∷ 16 ∷ 16 ∷ 12 ∷ []

@@ -14,7 +14,7 @@ use Rattle.ptpm_c.specs.Held.{clock_held, held}
 
 -- the turn of a clock at a datagram
 abbrev pub turn_of : HostedClock → ℕ → List ℕ → Turned
-turn_of c port datagram = turn (clock_in c) (state_in c) port datagram
+turn_of c port datagram = turn (clock_in c).clock (state_in c) port datagram
 
 -- the number of its verdict is answered, these messages are written into its host's places, and the clock is where it leads
 pub record IsTurnedTo (c : HostedClock) (port : ℕ) (datagram : List ℕ) (number : ℕ) (messages : List (ℕ × List ℕ)) (d : HostedClock) : Type 0 where

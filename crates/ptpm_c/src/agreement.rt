@@ -10,13 +10,13 @@ use crate::sharing::Shared;
 use ptpm_data::ChangedMembers;
 use ptpm_host::{
     AskerSettings, ClockSettings, Handed, Limit, ManagerSettings, OTHER_SIZES, ObservedClock,
-    ObservedPort, PassedOn, PortSettings, Question, Rate, RolloutAction, RolloutEvent, Say, Sent,
-    SentAnswer, SessionSettings, Source, SurveySettings, VERSION_NUMBER,
+    ObservedPort, PassedOn, PortSettings, Question, Rate, RelayedSettings, RolloutAction,
+    RolloutEvent, Say, Sent, SentAnswer, SessionSettings, Source, SurveySettings, VERSION_NUMBER,
 };
 use ptpm_journal::PlainRecord;
 
 /// The sizes of the structs of the header, in its order.
-const SIZES: [usize; 29] = [
+const SIZES: [usize; 30] = [
     size_of::<Handle>(),
     size_of::<ClockSettings>(),
     size_of::<PortSettings>(),
@@ -40,6 +40,7 @@ const SIZES: [usize; 29] = [
     size_of::<Question>(),
     size_of::<Say>(),
     size_of::<Limit>(),
+    size_of::<RelayedSettings>(),
     size_of::<Taken>(),
     size_of::<Handle>(),
     size_of::<PlainRecord>(),

@@ -35,6 +35,7 @@ mod kept;
 mod limits;
 mod names;
 mod network;
+mod relay;
 mod rollout;
 mod saving;
 mod saving_clock;

@@ -3,3 +3,4 @@ pub mod WhenAsked
 pub mod Steps
 pub mod Judged
 pub mod Said
+pub mod RelayedTurns

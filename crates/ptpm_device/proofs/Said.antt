@@ -17,6 +17,7 @@ use Rattle.ptpm_codec.specs.Envelope.{sent_with}
 use Rattle.ptpm_codec.specs.Message.{IsDataField, IsRequestAction, action_of, id_of, reply_action}
 use Rattle.ptpm_codec.specs.Reading.{message_of}
 use Rattle.ptpm_data.specs.ManagementId.{is_of_port, row_of}
+use Rattle.ptpm_data.specs.Refusals.{refusal_of}
 use Rattle.ptpm_data.specs.Replies.{is_get, reply_of}
 use Rattle.ptpm_data.specs.Reply.{ReplyValue, Value}
 use Rattle.ptpm_data.specs.Request.{RequestValue}
@@ -33,12 +34,13 @@ use Rattle.ptpm_agent.specs.Forwarding.{forwarded}
 use Rattle.ptpm_agent.specs.Turn.{Clock, NumberedRequest, State, Turned, judged, kept_reply_of, next_by, numbered_from, reply_by, reply_messages, turn, turn_by}
 use Rattle.ptpm_agent.proofs.Entries.{get-insert_same}
 use Rattle.ptpm_agent.proofs.Turns.{CopyParts, forwarded-copy, judged-copy, new_parts, turn-message}
+use Rattle.ptpm_device.specs.declared.relayed.RelayedId.{RelayedId}
 use Rattle.ptpm_device.specs.Asking.{is_asked, is_lacked, is_new, is_permitted, is_unnumbered, is_wanted_once, wanted_new, wanted_once}
 use Rattle.ptpm_device.specs.Saying.{Gives, Objects, Say, after_reply, given, given_by, reply_given, reply_said, turn_said}
 use Rattle.ptpm_device.proofs.WhenAsked.{WantedParts, not_wanted_new, wanted_once-read, wanted_parts}
 use Rattle.ptpm_device.proofs.Judged.{asked-parts, given_told, is_get-true, lacked_row}
 use Rattle.ptpm_device.proofs.New.{look_at-kept}
-use Rattle.ptpm_device.proofs.Steps.{turn_said-each, turn_said-new}
+use Rattle.ptpm_device.proofs.Steps.{none_of, refusal_in-alone, reply_said-alone, turn_said-each, turn_said-new}
 
 -- ---- what the device is asked about may be kept
 
@@ -57,7 +59,7 @@ value_lacked c s datagram r e =
     ap (λ (q : NumberedRequest). is_lacked q.request) p.same ∙ p.lacked
 
 -- an id that the clock lacks is of no port
-of_no_port : (q : RequestValue) → row_of q.id ≡ None → is_of_port q.id ≡ false
+pub of_no_port : (q : RequestValue) → row_of q.id ≡ None → is_of_port q.id ≡ false
 of_no_port q none = grind arith
 
 not_command : (q : RequestValue) → is_lacked q ≡ true → q.action ≡ actions.Command → ⊥
@@ -160,18 +162,18 @@ own_turn c s ingress datagram v reply read new small =
     ∙ turn-kept c s ingress datagram v reply (forwarded-copy c ingress s.sets datagram v read parts.target) (repeat_kept c s v reply parts small)
 
 -- a call that keeps the device's reply, and then hands the datagram to the clock, against the turn
-turned_replied : (c : Clock) (s : State) (say : Say) (ingress : ℕ) (datagram : List ℕ) (v : Message) (reply : ReplyValue)
+pub turned_replied : (rows : List RelayedId) (c : Clock) (s : State) (say : Say) (ingress : ℕ) (datagram : List ℕ) (v : Message) (reply : ReplyValue)
     (w : Verdict) (out : List (ℕ × List ℕ)) (next : State)
     → message_of datagram ≡ Some v
     → judged c s v ≡ verdicts.AnsweredNew
     → v.number < 65536
-    → reply_said c s.sets v.source (request_of v) say ≡ Some reply
+    → reply_said rows c s.sets v.source (request_of v) say ≡ Some reply
     → IsTurned (turn c (after_reply s (numbered_from v) reply) ingress datagram) w out next
-    → IsTurned (turn_said c s say ingress datagram) verdicts.AnsweredNew out next
-turned_replied c s say ingress datagram v reply w out next read new small said turned =
+    → IsTurned (turn_said rows c s say ingress datagram) verdicts.AnsweredNew out next
+turned_replied rows c s say ingress datagram v reply w out next read new small said turned =
     let t : IsTurned (again c s ingress v reply) w out next =
     subst (λ (u : Turned). IsTurned u w out next) (own_turn c s ingress datagram v reply read new small) turned in
-    subst (λ (u : Turned). IsTurned u verdicts.AnsweredNew out next) (sym (turn_said-new c s say ingress datagram v (Some reply) read new said))
+    subst (λ (u : Turned). IsTurned u verdicts.AnsweredNew out next) (sym (turn_said-new rows c s say ingress datagram v (Some reply) read new said))
     (record {
       verdict_is = refl;
       outbox_is = t.outbox_is;
@@ -179,7 +181,7 @@ turned_replied c s say ingress datagram v reply w out next read new small said t
       entries_are = t.entries_are;
     })
 
-moved_turn : (c after : Clock) (kept from : State) (ingress : ℕ) (datagram : List ℕ) (w : Verdict) (out : List (ℕ × List ℕ)) (next : State)
+pub moved_turn : (c after : Clock) (kept from : State) (ingress : ℕ) (datagram : List ℕ) (w : Verdict) (out : List (ℕ × List ℕ)) (next : State)
     → after ≡ c
     → kept ≡ from
     → IsTurned (turn after kept ingress datagram) w out next
@@ -192,16 +194,18 @@ moved_turn c after kept from ingress datagram w out next clock is turned =
 pub turned_objected : (c : Clock) (s : State) (error : ErrorId) (ingress : ℕ) (datagram : List ℕ) (v : Message)
     (out : List (ℕ × List ℕ)) (next : State)
     → message_of datagram ≡ Some v
-    → is_asked c s v ≡ true
+    → is_asked [] c s v ≡ true
     → out ≡ rendered c.identity (heard_of v) (reply_of (request_of v) (Some error) s.sets) ingress
     → next ≡ after_reply s (numbered_from v) (reply_of (request_of v) (Some error) s.sets)
-    → IsTurned (turn_said c s (Objects error) ingress datagram) verdicts.AnsweredNew out next
+    → IsTurned (turn_said [] c s (Objects error) ingress datagram) verdicts.AnsweredNew out next
 turned_objected c s error ingress datagram v out next read is sent kept =
-    let p = asked-parts c s v is in
+    let p = asked-parts [] c s v is in
     let reply = reply_of (request_of v) (Some error) s.sets in
-    let permitted : is_permitted c v.source (request_of v) ≡ true = and_from _ _ p.1.0 (ap is_none p.1.1) in
+    let none : refusal_of (request_of v) (c.rights v.source) ≡ None = sym (refusal_in-alone (request_of v) (c.rights v.source)) ∙ p.1.1 in
+    let permitted : is_permitted c v.source (request_of v) ≡ true = and_from _ _ p.1.0 (ap is_none none) in
     subst (λ (u : Turned). IsTurned u verdicts.AnsweredNew out next)
-    (sym (turn_said-new c s (Objects error) ingress datagram v (Some reply) read p.0 (cond-true _ _ _ permitted)))
+    (sym (turn_said-new [] c s (Objects error) ingress datagram v (Some reply) read p.0
+    (reply_said-alone c s.sets v.source (request_of v) (Objects error) ∙ cond-true _ _ _ permitted)))
     (record {
       verdict_is = refl;
       outbox_is = sent;
@@ -211,24 +215,20 @@ turned_objected c s error ingress datagram v out next read is sent kept =
 
 -- ---- a value that is kept, and then the clock's own turn
 
-none_of : {A : Type 0} (o : Option A) → is_some o ≡ false → o ≡ None
-none_of None e = refl
-none_of (Some a) e = absurd (true≢false e)
-
 kept_at : (c : Clock) (s : State) (o : Option NumberedRequest) (octets : List ℕ) (ingress : ℕ) (datagram : List ℕ)
     (w : Verdict) (out : List (ℕ × List ℕ)) (next : State)
     → wanted_new c s datagram ≡ o
     → is_some o ≡ true
     → IfSome o (λ r. r.number < 65536)
     → IsTurned (turn c (given_by s o octets) ingress datagram) w out next
-    → IsTurned (turn_said c s (Gives octets) ingress datagram) verdicts.AnsweredNew out next
+    → IsTurned (turn_said [] c s (Gives octets) ingress datagram) verdicts.AnsweredNew out next
 kept_at c s None octets ingress datagram w out next e some small turned = absurd (false≢true some)
 kept_at c s (Some r) octets ingress datagram w out next e some small turned =
     let p : WantedParts c s datagram r = wanted_parts c s datagram r e in
     let v : Message = p.message in
-    turned_replied c s (Gives octets) ingress datagram v (reply_given 130 (request_of v) octets) w out next p.read p.new
+    turned_replied [] c s (Gives octets) ingress datagram v (reply_given 130 (request_of v) octets) w out next p.read p.new
     (subst (λ (x : NumberedRequest). x.number < 65536) p.same small)
-    (cond-true _ _ _ p.lacked)
+    (reply_said-alone c s.sets v.source (request_of v) (Gives octets) ∙ cond-true _ _ _ p.lacked)
     (subst (λ (x : NumberedRequest). IsTurned (turn c (after_reply s x (reply_given 130 x.request octets)) ingress datagram) w out next)
     p.same turned)
 
@@ -239,7 +239,7 @@ pub turned_kept : (c : Clock) (s : State) (octets : List ℕ) (ingress : ℕ) (d
     → after ≡ c
     → kept ≡ given_by s (wanted_new c s datagram) octets
     → IsTurned (turn after kept ingress datagram) w out next
-    → IsTurned (turn_said c s (Gives octets) ingress datagram) verdicts.AnsweredNew out next
+    → IsTurned (turn_said [] c s (Gives octets) ingress datagram) verdicts.AnsweredNew out next
 turned_kept c s octets ingress datagram after kept w out next some small clock is turned =
     kept_at c s (wanted_new c s datagram) octets ingress datagram w out next refl some small
     (moved_turn c after kept (given_by s (wanted_new c s datagram) octets) ingress datagram w out next clock is turned)
@@ -259,13 +259,14 @@ pub turned_ungiven : (c : Clock) (s : State) (octets : List ℕ) (ingress : ℕ)
     → after ≡ c
     → kept ≡ given_by s (wanted_new c s datagram) octets
     → IsTurned (turn after kept ingress datagram) w out next
-    → IsTurned (turn_said c s (Gives octets) ingress datagram) w out next
+    → IsTurned (turn_said [] c s (Gives octets) ingress datagram) w out next
 turned_ungiven c s octets ingress datagram after kept w out next other once clock is turned =
     let none : wanted_new c s datagram ≡ None = none_of (wanted_new c s datagram) other in
-    let own : turn_said c s (Gives octets) ingress datagram ≡ turn c s ingress datagram =
-    turn_said-each (λ (t : Turned). t ≡ turn c s ingress datagram) c s (Gives octets) ingress datagram refl
+    let own : turn_said [] c s (Gives octets) ingress datagram ≡ turn c s ingress datagram =
+    turn_said-each (λ (t : Turned). t ≡ turn c s ingress datagram) [] c s (Gives octets) ingress datagram refl
     (λ v reply read new said.
-    let lacked : is_lacked (request_of v) ≡ true = lacked_if (request_of v) 130 octets reply said in
+    let lacked : is_lacked (request_of v) ≡ true = lacked_if (request_of v) 130 octets reply
+    (sym (reply_said-alone c s.sets v.source (request_of v) (Gives octets)) ∙ said) in
     absurd (true≢false (sym (and_from _ _ (ap is_new new) lacked) ∙ not_wanted_new c s datagram v read none)))
     (λ v reply read unnumbered told.
     let lacked : is_lacked (request_of v) ≡ true = lacked_if (request_of v) 1418 octets reply told in
@@ -286,11 +287,11 @@ pub turned_once : (c : Clock) (s : State) (octets : List ℕ) (ingress : ℕ) (d
     → is_wanted_once c s v ≡ true
     → out ≡ forwarded c.identity ingress s.sets datagram
     ++ rendered c.identity (heard_of v) (reply_given 1418 (request_of v) octets) ingress
-    → IsTurned (turn_said c s (Gives octets) ingress datagram) verdicts.AnsweredUnnumbered out s
+    → IsTurned (turn_said [] c s (Gives octets) ingress datagram) verdicts.AnsweredUnnumbered out s
 turned_once c s octets ingress datagram v out read wanted is =
     let p = and_parts _ _ wanted in
     subst (λ (u : Turned). IsTurned u verdicts.AnsweredUnnumbered out s)
-    (sym (given_told c s ingress datagram octets v read (is_unnumbered-true (judged c s v) p.0) p.1))
+    (sym (given_told [] c s ingress datagram octets v read (is_unnumbered-true (judged c s v) p.0) p.1))
     (record { verdict_is = refl; outbox_is = is; sets_are = refl; entries_are = refl })
 
 -- ---- the message of a value, as code writes it

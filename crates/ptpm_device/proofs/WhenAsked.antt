@@ -1,13 +1,13 @@
 -- When a device is asked: what the code tests, against the verdict.
 use Rattle.std.proofs.Common.{arith, ◌≡◌, ℕ, ◌==◌, ◌&&◌, not, is_none, if◌then◌else◌, List, Option, Some, None, Ok, Err, Bool, true, false, length, refl, sym, ◌∙◌, ap, ⊎_elim}
-use Rattle.std.proofs.lemmas.Bool.{and_from, and_left, and_parts, and_right, cases_Bool, or_cases, or_left, not-true, true≢false, false≢true}
+use Rattle.std.proofs.lemmas.Bool.{and_from, and_left, and_parts, and_right, cases_Bool, cond-false, or_cases, or_left, not-true, true≢false, false≢true}
 use Rattle.std.proofs.lemmas.Option.{cond_some, none-some}
 use Rattle.std.specs.FinMap.{get}
 use Rattle.ptpm_codec.specs.declared.message.Message.{Message}
 use Rattle.ptpm_codec.specs.declared.error.DecodeError.{DecodeError}
 use Rattle.ptpm_codec.specs.Message.{action_of}
 use Rattle.ptpm_codec.specs.Reading.{message_of, reading}
-use Rattle.ptpm_data.specs.Refusals.{refusal_of}
+use Rattle.ptpm_data.specs.declared.rights.Rights.{Rights}
 use Rattle.ptpm_table.specs.declared.reply_table.Look.{Look}
 use Rattle.ptpm_table.specs.declared.reply_table.Look.TheVariants as looks
 use Rattle.ptpm_table.specs.Entries.{is_known}
@@ -17,8 +17,19 @@ use Rattle.ptpm_agent.specs.declared.verdict.Verdict.TheVariants as verdicts
 use Rattle.ptpm_agent.specs.Addressing.{is_for_this_clock, is_numbered, is_own, is_request, names_port, request_of}
 use Rattle.ptpm_agent.specs.Turn.{Clock, NumberedRequest, State, is_accepted_repeat, is_repeat, judged, look, numbered_from, verdict_at}
 use Rattle.ptpm_agent.proofs.Turns.{judged-copy, judged-each, judged-request, message_of-reading, new_parts}
-use Rattle.ptpm_device.specs.Asking.{asked, asked_by, is_asked, is_change, is_here, is_lacked, is_new, is_permitted, is_reached, is_read, is_unnumbered, is_wanted, is_wanted_new, is_wanted_once, wanted, wanted_by, wanted_new, wanted_new_by, wanted_once, wanted_once_by}
+use Rattle.ptpm_device.specs.declared.relayed.RelayedId.{RelayedId}
+use Rattle.ptpm_device.specs.Asking.{asked, asked_by, is_asked, is_here, is_lacked, is_new, is_reached, is_read, is_unnumbered, is_wanted, is_wanted_new, is_wanted_once, rights_of_change, wanted, wanted_by, wanted_new, wanted_new_by, wanted_once, wanted_once_by}
+use Rattle.ptpm_device.specs.Relayed.{is_change, refusal_in}
 use Rattle.ptpm_device.proofs.New.{is_new-true}
+
+pub not_asked_at : (A : Type 0) (b : Bool) (a : A) → (if b then Some a else None) ≡ None → b ≡ false
+not_asked_at A true a e = absurd (cc)
+not_asked_at A false a e = refl
+
+and_and-false : (a b d : Bool) → (a && b) ≡ false → (a && (b && d)) ≡ false
+and_and-false true true d e = absurd (true≢false e)
+and_and-false true false d e = refl
+and_and-false false b d e = refl
 
 -- a new request is here
 repeat_not_new : (l : Look) → is_repeat l ≡ true → is_new (verdict_at l) ≡ false
@@ -38,21 +49,19 @@ here-new c s v new =
     (λ d r e. absurd (false≢true e)) in
     grind arith
 
-pub away-not_asked : (c : Clock) (s : State) (v : Message)
+pub rights_of_change-away : (c : Clock) (s : State) (v : Message)
     → is_here c s v ≡ false
-    → is_asked c s v ≡ false
-unfolding is_asked
-away-not_asked c s v away =
+    → rights_of_change c s v ≡ None
+rights_of_change-away c s v away =
     ⊎_elim
     (λ (y : is_new (judged c s v) ≡ true). absurd (true≢false (sym (here-new c s v (is_new-true (judged c s v) y)) ∙ away)))
-    (λ (n : is_new (judged c s v) ≡ false). and_left _ _ n)
+    (λ (n : is_new (judged c s v) ≡ false). cond-false _ _ _ (and_left _ _ n))
     (cases_Bool (is_new (judged c s v)))
 
-pub unchanging-not_asked : (c : Clock) (s : State) (v : Message)
+pub rights_of_change-unchanging : (c : Clock) (s : State) (v : Message)
     → is_change (action_of v.body) ≡ false
-    → is_asked c s v ≡ false
-unfolding is_asked
-unchanging-not_asked c s v unchanging = grind arith
+    → rights_of_change c s v ≡ None
+rights_of_change-unchanging c s v unchanging = cond-false _ _ _ (and_right (is_new (judged c s v)) _ unchanging)
 
 -- a change here is asked about if the table has it as new, and the clock permits it
 change-request : (v : Message) → is_change (action_of v.body) ≡ true → is_request v ≡ true
@@ -66,11 +75,9 @@ pub is_new_look-other : (l : Look) → (l ≡ looks.New → ⊥) → is_new_look
 is_new_look-other looks.New other = absurd (other refl)
 is_new_look-other _ other = refl
 
-permitted_at : (l : Look) (change permitted : Bool)
-    → change ≡ true
-    → (is_new (verdict_at l) && (change && permitted)) ≡ (is_new_look l && permitted)
-permitted_at looks.New change permitted e = ap (λ (b : Bool). b && permitted) e
-permitted_at _ change permitted e = refl
+changing_at : (l : Look) (change : Bool) → change ≡ true → (is_new (verdict_at l) && change) ≡ is_new_look l
+changing_at looks.New change e = e
+changing_at _ change e = refl
 
 -- the test of a request that is here, part by part
 pub record HereParts (c : Clock) (s : State) (v : Message) : Type 0 where
@@ -101,51 +108,66 @@ here-judged c s v here change =
     ∙ ap (λ (b : Bool). verdict_at (look_of b (get s.entries v.source) v.number (request_of v))) (numbered-here c v p.target)
 
 -- what the table says of a change here, against the definition
-pub is_asked-here : (c : Clock) (s : State) (v : Message) (l : Look)
+pub rights_of_change-here : (c : Clock) (s : State) (v : Message) (l : Look)
     → is_here c s v ≡ true
     → is_change (action_of v.body) ≡ true
     → l ≡ look_of (is_known v.source c.managers) (get s.entries v.source) v.number (request_of v)
-    → is_asked c s v ≡ (is_new_look l && is_none (refusal_of (request_of v) (c.rights v.source)))
+    → rights_of_change c s v ≡ (if is_new_look l then Some (c.rights v.source) else None)
+rights_of_change-here c s v l here change look =
+    ap (λ (w : Verdict). if is_new w && is_change (request_of v).action then Some (c.rights v.source) else None) (here-judged c s v here change ∙ ap verdict_at (sym look))
+    ∙ ap (λ (b : Bool). if b then Some (c.rights v.source) else None) (changing_at l (is_change (request_of v).action) change)
+
+-- the device is asked about what neither the table nor the clock refuses
+pub is_asked-by : (rows : List RelayedId) (c : Clock) (s : State) (v : Message) (rights : Rights)
+    → rights_of_change c s v ≡ Some rights
+    → is_asked rows c s v ≡ is_none (refusal_in rows (request_of v) rights)
 unfolding is_asked
-is_asked-here c s v l here change look =
-    ap (λ (w : Verdict). is_new w && is_permitted c v.source (request_of v)) (here-judged c s v here change ∙ ap verdict_at (sym look))
-    ∙ permitted_at l (is_change (action_of v.body)) (is_none (refusal_of (request_of v) (c.rights v.source))) change
+is_asked-by rows c s v rights e =
+    let p = cond_some (is_new (judged c s v) && is_change (request_of v).action) (c.rights v.source) rights e in
+    let q = and_parts _ _ p.0 in
+    ap (λ (b : Bool). b && (is_change (request_of v).action && is_none (refusal_in rows (request_of v) (c.rights v.source)))) q.0
+    ∙ ap (λ (b : Bool). b && is_none (refusal_in rows (request_of v) (c.rights v.source))) q.1
+    ∙ ap (λ (r : Rights). is_none (refusal_in rows (request_of v) r)) p.1
+
+pub is_asked-none : (rows : List RelayedId) (c : Clock) (s : State) (v : Message)
+    → rights_of_change c s v ≡ None
+    → is_asked rows c s v ≡ false
+unfolding is_asked
+is_asked-none rows c s v none =
+    let no : (is_new (judged c s v) && is_change (request_of v).action) ≡ false = not_asked_at Rights _ (c.rights v.source) none in
+    and_and-false (is_new (judged c s v)) (is_change (request_of v).action) _ no
 
 -- ---- a datagram
 
 -- a message that the device is asked about, and what it asks
-pub record AskedParts (c : Clock) (s : State) (datagram : List ℕ) (r : NumberedRequest) : Type 0 where
+pub record AskedParts (rows : List RelayedId) (c : Clock) (s : State) (datagram : List ℕ) (r : NumberedRequest) : Type 0 where
   pub message : Message
   pub read : message_of datagram ≡ Some message
-  pub asked : is_asked c s message ≡ true
+  pub asked : is_asked rows c s message ≡ true
   pub same : r ≡ numbered_from message
 
-asked_from : (c : Clock) (s : State) (datagram : List ℕ) (r : NumberedRequest) (o : Option Message)
+asked_from : (rows : List RelayedId) (c : Clock) (s : State) (datagram : List ℕ) (r : NumberedRequest) (o : Option Message)
     → message_of datagram ≡ o
-    → asked_by c s o ≡ Some r
-    → AskedParts c s datagram r
-asked_from c s datagram r None read e = absurd (none-some r e)
-asked_from c s datagram r (Some v) read e =
-    let p = cond_some (is_asked c s v) (numbered_from v) r e in
+    → asked_by rows c s o ≡ Some r
+    → AskedParts rows c s datagram r
+asked_from rows c s datagram r None read e = absurd (none-some r e)
+asked_from rows c s datagram r (Some v) read e =
+    let p = cond_some (is_asked rows c s v) (numbered_from v) r e in
     record { message = v; read = read; asked = p.0; same = sym p.1 }
 
-pub asked_parts : (c : Clock) (s : State) (datagram : List ℕ) (r : NumberedRequest)
-    → asked c s datagram ≡ Some r
-    → AskedParts c s datagram r
+pub asked_parts : (rows : List RelayedId) (c : Clock) (s : State) (datagram : List ℕ) (r : NumberedRequest)
+    → asked rows c s datagram ≡ Some r
+    → AskedParts rows c s datagram r
 unfolding asked
-asked_parts c s datagram r e = asked_from c s datagram r (message_of datagram) refl e
+asked_parts rows c s datagram r e = asked_from rows c s datagram r (message_of datagram) refl e
 
-not_asked_at : (A : Type 0) (b : Bool) (a : A) → (if b then Some a else None) ≡ None → b ≡ false
-not_asked_at A true a e = absurd (cc)
-not_asked_at A false a e = refl
-
-pub not_asked : (c : Clock) (s : State) (datagram : List ℕ) (v : Message)
+pub not_asked : (rows : List RelayedId) (c : Clock) (s : State) (datagram : List ℕ) (v : Message)
     → message_of datagram ≡ Some v
-    → asked c s datagram ≡ None
-    → is_asked c s v ≡ false
+    → asked rows c s datagram ≡ None
+    → is_asked rows c s v ≡ false
 unfolding asked
-not_asked c s datagram v read none =
-    not_asked_at NumberedRequest (is_asked c s v) (numbered_from v) (sym (ap (asked_by c s) read) ∙ none)
+not_asked rows c s datagram v read none =
+    not_asked_at NumberedRequest (is_asked rows c s v) (numbered_from v) (sym (ap (asked_by rows c s) read) ∙ none)
 
 pub not_wanted : (c : Clock) (s : State) (datagram : List ℕ) (v : Message)
     → message_of datagram ≡ Some v
@@ -156,17 +178,17 @@ not_wanted c s datagram v read none =
     not_asked_at NumberedRequest (is_wanted c s v) (numbered_from v) (sym (ap (wanted_by c s) read) ∙ none)
 
 -- what code reads of it
-pub asked-unread : (c : Clock) (s : State) (datagram : List ℕ) (cause : DecodeError)
+pub asked-unread : (rows : List RelayedId) (c : Clock) (s : State) (datagram : List ℕ) (cause : DecodeError)
     → reading datagram ≡ Err cause
-    → asked c s datagram ≡ None
+    → asked rows c s datagram ≡ None
 unfolding asked message_of
-asked-unread c s datagram cause read = grind arith
+asked-unread rows c s datagram cause read = grind arith
 
-pub asked-read : (c : Clock) (s : State) (datagram : List ℕ) (v : Message)
+pub asked-read : (rows : List RelayedId) (c : Clock) (s : State) (datagram : List ℕ) (v : Message)
     → reading datagram ≡ Ok v
-    → asked c s datagram ≡ (if is_asked c s v then Some (numbered_from v) else None)
+    → asked rows c s datagram ≡ (if is_asked rows c s v then Some (numbered_from v) else None)
 unfolding asked
-asked-read c s datagram v read = ap (asked_by c s) (message_of-reading datagram v read)
+asked-read rows c s datagram v read = ap (asked_by rows c s) (message_of-reading datagram v read)
 
 -- ---- a value that the device is asked for
 

@@ -1,3 +1,4 @@
+pub mod Relayed
 pub mod Asking
 pub mod Refusing
 pub mod Saying

@@ -5,16 +5,17 @@ ghost use Rattle.ptpm_codec.specs.Message.{IsDataField, IsValid};
 ghost use Rattle.ptpm_agent.specs.Addressing.{request_of};
 ghost use Rattle.ptpm_agent.specs.Agent.{clock_of, state_of};
 ghost use Rattle.ptpm_agent.specs.Turn.{look, numbered_from};
-ghost use Rattle.ptpm_device.specs.Asking.{asked, is_asked, is_change, is_here, is_lacked, is_reached, is_wanted, wanted};
+ghost use Rattle.ptpm_device.specs.Asking.{asked, is_asked, is_here, is_lacked, is_reached, is_wanted, rights_of_change, wanted};
 
+use crate::relayed::{RelayedId, is_change, refusal_in};
 use ptpm_agent::Agent;
 use ptpm_codec::{Action, ClockIdentity, PortIdentity, View, view};
-use ptpm_data::{Request, refusal_of, row};
+use ptpm_data::{Request, Rights, row};
 use ptpm_table::{Look, ReplyTable};
 use std::marker::Model;
 
-/// What a device is asked. It is to carry out a new SET or COMMAND of a manager, which the clock itself does not refuse. Or it is
-/// to give the value of a GET of an id that the clock lacks.
+/// What a device is asked. It is to carry out a new SET or COMMAND of a manager, which neither the clock nor the table of its own ids
+/// refuses. Or it is to give the value of a GET of an id that the clock lacks.
 #[derive(Debug, Drop)]
 pub struct Asked<'a> {
     /// sourcePortIdentity.
@@ -33,10 +34,15 @@ impl<'a> Model for Asked<'a> {
     ghost view = { asked_value };
 }
 
-/// What a datagram would have the clock's device carry out, if it came in now at a port of the clock. None if it is anything but
-/// a new SET or COMMAND of a manager, or if the clock itself refuses it. Changes nothing, and takes no memory.
-pub fn ask<'a, T: ReplyTable + Drop>(agent: &Agent<T>, datagram: &'a [u8]) -> Option<Asked<'a>>
-    ensures asked { result ≡ asked
+/// What a datagram would have the clock's device carry out, if it came in now at a port of the clock. `rows` are the device's own
+/// ids. None if it is anything but a new SET or COMMAND of a manager, or if the row of its id refuses it. An id without a row is
+/// judged by the clock. Changes nothing, and takes no memory.
+pub fn ask<'a, T: ReplyTable + Drop>(
+    agent: &Agent<T>,
+    rows: &[RelayedId],
+    datagram: &'a [u8],
+) -> Option<Asked<'a>>
+    ensures asked { result ≡ asked rows.now
         (clock_of T.owner agent.now) (state_of T.entries agent.now) datagram.now }
     ensures number { IfSome result (λ change. change.number < 2 ^ 16) }
     ensures octets { IfSome result (λ change. IsDataField change.request.octets) }
@@ -45,7 +51,7 @@ pub fn ask<'a, T: ReplyTable + Drop>(agent: &Agent<T>, datagram: &'a [u8]) -> Op
         Ok(message) => message,
         Err(_) => return None,
     };
-    if !is_asked(agent, &message) {
+    if !is_asked(agent, rows, &message) {
         return None;
     }
     Some(asked_by(&message))
@@ -83,25 +89,44 @@ pub(crate) fn asked_by<'a>(message: &View<'a>) -> Asked<'a>
 }
 
 /// Whether the device is asked to carry out a message.
-pub(crate) fn is_asked<T: ReplyTable + Drop>(agent: &Agent<T>, message: &View<'_>) -> bool
+pub(crate) fn is_asked<T: ReplyTable + Drop>(
+    agent: &Agent<T>,
+    rows: &[RelayedId],
+    message: &View<'_>,
+) -> bool
     requires valid { IsValid message.now }
-    ensures { result ≡ is_asked
+    ensures { result ≡ is_asked rows.now
+        (clock_of T.owner agent.now) (state_of T.entries agent.now) message.now }
+{
+    match rights_of_change(agent, message) {
+        Some(rights) => refusal_in(rows, &request_of(message), rights).is_none(),
+        None => false,
+    }
+}
+
+/// The rights of a message's manager, if the message is a new SET or COMMAND of it.
+pub(crate) fn rights_of_change<T: ReplyTable + Drop>(
+    agent: &Agent<T>,
+    message: &View<'_>,
+) -> Option<Rights>
+    requires valid { IsValid message.now }
+    ensures { result ≡ rights_of_change
         (clock_of T.owner agent.now) (state_of T.entries agent.now) message.now }
 {
     let request = request_of(message);
     if !is_change(request.action) {
-        return false;
+        return None;
     }
     if !is_here(agent, message) {
-        return false;
+        return None;
     }
     let source = message.source();
     let (look, rights) = agent
         .table()
         .look_with_rights(&source, message.number(), &request);
     match look {
-        Look::New => refusal_of(&request, rights).is_none(),
-        _ => false,
+        Look::New => Some(rights),
+        _ => None,
     }
 }
 
@@ -121,13 +146,6 @@ fn is_wanted<T: ReplyTable + Drop>(agent: &Agent<T>, message: &View<'_>) -> bool
         Look::New => true,
         _ => false,
     }
-}
-
-/// Whether it is a SET or a COMMAND.
-pub fn is_change(action: Action) -> bool
-    ensures { result ≡ is_change action }
-{
-    action == Action::Set || action == Action::Command
 }
 
 /// Whether it is a GET of an id that the clock lacks.

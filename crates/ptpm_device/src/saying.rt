@@ -1,4 +1,4 @@
-//! What a clock's device says of a datagram. A refusal, and a value that is not kept, are sent in place of the clock's own turn. A
+//! What a clock's device says of a datagram that has no row in the table of the device's own ids. A refusal, and a value that is not kept, are sent in place of the clock's own turn. A
 //! value for a new GET is kept before that turn, and is then what it answers.
 
 ghost use Rattle.std.specs.Prelude.{◌≡◌, ◌≤◌, ◌<◌, ◌^◌, ◌++◌, [], IfSome, IsTrue, Some, false, is_some, length};
@@ -17,15 +17,13 @@ ghost use Rattle.ptpm_device.specs.Saying.{Gives, Objects, after_reply, given_by
 use crate::asking::{Asked, asked_by, is_asked, is_lacked, is_reached, look, request_of};
 use crate::passing::pass_on;
 use crate::refusing::Refusing;
+use crate::relayed::MOST_KEPT;
 use ptpm_agent::{Agent, Verdict};
 use ptpm_codec::{Action, Draft, DraftBody, Envelope, ErrorId, PortIdentity, View, view};
 use ptpm_data::{Answers, Reply, Request, data_sets_law};
 use ptpm_table::{Heard, LongOutgoing, Look, Outgoing, ReplyTable, Sender, SureTable};
 
-/// The most octets of a value that the clock keeps as its answer to a manager.
-const MOST_KEPT: usize = 130;
-
-/// The turn of a clock whose device objects to a datagram with this error, if the device is asked (`ask`). The request is kept with
+/// The turn of a clock whose device objects to a datagram with this error, if the device is asked (`ask` without rows). The request is kept with
 /// that refusal, and the refusal is sent: one answer, of the clock or of each named port. Answers whether that was so. Otherwise
 /// nothing changes and nothing is sent, and the turn is the clock's own. Takes no memory.
 pub fn object<T: SureTable + Drop, O: Outgoing>(
@@ -36,17 +34,17 @@ pub fn object<T: SureTable + Drop, O: Outgoing>(
     out: &mut O,
 ) -> bool
     requires empty { O.sent out.old ≡ [] }
-    requires room { length (outbox_of (turn_said
+    requires room { length (outbox_of (turn_said []
         (clock_of T.owner agent.old) (state_of T.entries agent.old) (Objects error)
         ingress datagram.now))
         ≤ O.most out.old }
     ensures asked { result ≡ is_some
-        (asked (clock_of T.owner agent.old) (state_of T.entries agent.old) datagram.now) }
-    ensures turned { IsTrue result → IsTurned (turn_said
+        (asked [] (clock_of T.owner agent.old) (state_of T.entries agent.old) datagram.now) }
+    ensures turned { IsTrue result → IsTurned (turn_said []
         (clock_of T.owner agent.old) (state_of T.entries agent.old) (Objects error)
         ingress datagram.now)
         Verdict.AnsweredNew (O.sent out.new) (state_of T.entries agent.new) }
-    ensures own { result ≡ false → turn_said
+    ensures own { result ≡ false → turn_said []
         (clock_of T.owner agent.old) (state_of T.entries agent.old) (Objects error)
         ingress datagram.now
         ≡ turn (clock_of T.owner agent.old) (state_of T.entries agent.old) ingress datagram.now }
@@ -61,7 +59,7 @@ pub fn object<T: SureTable + Drop, O: Outgoing>(
         Ok(message) => message,
         Err(_) => return false,
     };
-    if !is_asked(agent, &message) {
+    if !is_asked(agent, &[], &message) {
         return false;
     }
     refuse(agent, ingress, &message, error, out);
@@ -105,13 +103,13 @@ pub fn answer_value<T: ReplyTable + Drop, O: LongOutgoing>(
     requires port { HasPort ingress agent.now.sets }
     requires empty { O.sent out.old ≡ [] }
     requires octets { IsDataField octets.now }
-    requires room { length (outbox_of (turn_said
+    requires room { length (outbox_of (turn_said []
         (clock_of T.owner agent.now) (state_of T.entries agent.now) (Gives octets.now)
         ingress datagram.now))
         ≤ O.most out.old }
     ensures wanted { result ≡ wanted_once
         (clock_of T.owner agent.now) (state_of T.entries agent.now) datagram.now }
-    ensures turned { IsTrue result → IsTurned (turn_said
+    ensures turned { IsTrue result → IsTurned (turn_said []
         (clock_of T.owner agent.now) (state_of T.entries agent.now) (Gives octets.now)
         ingress datagram.now)
         Verdict.AnsweredUnnumbered (O.sent out.new) (state_of T.entries agent.now) }

@@ -1,6 +1,5 @@
 -- What the device of a clock is asked that is saved while it goes on, after each of its calls.
 use Rattle.std.proofs.Common.{◌≡◌, ◌∙◌, ◌≤◌, Bool, true, false, ap, refl, subst, sym, List, [], ◌∷◌, ◌++◌, ℕ, length, Option, None, if◌then◌else◌}
-use Rattle.ptpm_agent.specs.Turn.{Clock}
 use Rattle.ptpm_data.specs.ObservationBack.{Observation}
 use Rattle.ptpm_device.specs.Saying.{Say}
 use Rattle.ptpm_saved.specs.Saving.{Came, Happening, after_all}
@@ -9,7 +8,7 @@ use Rattle.ptpm_saved.specs.Batching.{Handles, answers, holds, is_held, live}
 use Rattle.ptpm_host.specs.declared.saving_clock.Acting.{Acting}
 use Rattle.ptpm_host.specs.declared.saving_clock.Acting.TheVariants as actings
 use Rattle.ptpm_host.specs.declared.saving_clock.SavingClock.{SavingClock}
-use Rattle.ptpm_host.specs.Clock.{clock_in}
+use Rattle.ptpm_host.specs.Clock.{DeviceClock, clock_in}
 use Rattle.ptpm_host.specs.Coming.{ClockBatch, ClockState, Coming, coming_process, datagram_in, is_held_by}
 use Rattle.ptpm_host.specs.KeptBatch.{IsImageIf, IsKept, LeadsTo, all_given}
 use Rattle.ptpm_host.specs.SavingClock as saving
@@ -55,7 +54,7 @@ pub record AsksAsBefore (old new : SavingClock) : Type 0 where
   pub imaged : new.is_imaged ≡ true → old.is_imaged ≡ true
 
 module _ (old new : SavingClock) (b : ClockBatch) (count : ℕ) (as_batch : IsAsBatch old b count) where
-  abbrev c : Clock
+  abbrev c : DeviceClock
   c = clock_in old.clock.value
 
   inside : old.is_imaged ≡ true → count ≤ length b.since

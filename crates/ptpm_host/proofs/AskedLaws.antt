@@ -4,7 +4,6 @@ use Rattle.std.specs.Prelude.{is_some}
 use Rattle.std.proofs.lemmas.Bool.{false≢true}
 use Rattle.std.proofs.lemmas.List.{drop-append-le, drop_all, take-append-drop, take-append-le, take_all}
 use Rattle.ptpm_data.specs.ObservationBack.{Observation}
-use Rattle.ptpm_agent.specs.Turn.{Clock}
 use Rattle.ptpm_data.specs.Request.{RequestValue}
 use Rattle.ptpm_saved.specs.Saving.{Came, Happening, Noted, Process, after_all, after_one, all_messages}
 use Rattle.ptpm_saved.specs.SavingClock.{Datagram}
@@ -12,7 +11,7 @@ use Rattle.ptpm_saved.specs.Batching.{Confirms, GivesOut, Handles, Observes, ans
 use Rattle.ptpm_host.specs.declared.saving_clock.Acting.{Acting}
 use Rattle.ptpm_host.specs.declared.saving_clock.Acting.TheVariants as actings
 use Rattle.ptpm_host.specs.declared.saving_clock.SavingClock.{SavingClock}
-use Rattle.ptpm_host.specs.Clock.{clock_in}
+use Rattle.ptpm_host.specs.Clock.{DeviceClock, clock_in}
 use Rattle.ptpm_host.specs.Coming.{Changed, ClockBatch, ClockState, Coming, Decides, Undertakes, after_coming, coming_process, is_change_of}
 use Rattle.ptpm_host.specs.KeptBatch.{IsImageIf}
 use Rattle.ptpm_host.specs.SavingClock.{IsAsBatch, acting_once_imaged, acts_once_saved, asked_later, asked_next, called_at, kept_of, request_under_way, shown_sets}
@@ -72,7 +71,7 @@ quiet_decides [] quiet = refl
 quiet_decides (Came x ∷ hs) quiet = absurd (false≢true (sym quiet))
 quiet_decides (Noted o ∷ hs) quiet = quiet_decides hs quiet
 
-module _ (c : Clock) where
+module _ (c : DeviceClock) where
   abbrev p : Process ClockState Coming Observation (ℕ × List ℕ)
   p = coming_process c
 
@@ -283,7 +282,7 @@ abbrev under_way_at : SavingClock → Option Datagram
 under_way_at old = request_under_way old.clock.value.under_way
 
 module _ (old : SavingClock) (b : ClockBatch) (count : ℕ) (as_batch : IsAsBatch old b count) where
-  abbrev own : Clock
+  abbrev own : DeviceClock
   own = clock_in old.clock.value
 
   -- ---- an image

@@ -6,7 +6,7 @@ use Rattle.ptpm_agent.specs.Turn.{State, turn, Clock, Turned, is_repeat, judged,
 use Rattle.ptpm_saved.specs.SavingClock.{is_new, CanBe, Datagram, clock_process}
 use Rattle.ptpm_saved.proofs.SavingLaws.{clock_sound}
 use Rattle.ptpm_host.specs.declared.clock.HostedClock.{HostedClock}
-use Rattle.ptpm_host.specs.Clock.{clock_in, state_in}
+use Rattle.ptpm_host.specs.Clock.{DeviceClock, clock_in, state_in}
 use Rattle.std.specs.FinMap.{empty, get}
 use Rattle.std.specs.Prelude.{is_some}
 use Rattle.ptpm_codec.specs.Layout.{message_octets}
@@ -27,7 +27,7 @@ use Rattle.ptpm_table.specs.Entries.{Entries}
 use Rattle.ptpm_table.specs.Numbering.{look_of}
 use Rattle.ptpm_agent.specs.Addressing.{is_addressed, is_numbered, is_own, is_request, request_of}
 use Rattle.ptpm_agent.proofs.Turns.{turn-ports, new_parts, reading-message_of, turn-message}
-use Rattle.ptpm_device.specs.Asking.{is_change}
+use Rattle.ptpm_device.specs.Relayed.{is_change}
 use Rattle.ptpm_device.specs.Saying.{Say, new_said, reply_said, reply_told, said_at, turn_said, unnumbered_said}
 use Rattle.ptpm_device.proofs.Judged.{turn_said-verdict}
 use Rattle.ptpm_device.proofs.Steps.{turn_said-at, turn_said-each, turn_said-unread}
@@ -48,12 +48,12 @@ not_new verdicts.AnsweredNew other = absurd (other refl)
 not_new _ other = refl
 
 pub sets_stay : (before after : HostedClock) (port : ℕ) (datagram : List ℕ) (verdict : Verdict) (outbox : List (ℕ × List ℕ))
-    → IsTurned (turn (clock_in before) (state_in before) port datagram) verdict outbox (state_in after)
+    → IsTurned (turn (clock_in before).clock (state_in before) port datagram) verdict outbox (state_in after)
     → verdict ≢ verdicts.AnsweredNew
     → after.agent.sets ≡ before.agent.sets
 sets_stay before after port datagram verdict outbox turned other =
     let same = not_new _ (λ new. other (turned.verdict_is ∙ new)) in
-    let next = (clock_sound (clock_in before)).unchanged (state_in before) (port, datagram) same in
+    let next = (clock_sound (clock_in before).clock).unchanged (state_in before) (port, datagram) same in
     turned.sets_are ∙ ap (λ (s : State). s.sets) next
 
 -- ---- what the owner asks
@@ -111,34 +111,34 @@ owned_same k sets kept v verdicts.AnsweredNew is none =
     }
 owned_same k sets kept v _ is none = refl
 
-module _ (c : Clock) where
+module _ (c : DeviceClock) where
   said_unchanged : (s : State) (port : ℕ) (datagram : List ℕ) (say : Say)
-      → is_new (turn_said c s say port datagram).verdict ≡ false
-      → (turn_said c s say port datagram).next ≡ s
+      → is_new (turn_said c.rows c.clock s say port datagram).verdict ≡ false
+      → (turn_said c.rows c.clock s say port datagram).next ≡ s
   said_unchanged s port datagram say =
-      turn_said-each (λ t. is_new t.verdict ≡ false → t.next ≡ s) c s say port datagram
-      ((clock_sound c).unchanged s (port, datagram))
+      turn_said-each (λ t. is_new t.verdict ≡ false → t.next ≡ s) c.rows c.clock s say port datagram
+      ((clock_sound c.clock).unchanged s (port, datagram))
       (λ v reply read new is same. absurd (false≢true (sym same)))
       (λ v reply read other is same. refl)
 
-  said_can_be : (s : State) (port : ℕ) (datagram : List ℕ) (say : Say) → CanBe s → CanBe (turn_said c s say port datagram).next
+  said_can_be : (s : State) (port : ℕ) (datagram : List ℕ) (say : Say) → CanBe s → CanBe (turn_said c.rows c.clock s say port datagram).next
   said_can_be s port datagram say can =
-      turn_said-each (λ t. CanBe t.next) c s say port datagram ((clock_sound c).after_can_be s (port, datagram) can)
+      turn_said-each (λ t. CanBe t.next) c.rows c.clock s say port datagram ((clock_sound c.clock).after_can_be s (port, datagram) can)
       (λ v reply read new is. can) (λ v reply read other is. can)
 
-  owner_can_be : (s : State) (port : ℕ) (datagram : List ℕ) → CanBe s → CanBe (owner_turn c s port datagram).next
+  owner_can_be : (s : State) (port : ℕ) (datagram : List ℕ) → CanBe s → CanBe (owner_turn c.clock s port datagram).next
   owner_can_be s port datagram can =
-      owner_turn-each (λ t. CanBe t.next) c s port datagram ((clock_sound c).after_can_be s (port, datagram) can)
-      (λ v read. (clock_sound (owner_clock c.identity v.source)).after_can_be (record { sets = s.sets; entries = empty }) (port, datagram) can)
+      owner_turn-each (λ t. CanBe t.next) c.clock s port datagram ((clock_sound c.clock).after_can_be s (port, datagram) can)
+      (λ v read. (clock_sound (owner_clock c.clock.identity v.source)).after_can_be (record { sets = s.sets; entries = empty }) (port, datagram) can)
 
   owner_unchanged : (s : State) (port : ℕ) (datagram : List ℕ)
-      → is_new (owner_turn c s port datagram).verdict ≡ false
-      → (owner_turn c s port datagram).next ≡ s
+      → is_new (owner_turn c.clock s port datagram).verdict ≡ false
+      → (owner_turn c.clock s port datagram).next ≡ s
   owner_unchanged s port datagram =
-      owner_turn-each (λ t. is_new t.verdict ≡ false → t.next ≡ s) c s port datagram
-      ((clock_sound c).unchanged s (port, datagram))
+      owner_turn-each (λ t. is_new t.verdict ≡ false → t.next ≡ s) c.clock s port datagram
+      ((clock_sound c.clock).unchanged s (port, datagram))
       (λ v read.
-      let k = owner_clock c.identity v.source in
+      let k = owner_clock c.clock.identity v.source in
       let s0 : State = record { sets = s.sets; entries = empty } in
       subst (λ t. is_new (owner_turned v s.entries t).verdict ≡ false → (owner_turned v s.entries t).next ≡ s)
       (sym (turn-message k s0 port datagram v read))
@@ -181,27 +181,27 @@ module _ (c : Clock) where
   after_can_be s (Decides say) can = decided_can_be s.state say s.under_way can
 
   noted_same : (notes : List Observation) (s : ClockState)
-      → noted_each (coming_process c) notes s ≡ record s { state = noted_each (clock_process c) notes s.state }
+      → noted_each (coming_process c) notes s ≡ record s { state = noted_each (clock_process c.clock) notes s.state }
   noted_same [] s = refl
-  noted_same (n ∷ notes) s = noted_same notes (record s { state = (clock_process c).noted s.state n })
+  noted_same (n ∷ notes) s = noted_same notes (record s { state = (clock_process c.clock).noted s.state n })
 
   pub coming_sound : IsSound (coming_process c) (λ s. CanBe s.state)
   coming_sound = record {
     unchanged = unchanged;
     goes_back = λ s notes can.
         ap (λ t. (coming_process c).noted t ((coming_process c).back s)) (noted_same notes s)
-        ∙ (λ i. record s { state = (clock_sound c).goes_back s.state notes can i });
+        ∙ (λ i. record s { state = (clock_sound c.clock).goes_back s.state notes can i });
     after_can_be = after_can_be;
-    noted_can_be = λ s n can. (clock_sound c).noted_can_be s.state n can;
+    noted_can_be = λ s n can. (clock_sound c.clock).noted_can_be s.state n can;
   }
 
   -- ---- what is held
 
   pub said_old : (s : State) (port : ℕ) (datagram : List ℕ) (say : Say)
-      → is_of_manager c (port, datagram) ≡ false
-      → is_new (turn_said c s say port datagram).verdict ≡ false
+      → is_of_manager c.clock (port, datagram) ≡ false
+      → is_new (turn_said c.rows c.clock s say port datagram).verdict ≡ false
   said_old s port datagram say other =
-      ap is_new (turn_said-verdict c s say port datagram) ∙ clocks.holds_changes c s (port, datagram) other
+      ap is_new (turn_said-verdict c.rows c.clock s say port datagram) ∙ clocks.holds_changes c.clock s (port, datagram) other
 
   pub coming_holds : HoldsChanges (coming_process c) (is_held_by c)
   coming_holds s (Heard port datagram say) other = said_old s.state port datagram say other
@@ -212,57 +212,57 @@ module _ (c : Clock) where
   -- a message's verdict, by what is kept of its manager
   abbrev judged_at : Look → State → Message → Verdict
   judged_at l s v =
-      if not (v.sdo == 0 && (v.domain == s.sets.default.domain || (not (is_own c v) && (is_addressed c s.sets v && (is_request v && is_repeat l))))) then verdicts.OtherDomain
-      else if is_own c v then verdicts.OwnMessage
-      else if not (is_addressed c s.sets v) then verdicts.NotAddressed
+      if not (v.sdo == 0 && (v.domain == s.sets.default.domain || (not (is_own c.clock v) && (is_addressed c.clock s.sets v && (is_request v && is_repeat l))))) then verdicts.OtherDomain
+      else if is_own c.clock v then verdicts.OwnMessage
+      else if not (is_addressed c.clock s.sets v) then verdicts.NotAddressed
       else if not (is_request v) then verdicts.NotARequest
       else verdict_at l
 
-  judged_unknown : (s : State) (v : Message) → is_numbered c v ≡ false → judged c s v ≡ judged_at looks.Unknown s v
+  judged_unknown : (s : State) (v : Message) → is_numbered c.clock v ≡ false → judged c.clock s v ≡ judged_at looks.Unknown s v
   unfolding judged
   judged_unknown s v is =
       ap (λ (l : Look). judged_at l s v) (ap (λ (b : Bool). look_of b (get s.entries v.source) v.number (request_of v)) is)
 
-  judged_alone : (s : State) (e : Entries) (v : Message) → is_numbered c v ≡ false → judged c s v ≡ judged c (record { sets = s.sets; entries = e }) v
+  judged_alone : (s : State) (e : Entries) (v : Message) → is_numbered c.clock v ≡ false → judged c.clock s v ≡ judged c.clock (record { sets = s.sets; entries = e }) v
   judged_alone s e v is = judged_unknown s v is ∙ sym (judged_unknown (record { sets = s.sets; entries = e }) v is)
 
   module _ (s : State) (e : Entries) (port : ℕ) (datagram : List ℕ) (say : Say)
-      (own : outbox_of (turn c s port datagram) ≡ outbox_of (turn c (record { sets = s.sets; entries = e }) port datagram)) where
+      (own : outbox_of (turn c.clock s port datagram) ≡ outbox_of (turn c.clock (record { sets = s.sets; entries = e }) port datagram)) where
     unnumbered_alone : (v : Message) (o : Option ReplyValue)
-        → outbox_of (unnumbered_said c s port datagram v o) ≡ outbox_of (unnumbered_said c (record { sets = s.sets; entries = e }) port datagram v o)
+        → outbox_of (unnumbered_said c.clock s port datagram v o) ≡ outbox_of (unnumbered_said c.clock (record { sets = s.sets; entries = e }) port datagram v o)
     unnumbered_alone v None = own
     unnumbered_alone v (Some reply) = refl
 
     new_alone : (v : Message) (o : Option ReplyValue)
-        → outbox_of (new_said c s port datagram v o) ≡ outbox_of (new_said c (record { sets = s.sets; entries = e }) port datagram v o)
+        → outbox_of (new_said c.clock s port datagram v o) ≡ outbox_of (new_said c.clock (record { sets = s.sets; entries = e }) port datagram v o)
     new_alone v None = own
     new_alone v (Some reply) = refl
 
     said_at_alone : (v : Message) (w : Verdict)
         → outbox_of (said_at w c s port datagram v say) ≡ outbox_of (said_at w c (record { sets = s.sets; entries = e }) port datagram v say)
-    said_at_alone v verdicts.AnsweredNew = new_alone v (reply_said c s.sets v.source (request_of v) say)
+    said_at_alone v verdicts.AnsweredNew = new_alone v (reply_said c.rows c.clock s.sets v.source (request_of v) say)
     said_at_alone v verdicts.AnsweredUnnumbered = unnumbered_alone v (reply_told (request_of v) say)
     said_at_alone v _ = own
 
     said_by_alone : (o : Option Message)
         → message_of datagram ≡ o
-        → is_of_manager c (port, datagram) ≡ false
-        → outbox_of (turn_said c s say port datagram) ≡ outbox_of (turn_said c (record { sets = s.sets; entries = e }) say port datagram)
+        → is_of_manager c.clock (port, datagram) ≡ false
+        → outbox_of (turn_said c.rows c.clock s say port datagram) ≡ outbox_of (turn_said c.rows c.clock (record { sets = s.sets; entries = e }) say port datagram)
     said_by_alone None read is =
-        ap outbox_of (turn_said-unread c s say port datagram read) ∙ own
-        ∙ sym (ap outbox_of (turn_said-unread c (record { sets = s.sets; entries = e }) say port datagram read))
+        ap outbox_of (turn_said-unread c.rows c.clock s say port datagram read) ∙ own
+        ∙ sym (ap outbox_of (turn_said-unread c.rows c.clock (record { sets = s.sets; entries = e }) say port datagram read))
     said_by_alone (Some v) read is =
-        let unnumbered : is_numbered c v ≡ false = sym (ap (is_numbered_in c) (reading-message_of datagram v read)) ∙ is in
+        let unnumbered : is_numbered c.clock v ≡ false = sym (ap (is_numbered_in c.clock) (reading-message_of datagram v read)) ∙ is in
         let same = judged_alone s e v unnumbered in
-        ap outbox_of (turn_said-at c s say port datagram v (judged c s v) read refl)
-        ∙ said_at_alone v (judged c s v)
-        ∙ sym (ap outbox_of (turn_said-at c (record { sets = s.sets; entries = e }) say port datagram v (judged c s v) read (sym same)))
+        ap outbox_of (turn_said-at c.rows c.clock s say port datagram v (judged c.clock s v) read refl)
+        ∙ said_at_alone v (judged c.clock s v)
+        ∙ sym (ap outbox_of (turn_said-at c.rows c.clock (record { sets = s.sets; entries = e }) say port datagram v (judged c.clock s v) read (sym same)))
 
   pub said_alone : (s : State) (e : Entries) (port : ℕ) (datagram : List ℕ) (say : Say)
-      → is_of_manager c (port, datagram) ≡ false
-      → outbox_of (turn_said c s say port datagram) ≡ outbox_of (turn_said c (record { sets = s.sets; entries = e }) say port datagram)
+      → is_of_manager c.clock (port, datagram) ≡ false
+      → outbox_of (turn_said c.rows c.clock s say port datagram) ≡ outbox_of (turn_said c.rows c.clock (record { sets = s.sets; entries = e }) say port datagram)
   said_alone s e port datagram say is =
-      said_by_alone s e port datagram say (clocks.by_sets_alone c s e (port, datagram) is) (message_of datagram) refl is
+      said_by_alone s e port datagram say (clocks.by_sets_alone c.clock s e (port, datagram) is) (message_of datagram) refl is
 
   pub coming_alone : (s t : ClockState) (x : Coming)
       → is_held_by c x ≡ false
@@ -270,7 +270,7 @@ module _ (c : Clock) where
       → messages_for c s x ≡ messages_for c t x
   coming_alone s t (Heard port datagram say) is same =
       said_alone s.state t.state.entries port datagram say is
-      ∙ ap (λ (d : DataSetsValue). outbox_of (turn_said c (record { sets = d; entries = t.state.entries }) say port datagram)) same
+      ∙ ap (λ (d : DataSetsValue). outbox_of (turn_said c.rows c.clock (record { sets = d; entries = t.state.entries }) say port datagram)) same
   coming_alone s t _ is same = absurd (false≢true (sym is))
 
   -- ---- a datagram, of the owner or not
@@ -291,17 +291,17 @@ module _ (c : Clock) where
   change_of_datagram s port datagram say false = refl
 
   pub held_datagram : (port : ℕ) (datagram : List ℕ) (say : Say) (of_owner : Bool)
-      → is_held_by c (datagram_in port datagram say of_owner) ≡ (of_owner || is_of_manager c (port, datagram))
+      → is_held_by c (datagram_in port datagram say of_owner) ≡ (of_owner || is_of_manager c.clock (port, datagram))
   held_datagram port datagram say true = refl
   held_datagram port datagram say false = refl
 
   pub turn_of-ports : (s : State) (port : ℕ) (datagram : List ℕ) (say : Say) (of_owner : Bool)
       → length (turn_of c s port datagram say of_owner).next.sets.ports ≡ length s.sets.ports
   turn_of-ports s port datagram say true =
-      owner_turn-each (λ t. length t.next.sets.ports ≡ length s.sets.ports) c s port datagram (turn-ports c s port datagram)
-      (λ v read. turn-ports (owner_clock c.identity v.source) (record { sets = s.sets; entries = empty }) port datagram)
+      owner_turn-each (λ t. length t.next.sets.ports ≡ length s.sets.ports) c.clock s port datagram (turn-ports c.clock s port datagram)
+      (λ v read. turn-ports (owner_clock c.clock.identity v.source) (record { sets = s.sets; entries = empty }) port datagram)
   turn_of-ports s port datagram say false =
-      turn_said-each (λ t. length t.next.sets.ports ≡ length s.sets.ports) c s say port datagram (turn-ports c s port datagram)
+      turn_said-each (λ t. length t.next.sets.ports ≡ length s.sets.ports) c.rows c.clock s say port datagram (turn-ports c.clock s port datagram)
       (λ v reply read new is. refl) (λ v reply read unnumbered is. refl)
 
   pub turn_of-unchanged : (s : State) (port : ℕ) (datagram : List ℕ) (say : Say) (of_owner : Bool)

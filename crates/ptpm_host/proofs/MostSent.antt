@@ -23,12 +23,15 @@ use Rattle.ptpm_agent.specs.Turn.{Clock, State, judged, outbox_of, turn}
 use Rattle.ptpm_agent.proofs.MostSent.{both_few, rendered_count, replies_few, turn_few}
 use Rattle.ptpm_agent.proofs.Turns.{reading-message_of}
 use Rattle.ptpm_device.specs.Asking.{is_lacked, is_permitted}
+use Rattle.ptpm_device.specs.declared.relayed.RelayedId.{RelayedId}
+use Rattle.ptpm_device.specs.Relayed.{relayed, relayed_refusal}
 use Rattle.ptpm_device.specs.Saying as says
-use Rattle.ptpm_device.specs.Saying.{Say, new_said, reply_given, reply_said, reply_told, said_at, said_by, turn_said, unnumbered_said}
+use Rattle.ptpm_device.specs.Saying.{Say, new_said, reply_at, reply_given, reply_own, reply_relayed, reply_said, reply_told, said_at, said_by, turn_said, unnumbered_said}
 use Rattle.ptpm_host.specs.Answers.{most_replied}
 use Rattle.ptpm_host.specs.Changing.{owner_clock}
 use Rattle.ptpm_host.specs.MostSent.{SendsNoMore, SendsNoMoreAlone, SendsNoMoreHere, most_answers, most_sent}
 use Rattle.ptpm_host.proofs.ComingLaws.{owner_turn-each}
+use Rattle.ptpm_host.specs.Clock.{DeviceClock}
 
 -- ---- the most answers of kept replies
 
@@ -67,14 +70,14 @@ most_few s kept few = omega (arith, kept_most (entries s.entries) kept few)
 pub replied_few : (s : State) (kept : ℕ) → HaveAnswers kept (entries s.entries) → most_replied s ≤ max (length s.sets.ports) kept
 replied_few s kept few = omega (arith, kept_most (entries s.entries) kept few)
 
-module _ (c : Clock) (s : State) (ingress : ℕ) (datagram : List ℕ) (most : ℕ) (sized : IsSized s.sets) (port : HasPort ingress s.sets) (ports : 2 * length s.sets.ports - 1 ≤ most) (kept : HaveAnswers most (entries s.entries)) where
-  turn_here : length (outbox_of (turn c s ingress datagram)) ≤ most
-  turn_here = turn_few c s ingress datagram most sized port ports kept
+module _ (c : DeviceClock) (s : State) (ingress : ℕ) (datagram : List ℕ) (most : ℕ) (sized : IsSized s.sets) (port : HasPort ingress s.sets) (ports : 2 * length s.sets.ports - 1 ≤ most) (kept : HaveAnswers most (entries s.entries)) where
+  turn_here : length (outbox_of (turn c.clock s ingress datagram)) ≤ most
+  turn_here = turn_few c.clock s ingress datagram most sized port ports kept
 
   alone_few : (v : Message) (r : ReplyValue)
       → length r.answers ≤ length s.sets.ports
-      → length (rendered c.identity (heard_of v) r ingress) ≤ most
-  alone_few v r few = omega (arith, few, sized.some_port, ports, rendered_count c.identity (heard_of v) r ingress)
+      → length (rendered c.clock.identity (heard_of v) r ingress) ≤ most
+  alone_few v r few = omega (arith, few, sized.some_port, ports, rendered_count c.clock.identity (heard_of v) r ingress)
 
   given_few : (n : ℕ) (q : RequestValue) (octets : List ℕ) (r : ReplyValue)
       → (if is_lacked q then Some (reply_given n q octets) else None) ≡ Some r
@@ -86,17 +89,30 @@ module _ (c : Clock) (s : State) (ingress : ℕ) (datagram : List ℕ) (most : �
         | false ↦ λ none. absurd (cc)
       ] is
 
-  said_few : (who : PortIdentity) (q : RequestValue) (say : Say) (r : ReplyValue)
-      → reply_said c s.sets who q say ≡ Some r
+  own_few : (who : PortIdentity) (q : RequestValue) (say : Say) (r : ReplyValue)
+      → reply_own c.clock s.sets who q say ≡ Some r
       → length r.answers ≤ length s.sets.ports
-  said_few who q says.Agrees r is = absurd (cc)
-  said_few who q (says.Objects error) r is =
-      elim (is_permitted c who q) as (λ b. (if b then Some (reply_of q (Some error) s.sets) else None) ≡ Some r → length r.answers ≤ length s.sets.ports) [
+  own_few who q says.Agrees r is = absurd (cc)
+  own_few who q (says.Objects error) r is =
+      elim (is_permitted c.clock who q) as (λ b. (if b then Some (reply_of q (Some error) s.sets) else None) ≡ Some r → length r.answers ≤ length s.sets.ports) [
         | true ↦ λ same. let e : reply_of q (Some error) s.sets ≡ r = cc in
             subst (λ (x : ReplyValue). length x.answers ≤ length s.sets.ports) e (reply_few q (Some error) s.sets sized)
         | false ↦ λ none. absurd (cc)
       ] is
-  said_few who q (says.Gives octets) r is = given_few 130 q octets r is
+  own_few who q (says.Gives octets) r is = given_few 130 q octets r is
+
+  at_few : (o : Option RelayedId) (who : PortIdentity) (q : RequestValue) (say : Say) (r : ReplyValue)
+      → reply_at o c.clock s.sets who q say ≡ Some r
+      → length r.answers ≤ length s.sets.ports
+  at_few None who q say r is = own_few who q say r is
+  at_few (Some row) who q say r is =
+      let e : reply_relayed (relayed_refusal row q (c.clock.rights who)) q say ≡ r = cc in
+      subst (λ (x : ReplyValue). length x.answers ≤ length s.sets.ports) e sized.some_port
+
+  said_few : (who : PortIdentity) (q : RequestValue) (say : Say) (r : ReplyValue)
+      → reply_said c.rows c.clock s.sets who q say ≡ Some r
+      → length r.answers ≤ length s.sets.ports
+  said_few who q say r is = at_few (relayed c.rows q) who q say r is
 
   told_few : (q : RequestValue) (say : Say) (r : ReplyValue)
       → reply_told q say ≡ Some r
@@ -107,33 +123,33 @@ module _ (c : Clock) (s : State) (ingress : ℕ) (datagram : List ℕ) (most : �
 
   new_said_few : (v : Message) (o : Option ReplyValue)
       → ((r : ReplyValue) → o ≡ Some r → length r.answers ≤ length s.sets.ports)
-      → length (outbox_of (new_said c s ingress datagram v o)) ≤ most
+      → length (outbox_of (new_said c.clock s ingress datagram v o)) ≤ most
   new_said_few v None few = turn_here
   new_said_few v (Some r) few = alone_few v r (few r refl)
 
   unnumbered_said_few : (v : Message) (o : Option ReplyValue)
       → reading datagram ≡ Ok v
       → ((r : ReplyValue) → o ≡ Some r → length r.answers ≤ length s.sets.ports)
-      → length (outbox_of (unnumbered_said c s ingress datagram v o)) ≤ most
+      → length (outbox_of (unnumbered_said c.clock s ingress datagram v o)) ≤ most
   unnumbered_said_few v None read few = turn_here
-  unnumbered_said_few v (Some r) read few = both_few c s ingress datagram most sized port ports v r read (few r refl)
+  unnumbered_said_few v (Some r) read few = both_few c.clock s ingress datagram most sized port ports v r read (few r refl)
 
   said_at_few : (v : Message) (w : Verdict) (say : Say)
       → reading datagram ≡ Ok v
-      → length (outbox_of (said_at w c s ingress datagram v say)) ≤ most
+      → length (outbox_of (said_at w c.rows c.clock s ingress datagram v say)) ≤ most
   said_at_few v verdicts.AnsweredNew say read =
-      new_said_few v (reply_said c s.sets v.source (request_of v) say) (said_few v.source (request_of v) say)
+      new_said_few v (reply_said c.rows c.clock s.sets v.source (request_of v) say) (said_few v.source (request_of v) say)
   said_at_few v verdicts.AnsweredUnnumbered say read =
       unnumbered_said_few v (reply_told (request_of v) say) read (told_few (request_of v) say)
   said_at_few v _ say read = turn_here
 
   said_by_few : (o : Option Message) (say : Say)
       → message_of datagram ≡ o
-      → length (outbox_of (said_by c s ingress datagram o say)) ≤ most
+      → length (outbox_of (said_by c.rows c.clock s ingress datagram o say)) ≤ most
   said_by_few None say read = turn_here
-  said_by_few (Some v) say read = said_at_few v (judged c s v) say (reading-message_of datagram v read)
+  said_by_few (Some v) say read = said_at_few v (judged c.clock s v) say (reading-message_of datagram v read)
 
-  turn_said_few : (say : Say) → length (outbox_of (turn_said c s say ingress datagram)) ≤ most
+  turn_said_few : (say : Say) → length (outbox_of (turn_said c.rows c.clock s say ingress datagram)) ≤ most
   unfolding turn_said
   turn_said_few say = said_by_few (message_of datagram) say refl
 

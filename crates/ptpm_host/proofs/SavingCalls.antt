@@ -5,7 +5,7 @@ use Rattle.ptpm_table.specs.Tables.{entries_of_block, owner_of_block}
 use Rattle.ptpm_agent.specs.declared.verdict.Verdict.{Verdict}
 use Rattle.ptpm_agent.specs.declared.verdict.Verdict.TheVariants as verdicts
 use Rattle.ptpm_agent.specs.Agent.{IsTurned}
-use Rattle.ptpm_agent.specs.Turn.{Clock, State, outbox_of}
+use Rattle.ptpm_agent.specs.Turn.{State, outbox_of}
 use Rattle.ptpm_data.specs.Members.{DataSetsValue}
 use Rattle.ptpm_device.specs.Saying.{Say, turn_said}
 use Rattle.ptpm_saved.specs.Batching.{Confirms, Handles, is_held, shown, waits}
@@ -13,7 +13,7 @@ use Rattle.ptpm_saved.specs.BatchingClock.{is_of_manager}
 use Rattle.ptpm_saved.specs.SavingClock.{is_new}
 use Rattle.ptpm_host.specs.declared.clock.HostedClock.{HostedClock}
 use Rattle.ptpm_host.specs.declared.saving_clock.SavingClock.{SavingClock}
-use Rattle.ptpm_host.specs.Clock.{clock_in, state_in}
+use Rattle.ptpm_host.specs.Clock.{DeviceClock, clock_in, state_in}
 use Rattle.ptpm_host.specs.Coming.{ClockBatch, ClockState, Coming, Heard, coming_process, datagram_in, is_held_by, turn_of}
 use Rattle.ptpm_host.specs.KeptBatch.{IsKept, KeptBatch, LeadsTo, kept_confirmed, kept_held}
 use Rattle.ptpm_host.specs.Queue.{queued}
@@ -32,7 +32,7 @@ abbrev pub with_state : State → ClockState → ClockState
 with_state now s = record s { state = now }
 
 -- a clock that keeps this is led there, if one that keeps as much is
-led : (c d : Clock) (k l : Kept) (given : List (ℕ × List ℕ)) (b : ClockBatch) (count : ℕ)
+led : (c d : DeviceClock) (k l : Kept) (given : List (ℕ × List ℕ)) (b : ClockBatch) (count : ℕ)
     → d ≡ c
     → l ≡ k
     → LeadsTo (coming_process c) shown_sets given k b count
@@ -42,13 +42,13 @@ led c d k l given b count same kept leads =
     (subst (λ m. LeadsTo (coming_process c) shown_sets given m b count) (sym kept) leads)
 
 -- anybody else is answered by what is shown
-pub shown_call : (old : SavingClock) (d : Clock) (l : Kept) (port : ℕ) (datagram : List ℕ) (say : Say)
+pub shown_call : (old : SavingClock) (d : DeviceClock) (l : Kept) (port : ℕ) (datagram : List ℕ) (say : Say)
     (given : List (ℕ × List ℕ))
     → d ≡ clock_in old.clock.value
     → l ≡ kept_of old
     → old.ready ≡ 0
-    → is_of_manager (clock_in old.clock.value) (port, datagram) ≡ false
-    → given ≡ outbox_of (turn_said (clock_in old.clock.value) (shown_state old) say port datagram)
+    → is_of_manager (clock_in old.clock.value).clock (port, datagram) ≡ false
+    → given ≡ outbox_of (turn_said (clock_in old.clock.value).rows (clock_in old.clock.value).clock (shown_state old) say port datagram)
     → (b : ClockBatch) (count : ℕ)
     → IsKeptOf old b count
     → LeadsTo (coming_process d) shown_sets given l (called_at old b (Handles (Heard port datagram say))) count
@@ -62,7 +62,7 @@ shown_call old d l port datagram say given same kept none other is b count as_ba
     (coming_alone c (shown p b) s (Heard port datagram say) other as_batch.shown ∙ sym is))
 
 -- while nothing waits, what changes nothing is answered
-pub first_call : (old : SavingClock) (d : Clock) (l : Kept) (port : ℕ) (datagram : List ℕ) (say : Say) (of_owner : Bool) (given : List (ℕ × List ℕ))
+pub first_call : (old : SavingClock) (d : DeviceClock) (l : Kept) (port : ℕ) (datagram : List ℕ) (say : Say) (of_owner : Bool) (given : List (ℕ × List ℕ))
     → d ≡ clock_in old.clock.value
     → l ≡ kept_of old
     → old.ready ≡ 0
@@ -90,7 +90,7 @@ first_call old d l port datagram say of_owner given same kept none quiet old_ver
     and_false false = refl
 
 -- what waits: it changes the clock, or is held while something waits
-module _ (old : SavingClock) (d : Clock) (l : Kept) (port : ℕ) (datagram : List ℕ) (say : Say) (of_owner : Bool)
+module _ (old : SavingClock) (d : DeviceClock) (l : Kept) (port : ℕ) (datagram : List ℕ) (say : Say) (of_owner : Bool)
     (same : d ≡ clock_in old.clock.value)
     (kept : l ≡ kept_held (with_state (turn_of (clock_in old.clock.value) (state_in old.clock.value) port datagram say of_owner).next (clock_state_in old.clock.value))
     (outbox_of (turn_of (clock_in old.clock.value) (state_in old.clock.value) port datagram say of_owner))
@@ -116,7 +116,7 @@ module _ (old : SavingClock) (d : Clock) (l : Kept) (port : ℕ) (datagram : Lis
       (messages_of_datagram c s port datagram say of_owner)))
 
   pub more_call : old.waits ≡ true
-      → (of_owner || is_of_manager (clock_in old.clock.value) (port, datagram)) ≡ true
+      → (of_owner || is_of_manager (clock_in old.clock.value).clock (port, datagram)) ≡ true
       → (b : ClockBatch) (count : ℕ)
       → IsKeptOf old b count
       → LeadsTo (coming_process d) shown_sets [] l (called_at old b (Handles (datagram_in port datagram say of_owner))) count
@@ -145,7 +145,7 @@ module _ (old : SavingClock) (d : Clock) (l : Kept) (port : ℕ) (datagram : Lis
       (λ i. held_if_new c s x (is_held_by c x) refl changes i
       && (if still i then true else (ap (λ t. p.changes t x) here ∙ changes) i))
     where
-      held_if_new : (c : Clock) (s : ClockState) (x : Coming) (h : Bool) → is_held_by c x ≡ h → (coming_process c).changes s x ≡ true → is_held_by c x ≡ true
+      held_if_new : (c : DeviceClock) (s : ClockState) (x : Coming) (h : Bool) → is_held_by c x ≡ h → (coming_process c).changes s x ≡ true → is_held_by c x ≡ true
       held_if_new c s x true is changes = is
       held_if_new c s x false is changes = absurd (false≢true (sym (coming_holds c s x is) ∙ changes))
 
@@ -167,25 +167,27 @@ saved_call old l copied b count later kept imaged as_batch =
 module _ (old : SavingClock) (with_shown turned last : HostedClock) (now : DataSetsValue) (port : ℕ) (datagram : List ℕ) (say : Say) (verdict : Verdict)
     (out : List (ℕ × List ℕ))
     (own : with_shown.agent.table ≡ old.clock.value.agent.table)
+    (own_rows : with_shown.relayed.items ≡ old.clock.value.relayed.items)
     (sets : with_shown.agent.sets ≡ old.shown)
     (turns : IsTurned (turn_of (clock_in with_shown) (state_in with_shown) port datagram say false) verdict out (state_in turned))
     (clock : clock_in turned ≡ clock_in with_shown)
     (back : last.agent.sets ≡ old.clock.value.agent.sets)
     (table : last.agent.table ≡ turned.agent.table)
+    (rows : last.relayed.items ≡ turned.relayed.items)
     (now_is : now ≡ turned.agent.sets)
     (under_way : last.under_way ≡ old.clock.value.under_way)
-    (other : is_of_manager (clock_in old.clock.value) (port, datagram) ≡ false) where
+    (other : is_of_manager (clock_in old.clock.value).clock (port, datagram) ≡ false) where
   own_clock : clock_in with_shown ≡ clock_in old.clock.value
-  own_clock = ap owner_of_block own
+  own_clock = λ i. record { clock = owner_of_block (own i); rows = own_rows i }
 
   own_state : state_in with_shown ≡ shown_state old
   own_state = λ i. record { sets = sets i; entries = entries_of_block (own i) }
 
-  own_turn : IsTurned (turn_said (clock_in old.clock.value) (shown_state old) say port datagram) verdict out (state_in turned)
-  own_turn = subst (λ (s : State). IsTurned (turn_said (clock_in old.clock.value) s say port datagram) verdict out (state_in turned)) own_state
-      (subst (λ (c : Clock). IsTurned (turn_said c (state_in with_shown) say port datagram) verdict out (state_in turned)) own_clock turns)
+  own_turn : IsTurned (turn_said (clock_in old.clock.value).rows (clock_in old.clock.value).clock (shown_state old) say port datagram) verdict out (state_in turned)
+  own_turn = subst (λ (s : State). IsTurned (turn_said (clock_in old.clock.value).rows (clock_in old.clock.value).clock s say port datagram) verdict out (state_in turned)) own_state
+      (subst (λ (c : DeviceClock). IsTurned (turn_said c.rows c.clock (state_in with_shown) say port datagram) verdict out (state_in turned)) own_clock turns)
 
-  same_next : (turn_said (clock_in old.clock.value) (shown_state old) say port datagram).next ≡ shown_state old
+  same_next : (turn_said (clock_in old.clock.value).rows (clock_in old.clock.value).clock (shown_state old) say port datagram).next ≡ shown_state old
   same_next = turn_of-unchanged (clock_in old.clock.value) (shown_state old) port datagram say false
       (said_old (clock_in old.clock.value) (shown_state old) port datagram say other)
 
@@ -193,7 +195,9 @@ module _ (old : SavingClock) (with_shown turned last : HostedClock) (now : DataS
   shown_not_new = ap is_new own_turn.verdict_is ∙ said_old (clock_in old.clock.value) (shown_state old) port datagram say other
 
   pub shown_clock : clock_in last ≡ clock_in old.clock.value
-  shown_clock = ap owner_of_block table ∙ clock ∙ own_clock
+  shown_clock =
+      let last_clock : clock_in last ≡ clock_in turned = λ i. record { clock = owner_of_block (table i); rows = rows i } in
+      last_clock ∙ clock ∙ own_clock
 
   pub shown_kept : ◌≡◌ {A = Kept} (record (kept_of old) { live = clock_state_in last; shown = now }) (kept_of old)
   shown_kept = λ i. record (kept_of old) {
@@ -278,7 +282,7 @@ module _ (old : SavingClock) (here turned : HostedClock) (port : ℕ) (datagram 
         → IsKeptOf old b count
         → old.ready ≡ 0
         → old.waits ≡ true
-        → (of_owner || is_of_manager (clock_in old.clock.value) (port, datagram)) ≡ true
+        → (of_owner || is_of_manager (clock_in old.clock.value).clock (port, datagram)) ≡ true
         → LeadsTo (coming_process (clock_in turned)) shown_sets []
         (record (kept_of old) { live = clock_state_in turned; messages = messages; waits = waits; is_changed = changed })
         (called_at old b (Handles (datagram_in port datagram say of_owner))) count

@@ -1,6 +1,6 @@
 -- What a clock asks of its device may be under way.
 use Rattle.std.proofs.Common.{arith, ◌≡◌, ◌∙◌, ◌≤◌, ◌+◌, ◌&&◌, ◌∷◌, ap, refl, subst, sym, Bool, true, false, ℕ, List, [], length, Option, Some, None, Ok, Err}
-use Rattle.std.specs.Prelude.{nat_le, take, is_none, is_some, if◌then◌else◌}
+use Rattle.std.specs.Prelude.{nat_le, not, take, is_none, is_some, if◌then◌else◌}
 use Rattle.std.proofs.lemmas.Bool.{false≢true, and_from, and_parts, eq-eqb, le-leb, leb-true}
 use Rattle.std.proofs.lemmas.Bool.Decides.{nat_tests}
 use Rattle.std.proofs.lemmas.List.{length-drop, length-take, take_all}
@@ -13,8 +13,8 @@ use Rattle.ptpm_data.specs.declared.management_id.Layout.{Layout}
 use Rattle.ptpm_data.specs.declared.management_id.Layout.TheVariants as layouts
 use Rattle.ptpm_data.specs.declared.port_setting.PortSetting.TheVariants as settings
 use Rattle.ptpm_data.specs.declared.rights.Rights.{Rights}
-use Rattle.ptpm_data.specs.ManagementId.{RowValue, row_of, set_of}
-use Rattle.ptpm_data.specs.Refusals.{is_length, is_set_length, is_set_value, is_value, refusal_at, refusal_of}
+use Rattle.ptpm_data.specs.ManagementId.{RowValue, has_action, row_of, set_of}
+use Rattle.ptpm_data.specs.Refusals.{has_right, is_length, is_set_length, is_set_value, is_value, refusal_at, refusal_of}
 use Rattle.ptpm_data.specs.Request.{RequestValue}
 use Rattle.ptpm_data.specs.SetForm.{SetField, NoSet, Empty, TextUpTo, AnyOctet, from◌to◌, either◌to◌or◌, MechanismNumber, minus◌to◌, NotBothLeaps}
 use Rattle.ptpm_data.proofs.Keeping.{suits_from}
@@ -29,9 +29,13 @@ use Rattle.ptpm_agent.proofs.Turns.{message_of-reading, reading-message_of}
 use Rattle.ptpm_codec.specs.Spelling.{Spells, SpellsBody}
 use Rattle.ptpm_codec.proofs.ReadingLaws.{message_of-spells, message_size, spells-message_of}
 use Rattle.ptpm_agent.specs.Addressing.{request_of}
-use Rattle.ptpm_agent.specs.Turn.{Clock, NumberedRequest, State, numbered_from}
-use Rattle.ptpm_device.specs.Asking.{asked, asked_by, is_asked, is_change}
+use Rattle.ptpm_agent.specs.Turn.{NumberedRequest, State, numbered_from}
+use Rattle.ptpm_device.specs.declared.relayed.RelayedId.{RelayedId}
+use Rattle.ptpm_device.specs.Asking.{asked, asked_by, is_asked}
+use Rattle.ptpm_device.specs.Relayed as rows
+use Rattle.ptpm_device.specs.Relayed.{is_change, is_relayed_length, refusal_in, relayed, relayed_refusal}
 use Rattle.ptpm_host.specs.UnderWay.{is_change_in, may_be_under_way}
+use Rattle.ptpm_host.specs.Clock.{DeviceClock}
 
 -- a text is of 128 octets at most
 abbrev is_small : SetField → Bool
@@ -97,6 +101,28 @@ pub accepted_fits : (q : RequestValue) (rights : Rights)
     → refusal_of q rights ≡ None
     → length q.octets ≤ 130
 accepted_fits q rights change none = accepted_at (row_of q.id) q rights change none
+
+-- what the device is asked, by a row of its ids or by the clock
+relayed_fits : (r : RelayedId) (size : ℕ) → is_relayed_length r size ≡ true → size ≤ 130
+relayed_fits r size fits = leb-true _ _ (and_parts _ _ (and_parts _ _ fits).1).1
+
+open_fits : (o : Option RelayedId) (q : RequestValue) (rights : Rights)
+    → is_change q.action ≡ true
+    → rows.refusal_at o q rights ≡ None
+    → length q.octets ≤ 130
+unfolding relayed_refusal
+open_fits None q rights change none = accepted_fits q rights change none
+open_fits (Some r) q rights change none =
+    relayed_fits r (length q.octets)
+    (sized (not (has_action q.action r.actions.0)) (not (has_right r.right.0 rights)) (is_relayed_length r (length q.octets)) none)
+  where
+    sized : (a b fits : Bool) {tail : Option ErrorId} {x y z : ErrorId}
+        → (if a then Some x else if b then Some y else if not fits then Some z else tail) ≡ None
+        → fits ≡ true
+    sized true b fits none = absurd cc
+    sized false true fits none = absurd cc
+    sized false false true none = refl
+    sized false false false none = absurd cc
 
 -- ---- a message alone
 
@@ -168,13 +194,13 @@ change_request actions.Acknowledge change = absurd (false≢true change)
 
 -- ---- what is asked
 
-module _ (c : Clock) (s : State) (datagram : List ℕ) where
+module _ (c : DeviceClock) (s : State) (datagram : List ℕ) where
   asked_read : (o : Option Message)
-      → is_some (asked_by c s o) ≡ true
+      → is_some (asked_by c.rows c.clock s o) ≡ true
       → message_of datagram ≡ o
-      → (v : Message) × (message_of datagram ≡ Some v) × (is_asked c s v ≡ true)
+      → (v : Message) × (message_of datagram ≡ Some v) × (is_asked c.rows c.clock s v ≡ true)
   asked_read None is read = absurd (false≢true is)
-  asked_read (Some v) is read = (v, read, asked_if (is_asked c s v) (numbered_from v) is)
+  asked_read (Some v) is read = (v, read, asked_if (is_asked c.rows c.clock s v) (numbered_from v) is)
     where
       asked_if : (b : Bool) (r : NumberedRequest) → is_some (if b then Some r else None) ≡ true → b ≡ true
       asked_if true r is = refl
@@ -182,14 +208,14 @@ module _ (c : Clock) (s : State) (datagram : List ℕ) where
 
   may_be : (v : Message)
       → message_of datagram ≡ Some v
-      → is_asked c s v ≡ true
+      → is_asked c.rows c.clock s v ≡ true
       → may_be_under_way (message_octets datagram) ≡ true
   unfolding is_asked may_be_under_way
   may_be v read is =
       let permitted = (and_parts _ _ is).1 in
       let change : is_change (action_of v.body) ≡ true = (and_parts _ _ permitted).0 in
-      let none = is_none_is (refusal_of (request_of v) (c.rights v.source)) (and_parts _ _ permitted).1 in
-      let fits : length (octets_of v.body) ≤ 130 = accepted_fits (request_of v) (c.rights v.source) change none in
+      let none = is_none_is (refusal_in c.rows (request_of v) (c.clock.rights v.source)) (and_parts _ _ permitted).1 in
+      let fits : length (octets_of v.body) ≤ 130 = open_fits (relayed c.rows (request_of v)) (request_of v) (c.clock.rights v.source) change none in
       let spelled = message_of-spells v datagram read in
       let size = field_size v.body (message_octets datagram) spelled.at_least spelled.body (change_request (action_of v.body) change) in
       let whole = message_alone v datagram read in
@@ -200,7 +226,7 @@ module _ (c : Clock) (s : State) (datagram : List ℕ) where
       is_none_is None is = refl
       is_none_is (Some e) is = absurd (false≢true is)
 
-  pub asked_may_be : is_some (asked c s datagram) ≡ true → may_be_under_way (message_octets datagram) ≡ true
+  pub asked_may_be : is_some (asked c.rows c.clock s datagram) ≡ true → may_be_under_way (message_octets datagram) ≡ true
   unfolding asked
   asked_may_be is = let found = asked_read (message_of datagram) is refl in may_be found.0 found.1 found.2
 

@@ -7,7 +7,7 @@ use Rattle.ptpm_codec.specs.Layout.{message_octets}
 use Rattle.ptpm_codec.specs.Reading.{IsWellFormed, message_of}
 use Rattle.ptpm_codec.proofs.ReadingLaws.{message_of-some}
 use Rattle.ptpm_agent.specs.declared.verdict.Verdict.TheVariants as verdicts
-use Rattle.ptpm_agent.specs.Turn.{Clock, NumberedRequest, State, outbox_of}
+use Rattle.ptpm_agent.specs.Turn.{NumberedRequest, State, outbox_of}
 use Rattle.ptpm_device.specs.Asking as asking
 use Rattle.ptpm_device.specs.Asking.{asked, asked_by}
 use Rattle.ptpm_device.specs.Saying.{Say, turn_said}
@@ -16,7 +16,7 @@ use Rattle.ptpm_saved.specs.Saving.{Came}
 use Rattle.ptpm_saved.specs.SavingClock.{Datagram}
 use Rattle.ptpm_host.specs.declared.saving_clock.Acting.TheVariants as actings
 use Rattle.ptpm_host.specs.declared.saving_clock.SavingClock.{SavingClock}
-use Rattle.ptpm_host.specs.Clock.{clock_in, state_in}
+use Rattle.ptpm_host.specs.Clock.{DeviceClock, clock_in, state_in}
 use Rattle.ptpm_host.specs.Coming.{ClockBatch, ClockState, Coming, Decides, Undertakes, after_coming, coming_process, is_change_of, is_held_by, messages_for, undertakes}
 use Rattle.ptpm_host.specs.KeptBatch.{IsKept, LeadsTo, kept_held}
 use Rattle.ptpm_host.specs.Queue.{queued}
@@ -28,13 +28,13 @@ use Rattle.ptpm_host.proofs.SavingCalls.{Kept}
 
 -- ---- what is asked
 
-pub asked_well_formed : (c : Clock) (s : State) (datagram : List ℕ)
-    → is_some (asked c s datagram) ≡ true
+pub asked_well_formed : (c : DeviceClock) (s : State) (datagram : List ℕ)
+    → is_some (asked c.rows c.clock s datagram) ≡ true
     → IsWellFormed datagram
 unfolding asked
 asked_well_formed c s datagram is = by_message (message_of datagram) refl is
   where
-    by_message : (o : Option Message) → message_of datagram ≡ o → is_some (asked_by c s o) ≡ true → IsWellFormed datagram
+    by_message : (o : Option Message) → message_of datagram ≡ o → is_some (asked_by c.rows c.clock s o) ≡ true → IsWellFormed datagram
     by_message None read is = absurd (false≢true is)
     by_message (Some v) read is = (message_of-some datagram v read).0
 
@@ -50,7 +50,7 @@ or_true false = refl
 
 module _ (old : SavingClock) (x : Coming) (b : ClockBatch) (count : ℕ) (as_batch : IsAsBatch old b count)
     (held : is_held_by (clock_in old.clock.value) x ≡ true) where
-  abbrev c : Clock
+  abbrev c : DeviceClock
   c = clock_in old.clock.value
 
   abbrev s : ClockState
@@ -122,7 +122,7 @@ under_way_if : (h : Bool) (t s : ClockState) → h ≡ false → (if h then t el
 under_way_if h t s none = ap (λ (r : ClockState). r.under_way) (stays_if h t s none)
 
 pub unasked_call : (old : SavingClock) (port : ℕ) (datagram : List ℕ) (b : ClockBatch) (count : ℕ)
-    → asked (clock_in old.clock.value) (state_in old.clock.value) datagram ≡ None
+    → asked (clock_in old.clock.value).rows (clock_in old.clock.value).clock (state_in old.clock.value) datagram ≡ None
     → old.ready ≡ 0
     → IsAsBatch old b count
     → IsAsBatch old (called_at old b (Handles (Undertakes port datagram))) count
@@ -130,7 +130,7 @@ unasked_call old port datagram b count nothing empty as_batch =
     let c = clock_in old.clock.value in
     let s : ClockState = clock_state_in old.clock.value in
     let x = Undertakes port datagram in
-    let none : undertakes c s datagram ≡ false = undertakes_not s.under_way (asked c s.state datagram) nothing in
+    let none : undertakes c s datagram ≡ false = undertakes_not s.under_way (asked c.rows c.clock s.state datagram) nothing in
     let now : ClockState = live (coming_process c) b in
     let none_now : undertakes c now datagram ≡ false = ap (λ (t : ClockState). undertakes c t datagram) as_batch.kept.live ∙ none in
     unmoved_call old x b count as_batch refl none (λ t. refl)
@@ -141,7 +141,7 @@ unasked_call old port datagram b count nothing empty as_batch =
     empty
 
 pub undertaken_call : (old new : SavingClock) (port : ℕ) (datagram : List ℕ) (b : ClockBatch) (count : ℕ)
-    → is_some (asked (clock_in old.clock.value) (state_in old.clock.value) datagram) ≡ true
+    → is_some (asked (clock_in old.clock.value).rows (clock_in old.clock.value).clock (state_in old.clock.value) datagram) ≡ true
     → under_way_of old ≡ None
     → clock_in new.clock.value ≡ clock_in old.clock.value
     → new.acting ≡ actings.AnImage
@@ -158,7 +158,7 @@ undertaken_call old new port datagram b count is free clock acting imaged under_
     let c = clock_in old.clock.value in
     let s : ClockState = clock_state_in old.clock.value in
     let x = Undertakes port datagram in
-    let change : undertakes c s datagram ≡ true = undertakes_now s.under_way (asked c s.state datagram) free is in
+    let change : undertakes c s datagram ≡ true = undertakes_now s.under_way (asked c.rows c.clock s.state datagram) free is in
     let now : ClockState = live (coming_process c) b in
     let change_now : undertakes c now datagram ≡ true = ap (λ (t : ClockState). undertakes c t datagram) as_batch.kept.live ∙ change in
     let held = waits_here old x b count as_batch refl change in
@@ -171,7 +171,7 @@ undertaken_call old new port datagram b count is free clock acting imaged under_
       is_changed = (ap (λ h. old.is_changed || h) change ∙ sym (or_true old.is_changed)) i;
     }) ∙ sym kept in
     is_batch new (called_at old b (Handles x)) count
-    (subst (λ (d : Clock). IsKept (coming_process d) shown_sets (kept_of new) (called_at old b (Handles x)) count) (sym clock)
+    (subst (λ (d : DeviceClock). IsKept (coming_process d) shown_sets (kept_of new) (called_at old b (Handles x)) count) (sym clock)
     (subst (λ k. IsKept (coming_process c) shown_sets k (called_at old b (Handles x)) count) l
     (waiting_silent (coming_process c) shown_sets (is_held_by c) (kept_of old) b count x as_batch.kept held refl)))
     (subst (λ (h : Bool). IsAskedOf new (if h then holds b x else answers (coming_process c) b x) count) (sym held)
@@ -183,8 +183,8 @@ undertaken_call old new port datagram b count is free clock acting imaged under_
 
 pub decided_call : (old new : SavingClock) (x : Datagram) (say : Say) (made : List (ℕ × List ℕ)) (next : State) (b : ClockBatch) (count : ℕ)
     → under_way_of old ≡ Some x
-    → next ≡ (turn_said (clock_in old.clock.value) (state_in old.clock.value) say x.0 x.1).next
-    → made ≡ outbox_of (turn_said (clock_in old.clock.value) (state_in old.clock.value) say x.0 x.1)
+    → next ≡ (turn_said (clock_in old.clock.value).rows (clock_in old.clock.value).clock (state_in old.clock.value) say x.0 x.1).next
+    → made ≡ outbox_of (turn_said (clock_in old.clock.value).rows (clock_in old.clock.value).clock (state_in old.clock.value) say x.0 x.1)
     → clock_in new.clock.value ≡ clock_in old.clock.value
     → new.acting ≡ actings.Nothing
     → (new.is_imaged ≡ true → old.is_imaged ≡ true)
@@ -214,7 +214,7 @@ decided_call old new x say made next b count busy next_is made_is clock acting i
       is_changed = (ap (λ h. old.is_changed || h) change ∙ sym (or_true old.is_changed)) i;
     }) ∙ sym kept in
     led_to [] new (called_at old b (Handles y)) count
-    (subst (λ (d : Clock). LeadsTo (coming_process d) shown_sets [] (kept_of new) (called_at old b (Handles y)) count) (sym clock)
+    (subst (λ (d : DeviceClock). LeadsTo (coming_process d) shown_sets [] (kept_of new) (called_at old b (Handles y)) count) (sym clock)
     (subst (λ k. LeadsTo (coming_process c) shown_sets [] k (called_at old b (Handles y)) count) l
     (waiting (coming_process c) shown_sets (is_held_by c) (kept_of old) b count y made as_batch.kept empty held sends)))
     (asks_waiting old new b count as_batch y held

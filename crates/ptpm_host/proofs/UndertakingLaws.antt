@@ -4,7 +4,6 @@ use Rattle.std.specs.Prelude.{is_some}
 use Rattle.std.proofs.lemmas.Bool.{false≢true}
 use Rattle.ptpm_codec.specs.Layout.{message_octets}
 use Rattle.ptpm_data.specs.ObservationBack.{Observation}
-use Rattle.ptpm_agent.specs.Turn.{Clock}
 use Rattle.ptpm_device.specs.Asking.{asked}
 use Rattle.ptpm_saved.specs.Saving.{Came, Comes, Counted, Device, Ends, Event, Fails, Happening, IsPartOf, IsSound, Keeps, Loses, Noted, Notes, Process, Saves, Sends, after_all, after_one, all_counted, all_reports, counted, counted_by, counted_with, happen_all, happened, happens, heard, nothing_yet, reports_of, started, took, what_counts}
 use Rattle.ptpm_saved.specs.SavingClock.{Datagram}
@@ -13,6 +12,7 @@ use Rattle.ptpm_saved.proofs.BatchingLaws.{Can, as_the_device, can_call, notes_o
 use Rattle.ptpm_saved.proofs.SavingLaws.{as_if_powered}
 use Rattle.ptpm_host.specs.Coming.{Changed, ClockBatch, ClockState, Coming, Decides, Heard, OfOwner, Undertakes, after_coming, coming_process, is_held_by, undertakes}
 use Rattle.ptpm_host.specs.Undertaking.{AsksAtMostOnce, all_asked, all_of, asked_at, decides_in, is_decision, undertakings}
+use Rattle.ptpm_host.specs.Clock.{DeviceClock}
 
 -- ---- nothing that comes in late is lost
 
@@ -235,7 +235,7 @@ part_behind xs (u ∷ us) vs part = Loses u xs (us ++ vs) (part_behind xs us vs 
 part_before : {X : Type 0} (xs ys vs : List X) → IsPartOf xs ys → IsPartOf xs (ys ++ vs)
 part_before xs ys vs part = subst (λ l. IsPartOf l (ys ++ vs)) (append-nil xs) (part_joined xs ys [] vs part (part_none vs))
 
-module _ (c : Clock) where
+module _ (c : DeviceClock) where
   abbrev after : ClockState → List (Happening Coming Observation) → ClockState
   after s hs = after_all (coming_process c) s hs
 
@@ -253,7 +253,7 @@ module _ (c : Clock) where
   kept_one s (Changed request) d is none = is
   kept_one s (Undertakes port datagram) d is none =
       ap (λ (b : Bool). (if b then record s { under_way = Some (port, message_octets datagram) } else s).under_way)
-      (stays_busy d s.under_way (is_some (asked c s.state datagram)) is)
+      (stays_busy d s.under_way (is_some (asked c.rows c.clock s.state datagram)) is)
       ∙ is
   kept_one s (Decides say) d is none = absurd (false≢true (sym none))
 

@@ -42,7 +42,8 @@ refusal_names =
     ∷ (117, codes "NO_VALUE") ∷ (118, codes "UNSAVED") ∷ (119, codes "OTHER_IMAGE") ∷ (120, codes "NO_ASKER")
     ∷ (121, codes "BAD_SAY") ∷ (123, codes "UNDER_WAY") ∷ (124, codes "NOTHING_UNDER_WAY") ∷ (126, codes "NO_JOURNAL")
     ∷ (127, codes "NO_RECORD") ∷ (128, codes "NOT_ALLOWED") ∷ (129, codes "JOURNAL_WHOLE") ∷ (130, codes "NO_ROLLOUT")
-    ∷ (131, codes "HAS_ENDED") ∷ (132, codes "OUT_OF_TURN") ∷ []
+    ∷ (131, codes "HAS_ENDED") ∷ (132, codes "OUT_OF_TURN") ∷ (133, codes "TOO_MANY_IDS") ∷ (134, codes "CLOCK_HAS_ID")
+    ∷ (135, codes "RELAYED_TWICE") ∷ (136, codes "BAD_SCOPE") ∷ (137, codes "BAD_ACTIONS") ∷ (138, codes "BAD_SIZES") ∷ []
 
 -- which member of a clock is out of its range
 abbrev pub clock_member_names : List (ℕ × List ℕ)

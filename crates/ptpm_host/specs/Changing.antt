@@ -20,7 +20,7 @@ use Rattle.ptpm_agent.specs.declared.verdict.Verdict.{Verdict}
 use Rattle.ptpm_agent.specs.declared.verdict.Verdict.TheVariants as verdicts
 use Rattle.ptpm_agent.specs.Addressing.{request_of}
 use Rattle.ptpm_agent.specs.Turn.{Clock, State, Turned, turn}
-use Rattle.ptpm_device.specs.Asking.{is_change}
+use Rattle.ptpm_device.specs.Relayed.{is_change}
 use Rattle.ptpm_device.specs.Changing.{changed_state}
 use Rattle.ptpm_host.specs.declared.clock.HostedClock.{HostedClock}
 use Rattle.ptpm_host.specs.declared.refusal.ChangeRefusal.{ChangeRefusal}

@@ -10,6 +10,7 @@ use Rattle.ptpm_table.specs.Managers.{IsFresh, identities, block_refusal}
 use Rattle.ptpm_table.specs.Tables.{entries_of_block, owner_of_block}
 use Rattle.ptpm_agent.specs.Agent.{clock_of, state_of}
 use Rattle.ptpm_agent.specs.Turn.{Clock, State}
+use Rattle.ptpm_device.specs.declared.relayed.RelayedId.{RelayedId}
 use Rattle.ptpm_host.specs.declared.clock.HostedClock.{HostedClock}
 use Rattle.ptpm_host.specs.declared.refusal.HandleRefusal.{HandleRefusal}
 use Rattle.ptpm_host.specs.declared.refusal.HandleRefusal.TheVariants.{NoPort, NoRoom}
@@ -23,19 +24,25 @@ use Rattle.ptpm_host.specs.Settings as settings
 
 -- ---- a clock
 
--- its identity, its managers, and what each of them may change: `ReplyTable`'s owner, of its table
-abbrev pub clock_in : HostedClock → Clock
-clock_in c = clock_of owner_of_block c.agent
+-- A clock by what a host gives it, and no request changes. That is its identity, its managers, what each of them may change, and its
+-- device's own ids.
+pub record DeviceClock : Type 0 where
+  pub clock : Clock
+  pub rows : List RelayedId
+
+-- the former is `ReplyTable`'s owner, of its table
+abbrev pub clock_in : HostedClock → DeviceClock
+clock_in c = record { clock = clock_of owner_of_block c.agent; rows = c.relayed.items }
 
 -- its data sets, and what is kept of each manager: `ReplyTable`'s entries, of its table
 abbrev pub state_in : HostedClock → State
 state_in c = state_of entries_of_block c.agent
 
--- of these settings' identity and these managers; it has heard nothing yet, and nothing is under way
+-- of these settings' identity and these managers; it has heard nothing yet, its device has no ids of its own, and nothing is under way
 abbrev pub IsFreshClock : ClockSettings → List ManagerSettings → HostedClock → Type 0
 IsFreshClock clock managers c =
-    IsFresh (record { 0 = clock.identity }) (settings.configured managers) (clock_in c) (state_in c).entries
-    × (c.under_way ≡ None)
+    IsFresh (record { 0 = clock.identity }) (settings.configured managers) (clock_in c).clock (state_in c).entries
+    × ((c.relayed.items ≡ []) × (c.under_way ≡ None))
 
 -- ---- why a clock does not start: its values first, then its managers, and last that its host has given it no identity
 

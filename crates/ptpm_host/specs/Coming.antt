@@ -6,7 +6,7 @@ use Rattle.ptpm_codec.specs.Layout.{message_octets}
 use Rattle.ptpm_data.specs.ObservationBack.{Observation}
 use Rattle.ptpm_data.specs.Request.{RequestValue}
 use Rattle.ptpm_agent.specs.Observing.{moved_state}
-use Rattle.ptpm_agent.specs.Turn.{Clock, State, Turned, outbox_of}
+use Rattle.ptpm_agent.specs.Turn.{State, Turned, outbox_of}
 use Rattle.ptpm_device.specs.Asking.{asked}
 use Rattle.ptpm_device.specs.Changing.{changed_state}
 use Rattle.ptpm_device.specs.Saying.{Say, turn_said}
@@ -15,6 +15,7 @@ use Rattle.ptpm_saved.specs.SavingClock.{Datagram, as_observed, is_new}
 use Rattle.ptpm_saved.specs.Batching.{Batch}
 use Rattle.ptpm_saved.specs.BatchingClock.{is_of_manager}
 use Rattle.ptpm_host.specs.Changing.{owner_turn}
+use Rattle.ptpm_host.specs.Clock.{DeviceClock}
 
 -- the clock's own state, and the request that its device was asked to carry out, or is to be asked, with its port
 pub record ClockState : Type 0 where
@@ -34,53 +35,53 @@ pub data Coming : Type 0 where
   Decides : (say : Say) → Coming
 
 -- the turn of a datagram; that of the owner asks no device
-abbrev pub turn_of : Clock → State → ℕ → List ℕ → Say → Bool → Turned
-turn_of c s port datagram say true = owner_turn c s port datagram
-turn_of c s port datagram say false = turn_said c s say port datagram
+abbrev pub turn_of : DeviceClock → State → ℕ → List ℕ → Say → Bool → Turned
+turn_of c s port datagram say true = owner_turn c.clock s port datagram
+turn_of c s port datagram say false = turn_said c.rows c.clock s say port datagram
 
 abbrev pub datagram_in : ℕ → List ℕ → Say → Bool → Coming
 datagram_in port datagram say true = OfOwner port datagram
 datagram_in port datagram say false = Heard port datagram say
 
 -- a change is undertaken if the device would be asked for it and nothing is under way
-abbrev pub undertakes : Clock → ClockState → List ℕ → Bool
-undertakes c s datagram = not (is_some s.under_way) && is_some (asked c s.state datagram)
+abbrev pub undertakes : DeviceClock → ClockState → List ℕ → Bool
+undertakes c s datagram = not (is_some s.under_way) && is_some (asked c.rows c.clock s.state datagram)
 
-abbrev pub undertaken : Clock → ClockState → ℕ → List ℕ → ClockState
+abbrev pub undertaken : DeviceClock → ClockState → ℕ → List ℕ → ClockState
 undertaken c s port datagram =
     if undertakes c s datagram then record s { under_way = Some (port, message_octets datagram) } else s
 
 -- the turn of what is under way, if anything is
-abbrev pub decided : Clock → State → Say → Option Datagram → State
+abbrev pub decided : DeviceClock → State → Say → Option Datagram → State
 decided c s say None = s
-decided c s say (Some x) = (turn_said c s say x.0 x.1).next
+decided c s say (Some x) = (turn_said c.rows c.clock s say x.0 x.1).next
 
-abbrev pub decided_messages : Clock → State → Say → Option Datagram → List (ℕ × List ℕ)
+abbrev pub decided_messages : DeviceClock → State → Say → Option Datagram → List (ℕ × List ℕ)
 decided_messages c s say None = []
-decided_messages c s say (Some x) = outbox_of (turn_said c s say x.0 x.1)
+decided_messages c s say (Some x) = outbox_of (turn_said c.rows c.clock s say x.0 x.1)
 
-abbrev pub after_coming : Clock → ClockState → Coming → ClockState
-after_coming c s (Heard port datagram say) = record s { state = (turn_said c s.state say port datagram).next }
-after_coming c s (OfOwner port datagram) = record s { state = (owner_turn c s.state port datagram).next }
+abbrev pub after_coming : DeviceClock → ClockState → Coming → ClockState
+after_coming c s (Heard port datagram say) = record s { state = (turn_said c.rows c.clock s.state say port datagram).next }
+after_coming c s (OfOwner port datagram) = record s { state = (owner_turn c.clock s.state port datagram).next }
 after_coming c s (Changed request) = record s { state = changed_state request s.state }
 after_coming c s (Undertakes port datagram) = undertaken c s port datagram
 after_coming c s (Decides say) = record { state = decided c s.state say s.under_way; under_way = None }
 
-abbrev pub messages_for : Clock → ClockState → Coming → List (ℕ × List ℕ)
-messages_for c s (Heard port datagram say) = outbox_of (turn_said c s.state say port datagram)
-messages_for c s (OfOwner port datagram) = outbox_of (owner_turn c s.state port datagram)
+abbrev pub messages_for : DeviceClock → ClockState → Coming → List (ℕ × List ℕ)
+messages_for c s (Heard port datagram say) = outbox_of (turn_said c.rows c.clock s.state say port datagram)
+messages_for c s (OfOwner port datagram) = outbox_of (owner_turn c.clock s.state port datagram)
 messages_for c s (Changed request) = []
 messages_for c s (Undertakes port datagram) = []
 messages_for c s (Decides say) = decided_messages c s.state say s.under_way
 
-abbrev pub is_change_of : Clock → ClockState → Coming → Bool
-is_change_of c s (Heard port datagram say) = is_new (turn_said c s.state say port datagram).verdict
-is_change_of c s (OfOwner port datagram) = is_new (owner_turn c s.state port datagram).verdict
+abbrev pub is_change_of : DeviceClock → ClockState → Coming → Bool
+is_change_of c s (Heard port datagram say) = is_new (turn_said c.rows c.clock s.state say port datagram).verdict
+is_change_of c s (OfOwner port datagram) = is_new (owner_turn c.clock s.state port datagram).verdict
 is_change_of c s (Changed request) = true
 is_change_of c s (Undertakes port datagram) = undertakes c s datagram
 is_change_of c s (Decides say) = is_some s.under_way
 
-abbrev pub coming_process : Clock → Process ClockState Coming Observation (ℕ × List ℕ)
+abbrev pub coming_process : DeviceClock → Process ClockState Coming Observation (ℕ × List ℕ)
 coming_process c = record {
   after = after_coming c;
   messages = messages_for c;
@@ -91,8 +92,8 @@ coming_process c = record {
 
 -- What waits while something is unsaved: what a manager asks of this clock alone, and all that the owner asks. So do undertakings and
 -- decisions.
-abbrev pub is_held_by : Clock → Coming → Bool
-is_held_by c (Heard port datagram say) = is_of_manager c (port, datagram)
+abbrev pub is_held_by : DeviceClock → Coming → Bool
+is_held_by c (Heard port datagram say) = is_of_manager c.clock (port, datagram)
 is_held_by c (OfOwner port datagram) = true
 is_held_by c (Changed request) = true
 is_held_by c (Undertakes port datagram) = true

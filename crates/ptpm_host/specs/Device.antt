@@ -2,15 +2,13 @@
 use Rattle.std.specs.Prelude.{◌≡◌, ◌≤◌, ◌==◌, ◌&&◌, ◌%◌, ℕ, Bool, true, false, not, nat_le, nat_lt, if◌then◌else◌, List, [], ◌∷◌, drop, length, replicate, take, Option, Some, None, Result, Ok, Err}
 use Rattle.ptpm_codec.specs.declared.error.ErrorId.{ErrorId}
 use Rattle.ptpm_codec.specs.declared.error.ErrorId.TheVariants.{GeneralError, NotSetable, NotSupported, WrongValue}
-use Rattle.ptpm_codec.specs.Message.{IsDataField, action_code}
+use Rattle.ptpm_codec.specs.Message.{action_code}
 use Rattle.ptpm_codec.specs.Ordered.{first_of}
 use Rattle.ptpm_agent.specs.Turn.{NumberedRequest}
 use Rattle.ptpm_device.specs.Saying as says
 use Rattle.ptpm_host.specs.declared.device.Asking.{Asking}
 use Rattle.ptpm_host.specs.declared.device.Asking.TheVariants as askings
 use Rattle.ptpm_host.specs.declared.device.Question.{Question}
-use Rattle.ptpm_host.specs.declared.device.Said.{Said}
-use Rattle.ptpm_host.specs.declared.device.Said.TheVariants as saids
 use Rattle.ptpm_host.specs.declared.device.Say.{Say}
 use Rattle.ptpm_host.specs.declared.refusal.HandleRefusal.TheVariants as handles
 use Rattle.ptpm_host.specs.declared.refusal.SaidRefusal.{SaidRefusal}
@@ -91,17 +89,6 @@ say_in s =
     else if s.kind == 1 then objection_of (error_in s.error)
     else if s.kind == 2 then value_of s.size s.octets
     else Err refusals.BadSay
-
--- the same, as code has it
-abbrev pub said_value : Said → says.Say
-said_value saids.Agrees = says.Agrees
-said_value (saids.Objects error) = says.Objects error
-said_value (saids.Gives octets) = says.Gives octets.now
-
-abbrev pub IsGiven : Said → Type 0
-IsGiven saids.Agrees = Unit {0}
-IsGiven (saids.Objects error) = Unit {0}
-IsGiven (saids.Gives octets) = IsDataField octets.now
 
 abbrev pub is_bad : {A B : Type 0} → Result A B → Bool
 is_bad (Ok a) = false

@@ -33,6 +33,7 @@ pub mod SavingClock
 pub mod MostSent
 pub mod Answers
 pub mod Device
+pub mod Relay
 pub mod Changing
 pub mod Limits
 pub mod JournalNumbers

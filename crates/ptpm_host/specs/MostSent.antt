@@ -8,6 +8,7 @@ use Rattle.ptpm_table.specs.Entries.{Entry}
 use Rattle.ptpm_agent.specs.Turn.{Clock, State, outbox_of, turn}
 use Rattle.ptpm_device.specs.Saying.{Say, turn_said}
 use Rattle.ptpm_host.specs.Changing.{owner_turn}
+use Rattle.ptpm_host.specs.Clock.{DeviceClock}
 
 -- the most answers that one of these kept replies has
 abbrev pub most_answers : List (PortIdentity × Entry) → ℕ
@@ -22,10 +23,10 @@ most_sent s = max (2 * length s.sets.ports - 1) (most_answers (entries s.entries
 
 -- for a datagram that comes in at a port of the clock, whatever its device says
 abbrev pub SendsNoMore : Type 0
-SendsNoMore = (c : Clock) (s : State) (say : Say) (port : ℕ) (datagram : List ℕ)
+SendsNoMore = (c : DeviceClock) (s : State) (say : Say) (port : ℕ) (datagram : List ℕ)
     → IsSized s.sets
     → HasPort port s.sets
-    → length (outbox_of (turn_said c s say port datagram)) ≤ most_sent s
+    → length (outbox_of (turn_said c.rows c.clock s say port datagram)) ≤ most_sent s
 
 -- the same without a device
 abbrev pub SendsNoMoreAlone : Type 0

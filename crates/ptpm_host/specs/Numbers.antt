@@ -45,6 +45,8 @@ use Rattle.ptpm_host.specs.declared.refusal.ReadRefusal.{ReadRefusal}
 use Rattle.ptpm_host.specs.declared.refusal.ReadRefusal.TheVariants as reads
 use Rattle.ptpm_host.specs.declared.refusal.StartRefusal.{StartRefusal}
 use Rattle.ptpm_host.specs.declared.refusal.StartRefusal.TheVariants as refusals
+use Rattle.ptpm_host.specs.declared.refusal.RelayRefusal.{RelayRefusal}
+use Rattle.ptpm_host.specs.declared.refusal.RelayRefusal.TheVariants as relays
 use Rattle.ptpm_host.specs.declared.refusal.ReportRefusal.{ReportRefusal}
 use Rattle.ptpm_host.specs.declared.refusal.ReportRefusal.TheVariants as reports
 use Rattle.ptpm_host.specs.declared.refusal.SavedRefusal.{SavedRefusal}
@@ -183,6 +185,16 @@ abbrev pub take_number : TakeRefusal → ℕ
 take_number (takes.Said refusal) = said_number refusal
 take_number takes.UnderWay = under_way
 take_number takes.Unsaved = unsaved
+
+-- why a table of a device's own ids is not taken, 35 or 133 to 138
+abbrev pub relay_number : RelayRefusal → ℕ
+relay_number relays.TooManyIds = 133
+relay_number relays.ClockHasId = 134
+relay_number relays.RelayedTwice = 135
+relay_number relays.BadScope = 136
+relay_number relays.BadActions = 137
+relay_number relays.BadSizes = 138
+relay_number relays.OutOfMemory = no_memory
 
 -- why no change is under way after a call that would begin one
 abbrev pub undertake_number : UndertakeRefusal → ℕ

@@ -1,5 +1,5 @@
 -- Which clock goes on from an image, and why none does.
-use Rattle.std.specs.Prelude.{◌≡◌, ◌≤◌, ℕ, Bool, true, false, List, length, Option, Some, None}
+use Rattle.std.specs.Prelude.{◌≡◌, ◌≤◌, ℕ, Bool, true, false, List, [], length, Option, Some, None}
 use Rattle.std.specs.FinMap.{empty}
 use Rattle.ptpm_codec.specs.declared.identity.ClockIdentity.{ClockIdentity}
 use Rattle.ptpm_table.specs.Managers.{clock_with, identities, block_refusal}
@@ -35,14 +35,16 @@ pub record CanRestore (identity : ClockIdentity) (ports : ℕ) (managers : List 
 pub record IsBack (c : SavedClock) (managers : List ManagerSettings) (d : HostedClock) (gone : ℕ) : Type 0 where
   pub sets_are : (state_in d).sets ≡ c.sets
   pub entries_are : IsRestored (identities (configured managers)) c.entries empty (state_in d).entries gone
-  pub clock_is : clock_in d ≡ clock_with c.sets.default.identity (configured managers)
+  pub clock_is : (clock_in d).clock ≡ clock_with c.sets.default.identity (configured managers)
+  pub no_rows : (clock_in d).rows ≡ []
 
 -- it has the data sets that were saved, and the host's managers; none of these has an entry yet
 pub record IsBegunAs (c : SavedClock) (managers : List ManagerSettings) (d : HostedClock) : Type 0 where
   pub sets_are : (state_in d).sets ≡ c.sets
   pub nothing_kept : (state_in d).entries ≡ empty
   pub room : answers_kept c.sets ≤ d.agent.table.answers
-  pub clock_is : clock_in d ≡ clock_with c.sets.default.identity (configured managers)
+  pub clock_is : (clock_in d).clock ≡ clock_with c.sets.default.identity (configured managers)
+  pub no_rows : (clock_in d).rows ≡ []
 
 -- ---- why a clock does not go on from an image: its managers first, then its identity, then the image. Want of memory can come in
 -- place of a reason that the image gives.

@@ -129,7 +129,7 @@ shown_state c = record { sets = c.shown; entries = (state_in c.clock.value).entr
 
 -- a datagram is for the clock as it is; one of anybody else, while something waits, for what is shown
 abbrev pub is_for_live : SavingClock → ℕ → List ℕ → Bool → Bool
-is_for_live c port datagram of_owner = not c.waits || (of_owner || is_of_manager (clock_in c.clock.value) (port, datagram))
+is_for_live c port datagram of_owner = not c.waits || (of_owner || is_of_manager (clock_in c.clock.value).clock (port, datagram))
 
 abbrev pub state_asked : SavingClock → ℕ → List ℕ → Bool → State
 state_asked c port datagram of_owner = if is_for_live c port datagram of_owner then state_in c.clock.value else shown_state c
@@ -150,8 +150,8 @@ abbrev pub is_behind : SavingClock → ℕ → List ℕ → Bool → Bool
 is_behind c port datagram of_owner =
     is_some c.clock.value.under_way
     && (if of_owner then moves_domain_in (message_of datagram)
-    else (is_of_its_source datagram (request_under_way c.clock.value.under_way) && is_of_manager (clock_in c.clock.value) (port, datagram)
-    || is_some (asked (clock_in c.clock.value) (state_in c.clock.value) datagram)))
+    else (is_of_its_source datagram (request_under_way c.clock.value.under_way) && is_of_manager (clock_in c.clock.value).clock (port, datagram)
+    || is_some (asked (clock_in c.clock.value).rows (clock_in c.clock.value).clock (state_in c.clock.value) datagram)))
 
 -- ---- why it takes nothing
 
@@ -181,7 +181,7 @@ abbrev pub undertake_refusal : SavingClock → ℕ → List ℕ → Option Under
 undertake_refusal c port datagram = first_of (
     (not (has_port port c.clock.value.agent.sets), undertakes.NoPort)
     ∷ (is_stopped c, undertakes.Unsaved)
-    ∷ (is_some c.clock.value.under_way && is_some (asked (clock_in c.clock.value) (state_in c.clock.value) datagram), undertakes.UnderWay)
+    ∷ (is_some c.clock.value.under_way && is_some (asked (clock_in c.clock.value).rows (clock_in c.clock.value).clock (state_in c.clock.value) datagram), undertakes.UnderWay)
     ∷ [])
 
 abbrev pub decide_refusal_by : Option SaidRefusal → Bool → Option DecideRefusal

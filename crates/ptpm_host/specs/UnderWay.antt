@@ -7,7 +7,7 @@ use Rattle.ptpm_codec.specs.Layout.{message_octets, octet}
 use Rattle.ptpm_codec.specs.Message.{action_of}
 use Rattle.ptpm_codec.specs.Reading.{message_of}
 use Rattle.ptpm_agent.specs.Turn.{NumberedRequest, numbered_from}
-use Rattle.ptpm_device.specs.Asking.{is_change}
+use Rattle.ptpm_device.specs.Relayed.{is_change}
 use Rattle.ptpm_manager.specs.Image.{image_head, image_version, mark}
 use Rattle.ptpm_saved.specs.SavingClock.{Datagram}
 use Rattle.ptpm_host.specs.declared.device.Question.{Question}

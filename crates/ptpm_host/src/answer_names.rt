@@ -54,7 +54,7 @@ fn datagram_name(number: u32) -> Option<&'static str>
     }
 }
 
-/// Why a call changed nothing, 32 to 57 and 104 to 132.
+/// Why a call changed nothing, 32 to 57 and 104 to 138.
 #[tactic(auto, unfolding(crate::specs::AnswerNames::name_in))]
 fn refusal_name(number: u32) -> Option<&'static str>
     ensures { option_map (λ name. name.now) result ≡ name_in refusal_names number }
@@ -112,6 +112,12 @@ fn refusal_name(number: u32) -> Option<&'static str>
         130 => Some("NO_ROLLOUT"),
         131 => Some("HAS_ENDED"),
         132 => Some("OUT_OF_TURN"),
+        133 => Some("TOO_MANY_IDS"),
+        134 => Some("CLOCK_HAS_ID"),
+        135 => Some("RELAYED_TWICE"),
+        136 => Some("BAD_SCOPE"),
+        137 => Some("BAD_ACTIONS"),
+        138 => Some("BAD_SIZES"),
         _ => None,
     }
 }

@@ -25,20 +25,23 @@ use crate::under_way::UnderWay;
 use ptpm_agent::{Agent, Verdict};
 use ptpm_codec::OutOfMemory;
 use ptpm_data::{DataSets, ObservationError, PORTS, PortsLeftDisabled};
+use ptpm_device::RelayedId;
 use ptpm_table::{HeapTable, Outgoing, ReplyTable};
 use std::alloc::Global;
 
 /// A clock. From its start or its restore on it has a block of memory with a slot of 2,144 octets for each of its managers. With more
 /// than `ptpm_data::INLINE_PORTS` ports it has more blocks: one for its ports, and two for each manager. What it sends is written right
-/// into places of its host.
+/// into places of its host. The ids of its device, if it has any, are one block more.
 #[derive(Drop)]
 pub struct HostedClock {
     pub(crate) agent: Agent<HeapTable>,
+    /// Its device's own ids.
+    pub(crate) relayed: Vec<RelayedId>,
     /// The change that its device makes.
     pub(crate) under_way: Option<UnderWay>,
 }
 
-const _: () = prove!(size_of::<HostedClock>() == 616);
+const _: () = prove!(size_of::<HostedClock>() == 640);
 
 /// What became of a datagram.
 #[derive(Clone, Copy)]
@@ -66,14 +69,14 @@ impl HostedClock {
             IsFresh (record { 0 = settings.now.identity }) (configured managers.now)
             (⟦<HeapTable as ReplyTable>⟧.owner c.agent.table)
             (⟦<HeapTable as ReplyTable>⟧.entries c.agent.table)) }
-        ensures nothing { IfOk result (λ c. c.under_way ≡ None) }
+        ensures nothing { IfOk result (λ c. (c.relayed.items ≡ []) × (c.under_way ≡ None)) }
         ensures permitted { OnOk result (start_refusal settings.now ports.now managers.now ≡ None) }
         ensures refused { IfErr result (λ e. e ≢ StartRefusal.OutOfMemory →
             start_refusal settings.now ports.now managers.now ≡ Some e) }
     {
         let judged = JudgedStart::new(alloc, settings, ports, managers)?;
         match judged.table(alloc, managers) {
-            Ok(table) => Ok(HostedClock::over(judged.sets, table)),
+            Ok(table) => Ok(HostedClock::over(alloc, judged.sets, table)),
             Err(_) => Err(StartRefusal::OutOfMemory),
         }
     }
@@ -104,15 +107,17 @@ impl HostedClock {
 
     /// A clock of these data sets over this table, which are of one clock.
     #[inline(always)]
-    pub(crate) fn over(sets: DataSets, table: HeapTable) -> HostedClock
+    pub(crate) fn over(alloc: Global, sets: DataSets, table: HeapTable) -> HostedClock
         requires identity { sets.default.identity ≡ (⟦<HeapTable as ReplyTable>⟧.owner table).identity }
         requires room { length sets.ports ≤ ⟦<HeapTable as ReplyTable>⟧.most table }
         ensures sets { result.agent.sets ≡ sets }
         ensures table { result.agent.table ≡ table }
+        ensures relayed { result.relayed.items ≡ [] }
         ensures nothing { result.under_way ≡ None }
     {
         HostedClock {
             agent: Agent::new(sets, table),
+            relayed: Vec::new(alloc),
             under_way: None,
         }
     }
@@ -128,9 +133,10 @@ impl HostedClock {
         requires room { length sets.ports ≤ ⟦<HeapTable as ReplyTable>⟧.most table }
         ensures sets { IfOk result (λ c. c.value.agent.sets ≡ sets) }
         ensures table { IfOk result (λ c. c.value.agent.table ≡ table) }
+        ensures relayed { IfOk result (λ c. c.value.relayed.items ≡ []) }
         ensures nothing { IfOk result (λ c. c.value.under_way ≡ None) }
     {
-        match Box::new(alloc, HostedClock::over(sets, table)) {
+        match Box::new(alloc, HostedClock::over(alloc, sets, table)) {
             Ok(clock) => Ok(clock),
             Err(_) => Err(OutOfMemory),
         }
@@ -167,7 +173,7 @@ impl HostedClock {
     ) -> Result<Handled, HandleRefusal>
         ensures turned { IfOk result
             (λ h.
-            IsTurned (turn (clock_in self.old) (state_in self.old) port datagram.now) h.verdict
+            IsTurned (turn (clock_in self.old).clock (state_in self.old) port datagram.now) h.verdict
             (messages_in (take h.count room.new)) (state_in self.new)) }
         ensures count { IfOk result (λ h. h.count ≤ length room.new) }
         ensures whole { IfOk result (λ h. All IsWhole (take h.count room.new)) }
@@ -204,9 +210,9 @@ impl HostedClock {
     #[tactic(auto, using(crate::specs::OutboxLaws::kept_by_none))]
     pub(crate) fn take_turn(&mut self, port: u16, datagram: &[u8], room: &mut [Sent]) -> Taken
         requires port { HasPort port self.old.agent.sets }
-        requires room { length (outbox_of (turn (clock_in self.old) (state_in self.old) port datagram.now))
+        requires room { length (outbox_of (turn (clock_in self.old).clock (state_in self.old) port datagram.now))
             ≤ length room.old }
-        ensures turned { IsTurned (turn (clock_in self.old) (state_in self.old) port datagram.now)
+        ensures turned { IsTurned (turn (clock_in self.old).clock (state_in self.old) port datagram.now)
             result.verdict (messages_in (take result.count room.new)) (state_in self.new) }
         ensures count { result.count ≤ length room.new }
         ensures whole { All IsWhole (take result.count room.new) }

@@ -1,22 +1,22 @@
 //! A clock whose device has a say, as a host keeps it.
 
-ghost use Rattle.std.specs.Prelude.{◌≡◌, ◌≢◌, ◌≤◌, All, IfErr, IfOk, IfSome, IsTrue, MatchResult, None, Ok, OnErr, OnOk, Some, drop, is_ok, is_some, length, take};
+ghost use Rattle.std.specs.Prelude.{◌≡◌, ◌≢◌, ◌≤◌, ℕ, List, [], All, IfErr, IfOk, IfSome, IsTrue, MatchResult, None, Ok, OnErr, OnOk, Some, drop, false, is_ok, is_some, length, take};
 ghost use Rattle.std.specs.List.{AllZip};
 ghost use Rattle.ptpm_codec.specs.Message.{IsDataField};
 ghost use Rattle.ptpm_data.specs.Changed.{changed, no_members};
 ghost use Rattle.ptpm_data.specs.Members.{HasPort, has_port};
 ghost use Rattle.ptpm_agent.specs.Agent.{IsTurned};
-ghost use Rattle.ptpm_agent.specs.Turn.{outbox_of, turn};
+ghost use Rattle.ptpm_agent.specs.Turn.{State, outbox_of, turn};
 ghost use Rattle.ptpm_device.specs.Asking.{asked, wanted, wanted_once};
 ghost use Rattle.ptpm_device.specs.Saying as says;
-ghost use Rattle.ptpm_device.specs.Saying.{turn_said};
+ghost use Rattle.ptpm_device.specs.Saying.{IsGiven, said_value, turn_said};
 ghost use Rattle.ptpm_host.specs.Clock.{IsWhole, KeepsBehind, clock_in, messages_in, state_in};
 ghost use Rattle.ptpm_host.specs.Coming.{turn_of};
-ghost use Rattle.ptpm_host.specs.Device.{Answers, IsGiven, said_refusal, said_value, say_in};
+ghost use Rattle.ptpm_host.specs.Device.{Answers, said_refusal, say_in};
 ghost use Rattle.ptpm_host.specs.MostSent.{most_sent};
 
 use crate::clock::HostedClock;
-use crate::device::{Asking, Question, Said, Say};
+use crate::device::{Asking, Question, Say};
 use crate::outbox::Outbox;
 use crate::refusal::{HandleRefusal, SaidRefusal};
 use crate::sent::Sent;
@@ -24,24 +24,24 @@ use crate::taken::Taken;
 use ptpm_agent::Verdict;
 use ptpm_codec::ErrorId;
 use ptpm_data::ChangedMembers;
-use ptpm_device::{answer_value, ask, ask_value, keep_value, object};
+use ptpm_device::{DeviceSay, answer_value, ask, ask_value, keep_relayed, keep_value, object};
 use ptpm_table::Outgoing;
 
 impl HostedClock {
     /// What a datagram would have the clock's device do, if it came in now at this port. It is to carry out a new SET or COMMAND of
-    /// a manager, which the clock itself does not refuse. Or it is to give the value of an id that the clock lacks, to a GET that
+    /// a manager that nothing refuses before. The row of its id may refuse it, or without a row the clock itself. Or it is to give the value of an id that the clock lacks, to a GET that
     /// would be answered. It is nothing for any other datagram. Changes nothing, and takes no memory.
     pub fn ask(&self, port: u16, datagram: &[u8]) -> Result<Asking, HandleRefusal>
         ensures asked { IfOk result (Answers
-            (asked (clock_in self.now) (state_in self.now) datagram.now)
-            (wanted (clock_in self.now) (state_in self.now) datagram.now)) }
+            (asked (clock_in self.now).rows (clock_in self.now).clock (state_in self.now) datagram.now)
+            (wanted (clock_in self.now).clock (state_in self.now) datagram.now)) }
         ensures here { is_ok result ≡ has_port port self.now.agent.sets }
         ensures refused { IfErr result (λ e. e ≡ HandleRefusal.NoPort) }
     {
         if !self.agent.sets().has_port(port) {
             return Err(HandleRefusal::NoPort);
         }
-        if let Some(change) = ask(&self.agent, datagram) {
+        if let Some(change) = ask(&self.agent, self.relayed.as_slice(), datagram) {
             return Ok(Asking::Change(Question::of(&change)));
         }
         match ask_value(&self.agent, datagram) {
@@ -52,9 +52,9 @@ impl HostedClock {
 
     /// Whether a datagram would have the device carry something out.
     pub(crate) fn asks_change(&self, datagram: &[u8]) -> bool
-        ensures { result ≡ is_some (asked (clock_in self.now) (state_in self.now) datagram.now) }
+        ensures { result ≡ is_some (asked (clock_in self.now).rows (clock_in self.now).clock (state_in self.now) datagram.now) }
     {
-        ask(&self.agent, datagram).is_some()
+        ask(&self.agent, self.relayed.as_slice(), datagram).is_some()
     }
 
     /// Does what `handle` does, with what the clock's device says. What it says counts where `ask` says that the device is asked.
@@ -107,7 +107,7 @@ impl HostedClock {
         &mut self,
         port: u16,
         datagram: &[u8],
-        said: Said<'_>,
+        said: DeviceSay<'_>,
         of_owner: bool,
         room: &mut [Sent],
     ) -> Taken
@@ -145,7 +145,7 @@ impl HostedClock {
         port: u16,
         say: &'a Say,
         room: usize,
-    ) -> Result<Said<'a>, SaidRefusal>
+    ) -> Result<DeviceSay<'a>, SaidRefusal>
         ensures said { IfOk result (λ s. say_in say.now ≡ Ok (said_value s)) }
         ensures given { IfOk result IsGiven }
         ensures port { OnOk result (HasPort port self.now.agent.sets) }
@@ -168,12 +168,99 @@ impl HostedClock {
 
     /// One turn with what the device says, at a port that the clock has, with places enough for whatever it sends.
     #[inline(always)]
-    fn take_said(&mut self, port: u16, datagram: &[u8], said: Said<'_>, room: &mut [Sent]) -> Taken
+    fn take_said(
+        &mut self,
+        port: u16,
+        datagram: &[u8],
+        said: DeviceSay<'_>,
+        room: &mut [Sent],
+    ) -> Taken
         requires port { HasPort port self.old.agent.sets }
         requires room { most_sent (state_in self.old) ≤ length room.old }
         requires given { IsGiven said }
-        ensures turned { IsTurned
-            (turn_said (clock_in self.old) (state_in self.old) (said_value said.entry) port datagram.now)
+        ensures turned { IsTurned (turn_said (clock_in self.old).rows
+            (clock_in self.old).clock (state_in self.old) (said_value said.entry) port datagram.now)
+            result.verdict (messages_in (take result.count room.new)) (state_in self.new) }
+        ensures count { result.count ≤ length room.new }
+        ensures whole { All IsWhole (take result.count room.new) }
+        ensures places { drop result.count room.new ≡ drop result.count room.old }
+        ensures behind { AllZip KeepsBehind room.old room.new }
+        ensures new_alone { result.verdict ≢ Verdict.AnsweredNew →
+            self.new.agent.sets ≡ self.old.agent.sets }
+        ensures members { result.changed ≡ changed self.old.agent.sets self.new.agent.sets }
+        ensures waiting { result.waiting ≡ 0 }
+        ensures clock { clock_in self.new ≡ clock_in self.old }
+        ensures under_way { self.new.under_way ≡ self.old.under_way }
+    {
+        self.sent_law();
+        if self.keep_relayed(datagram, said) {
+            self.take_kept(port, datagram, room)
+        } else {
+            self.take_unrelayed(port, datagram, said, room)
+        }
+    }
+
+    /// Keeps a new SET or COMMAND of one of its device's own ids with its reply. Answers whether it was one. Otherwise nothing changes.
+    fn keep_relayed(&mut self, datagram: &[u8], said: DeviceSay<'_>) -> bool
+        requires given { IsGiven said }
+        ensures turned { IsTrue result → (ingress : ℕ) (w : Verdict) (out : List (ℕ × List ℕ)) (next : State) →
+            IsTurned (turn (clock_in self.new).clock (state_in self.new) ingress datagram.now) w out next →
+            IsTurned (turn_said (clock_in self.old).rows
+            (clock_in self.old).clock (state_in self.old) (said_value said.entry) ingress datagram.now)
+            Verdict.AnsweredNew out next }
+        ensures own { result ≡ false → (ingress : ℕ) → turn_said (clock_in self.old).rows
+            (clock_in self.old).clock (state_in self.old) (said_value said.entry) ingress datagram.now
+            ≡ turn_said []
+            (clock_in self.old).clock (state_in self.old) (said_value said.entry) ingress datagram.now }
+        ensures unchanged { result ≡ false → self.new ≡ self.old }
+        ensures sets { self.new.agent.sets ≡ self.old.agent.sets }
+        ensures clock { clock_in self.new ≡ clock_in self.old }
+        ensures under_way { self.new.under_way ≡ self.old.under_way }
+    {
+        keep_relayed(&mut self.agent, self.relayed.as_slice(), datagram, said)
+    }
+
+    /// The clock's own turn on a datagram whose reply is kept already. It was a new one.
+    fn take_kept(&mut self, port: u16, datagram: &[u8], room: &mut [Sent]) -> Taken
+        requires port { HasPort port self.old.agent.sets }
+        requires room { length (outbox_of (turn (clock_in self.old).clock (state_in self.old) port datagram.now))
+            ≤ length room.old }
+        ensures turned { IsTurned (turn (clock_in self.old).clock (state_in self.old) port datagram.now)
+            (turn (clock_in self.old).clock (state_in self.old) port datagram.now).verdict
+            (messages_in (take result.count room.new)) (state_in self.new) }
+        ensures verdict { result.verdict ≡ Verdict.AnsweredNew }
+        ensures count { result.count ≤ length room.new }
+        ensures whole { All IsWhole (take result.count room.new) }
+        ensures places { drop result.count room.new ≡ drop result.count room.old }
+        ensures behind { AllZip KeepsBehind room.old room.new }
+        ensures members { result.changed ≡ changed self.old.agent.sets self.new.agent.sets }
+        ensures waiting { result.waiting ≡ 0 }
+        ensures clock { clock_in self.new ≡ clock_in self.old }
+        ensures under_way { self.new.under_way ≡ self.old.under_way }
+    {
+        let handled = self.take_turn(port, datagram, room);
+        Taken {
+            verdict: Verdict::AnsweredNew,
+            count: handled.count,
+            waiting: 0,
+            changed: handled.changed,
+        }
+    }
+
+    /// One turn with what the device says of a datagram that is of none of its own ids, or is no new one.
+    #[inline(always)]
+    fn take_unrelayed(
+        &mut self,
+        port: u16,
+        datagram: &[u8],
+        said: DeviceSay<'_>,
+        room: &mut [Sent],
+    ) -> Taken
+        requires port { HasPort port self.old.agent.sets }
+        requires room { most_sent (state_in self.old) ≤ length room.old }
+        requires given { IsGiven said }
+        ensures turned { IsTurned (turn_said []
+            (clock_in self.old).clock (state_in self.old) (said_value said.entry) port datagram.now)
             result.verdict (messages_in (take result.count room.new)) (state_in self.new) }
         ensures count { result.count ≤ length room.new }
         ensures whole { All IsWhole (take result.count room.new) }
@@ -188,9 +275,9 @@ impl HostedClock {
     {
         self.sent_law();
         match said {
-            Said::Agrees => self.take_turn(port, datagram, room),
-            Said::Objects(error) => self.take_objection(port, datagram, error, room),
-            Said::Gives(octets) => self.take_value(port, datagram, octets, room),
+            DeviceSay::Agrees => self.take_turn(port, datagram, room),
+            DeviceSay::Objects(error) => self.take_objection(port, datagram, error, room),
+            DeviceSay::Gives(octets) => self.take_value(port, datagram, octets, room),
         }
     }
 
@@ -205,9 +292,9 @@ impl HostedClock {
     ) -> Taken
         requires port { HasPort port self.old.agent.sets }
         requires room { length (outbox_of (turn_said
-            (clock_in self.old) (state_in self.old) (says.Objects error) port datagram.now)) ≤ length room.old }
+            [] (clock_in self.old).clock (state_in self.old) (says.Objects error) port datagram.now)) ≤ length room.old }
         ensures turned { IsTurned
-            (turn_said (clock_in self.old) (state_in self.old) (says.Objects error) port datagram.now)
+            (turn_said [] (clock_in self.old).clock (state_in self.old) (says.Objects error) port datagram.now)
             result.verdict (messages_in (take result.count room.new)) (state_in self.new) }
         ensures count { result.count ≤ length room.new }
         ensures whole { All IsWhole (take result.count room.new) }
@@ -242,13 +329,13 @@ impl HostedClock {
         room: &mut [Sent],
     ) -> Option<usize>
         requires room { length (outbox_of (turn_said
-            (clock_in self.old) (state_in self.old) (says.Objects error) port datagram.now)) ≤ length room.old }
+            [] (clock_in self.old).clock (state_in self.old) (says.Objects error) port datagram.now)) ≤ length room.old }
         ensures turned { IfSome result (λ count. IsTurned (turn_said
-            (clock_in self.old) (state_in self.old) (says.Objects error) port datagram.now)
+            [] (clock_in self.old).clock (state_in self.old) (says.Objects error) port datagram.now)
             Verdict.AnsweredNew (messages_in (take count room.new)) (state_in self.new)) }
         ensures own { result ≡ None → turn_said
-            (clock_in self.old) (state_in self.old) (says.Objects error) port datagram.now
-            ≡ turn (clock_in self.old) (state_in self.old) port datagram.now }
+            [] (clock_in self.old).clock (state_in self.old) (says.Objects error) port datagram.now
+            ≡ turn (clock_in self.old).clock (state_in self.old) port datagram.now }
         ensures count { IfSome result (λ count. count ≤ length room.new) }
         ensures whole { IfSome result (λ count. All IsWhole (take count room.new)) }
         ensures places { IfSome result (λ count. drop count room.new ≡ drop count room.old) }
@@ -271,10 +358,10 @@ impl HostedClock {
     fn take_value(&mut self, port: u16, datagram: &[u8], octets: &[u8], room: &mut [Sent]) -> Taken
         requires port { HasPort port self.old.agent.sets }
         requires room { length (outbox_of (turn_said
-            (clock_in self.old) (state_in self.old) (says.Gives octets.now) port datagram.now)) ≤ length room.old }
+            [] (clock_in self.old).clock (state_in self.old) (says.Gives octets.now) port datagram.now)) ≤ length room.old }
         requires octets { IsDataField octets.now }
         ensures turned { IsTurned (turn_said
-            (clock_in self.old) (state_in self.old) (says.Gives octets.now) port datagram.now)
+            [] (clock_in self.old).clock (state_in self.old) (says.Gives octets.now) port datagram.now)
             result.verdict (messages_in (take result.count room.new)) (state_in self.new) }
         ensures count { result.count ≤ length room.new }
         ensures whole { All IsWhole (take result.count room.new) }
@@ -319,12 +406,12 @@ impl HostedClock {
     ) -> Option<usize>
         requires port { HasPort port self.now.agent.sets }
         requires room { length (outbox_of (turn_said
-            (clock_in self.now) (state_in self.now) (says.Gives octets.now) port datagram.now)) ≤ length room.old }
+            [] (clock_in self.now).clock (state_in self.now) (says.Gives octets.now) port datagram.now)) ≤ length room.old }
         requires octets { IsDataField octets.now }
         ensures once { is_some result ≡ wanted_once
-            (clock_in self.now) (state_in self.now) datagram.now }
+            (clock_in self.now).clock (state_in self.now) datagram.now }
         ensures turned { IfSome result (λ count. IsTurned (turn_said
-            (clock_in self.now) (state_in self.now) (says.Gives octets.now) port datagram.now)
+            [] (clock_in self.now).clock (state_in self.now) (says.Gives octets.now) port datagram.now)
             Verdict.AnsweredUnnumbered (messages_in (take count room.new)) (state_in self.now)) }
         ensures count { IfSome result (λ count. count ≤ length room.new) }
         ensures whole { IfSome result (λ count. All IsWhole (take count room.new)) }

@@ -2,11 +2,12 @@
 
 ghost use Rattle.std.specs.Prelude.{◌≡◌, ◌≤◌, Err, IfOk, MatchResult, Ok, drop, length, take};
 ghost use Rattle.ptpm_codec.specs.Message.{IsDataField};
-ghost use Rattle.ptpm_host.specs.Device.{AsksNothing, IsAsked, IsGiven, IsWanted, error_in, said_value, say_in};
+ghost use Rattle.ptpm_device.specs.Saying.{IsGiven, said_value};
+ghost use Rattle.ptpm_host.specs.Device.{AsksNothing, IsAsked, IsWanted, error_in, say_in};
 
 use crate::refusal::SaidRefusal;
 use ptpm_codec::{DATA_FIELD_OCTETS, ErrorId};
-use ptpm_device::Asked;
+use ptpm_device::{Asked, DeviceSay};
 
 /// The most octets of the dataField of a SET that a clock does not refuse.
 const MOST_ASKED: usize = 130;
@@ -119,37 +120,28 @@ pub struct Say {
     pub size: u16,
     /// 0 if it agrees, 1 if it objects, and 2 if it gives a value. No other kind is taken.
     pub kind: u8,
-    /// The octets that it gives.
+    /// The octets that it gives: the value of an id that the clock lacks, as it is by now.
     pub octets: [u8; DATA_FIELD_OCTETS],
 }
 
 const _: () = prove!(size_of::<Say>() == 1_424);
 
-/// What a device says, once it was judged.
-#[derive(Clone, Copy)]
-pub(crate) enum Said<'a> {
-    Agrees,
-    Objects(ErrorId),
-    /// A dataField.
-    Gives(&'a [u8]),
-}
-
 impl Say {
     /// What it says; refused if it is no say.
-    pub(crate) fn said(&self) -> Result<Said<'_>, SaidRefusal>
+    pub(crate) fn said(&self) -> Result<DeviceSay<'_>, SaidRefusal>
         ensures said { MatchResult result
             (λ s. say_in self.now ≡ Ok (said_value s))
             (λ e. say_in self.now ≡ Err e) }
         ensures given { IfOk result IsGiven }
     {
         match self.kind {
-            0 => Ok(Said::Agrees),
+            0 => Ok(DeviceSay::Agrees),
             1 => match self.error_id() {
-                Some(error) => Ok(Said::Objects(error)),
+                Some(error) => Ok(DeviceSay::Objects(error)),
                 None => Err(SaidRefusal::BadSay),
             },
             2 if self.size % 2 == 0 && self.size as usize <= DATA_FIELD_OCTETS => {
-                Ok(Said::Gives(&self.octets[..self.size as usize]))
+                Ok(DeviceSay::Gives(&self.octets[..self.size as usize]))
             }
             _ => Err(SaidRefusal::BadSay),
         }

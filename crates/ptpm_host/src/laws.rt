@@ -31,11 +31,12 @@ ghost use Rattle.ptpm_table.specs.declared.serial.Serial.TheVariants.{Newer};
 ghost use Rattle.ptpm_table.specs.Entries.{Entry};
 ghost use Rattle.ptpm_table.specs.Serial.{serial_of};
 ghost use Rattle.ptpm_agent.specs.Observing.{moved_state};
-ghost use Rattle.ptpm_agent.specs.Turn.{Clock, judged};
+ghost use Rattle.ptpm_agent.specs.Turn.{judged};
 ghost use Rattle.ptpm_device.specs.Saying.{Say, turn_said};
 ghost use Rattle.ptpm_saved.specs.Batching.{Call, IsDevice, all_events, as_device, begun, calls_each};
 ghost use Rattle.ptpm_saved.specs.Saving.{IsAsIfPowered};
 ghost use Rattle.ptpm_saved.specs.SavingClock.{Datagram};
+ghost use Rattle.ptpm_host.specs.Clock.{DeviceClock};
 ghost use Rattle.ptpm_host.specs.Coming.{ClockBatch, ClockState, Coming, Decides, Undertakes, after_coming, coming_process, is_held_by, messages_for, undertakes};
 ghost use Rattle.ptpm_host.specs.KeptBatch.{IsGivenOut};
 ghost use Rattle.ptpm_host.specs.PassedOn.{NotTwice};
@@ -96,19 +97,19 @@ pub fn rate_law()
 /// clock's law holds for it, whatever is called, in whatever order, and whenever power fails. Anybody else's datagram is judged
 /// and answered by the data sets alone.
 pub fn coming_clock_law()
-    ensures device { (c : Clock) (s : ClockState) (calls : List (Call Coming Observation))
+    ensures device { (c : DeviceClock) (s : ClockState) (calls : List (Call Coming Observation))
         → IsConsistent s.state.sets
         → IsDevice (coming_process c) (is_held_by c) s calls }
-    ensures powered { (c : Clock) (s : ClockState) (calls : List (Call Coming Observation))
+    ensures powered { (c : DeviceClock) (s : ClockState) (calls : List (Call Coming Observation))
         → IsConsistent s.state.sets
         → IsAsIfPowered (coming_process c) s
         (all_events (coming_process c) (is_held_by c) (begun s) calls)
         (as_device (coming_process c) (calls_each (coming_process c) (is_held_by c) (begun s) calls)) }
-    ensures alone { (c : Clock) (s t : ClockState) (x : Coming)
+    ensures alone { (c : DeviceClock) (s t : ClockState) (x : Coming)
         → is_held_by c x ≡ false
         → s.state.sets ≡ t.state.sets
         → messages_for c s x ≡ messages_for c t x }
-    ensures given { (c : Clock) (b : ClockBatch)
+    ensures given { (c : DeviceClock) (b : ClockBatch)
         → IsGivenOut (coming_process c) (is_held_by c) b }
 {}
 
@@ -117,23 +118,23 @@ pub fn coming_clock_law()
 /// clock keeps of its manager. It is under way as it was sent. If the decision is its new answer, the clock keeps its number. So no
 /// copy of it is undertaken again while that is kept.
 pub fn undertaken_at_most_once()
-    ensures once { (c : Clock) (s : ClockState) (calls : List (Call Coming Observation))
+    ensures once { (c : DeviceClock) (s : ClockState) (calls : List (Call Coming Observation))
         → IsConsistent s.state.sets
         → AsksAtMostOnce c s calls }
-    ensures newer { (c : Clock) (s : ClockState) (datagram : List ℕ) (v : Message) (e : Entry)
+    ensures newer { (c : DeviceClock) (s : ClockState) (datagram : List ℕ) (v : Message) (e : Entry)
         → undertakes c s datagram ≡ true
         → message_of datagram ≡ Some v
         → get s.state.entries v.source ≡ Some e
         → serial_of e.number v.number ≡ Newer }
-    ensures same { (c : Clock) (s : ClockState) (port : ℕ) (datagram : List ℕ) (v : Message)
+    ensures same { (c : DeviceClock) (s : ClockState) (port : ℕ) (datagram : List ℕ) (v : Message)
         → undertakes c s datagram ≡ true
         → message_of datagram ≡ Some v
         → IsSomeAnd (after_coming c s (Undertakes port datagram)).under_way
         (λ x. message_of x.1 ≡ Some v) }
-    ensures kept { (c : Clock) (s : ClockState) (x : Datagram) (say : Say) (v : Message)
+    ensures kept { (c : DeviceClock) (s : ClockState) (x : Datagram) (say : Say) (v : Message)
         → s.under_way ≡ Some x
         → message_of x.1 ≡ Some v
-        → judged c s.state v ≡ Verdict.AnsweredNew
+        → judged c.clock s.state v ≡ Verdict.AnsweredNew
         → IsSomeAnd (get (after_coming c s (Decides say)).state.entries v.source)
         (λ e. e.number ≡ v.number) }
 {}
@@ -141,18 +142,18 @@ pub fn undertaken_at_most_once()
 /// A clock stays in the domain of the change that is under way: by what it takes meanwhile, and by what its host observes. So the
 /// decision never answers OtherDomain.
 pub fn decided_in_its_domain()
-    ensures undertaken { (c : Clock) (s : ClockState) (port : ℕ) (datagram : List ℕ)
+    ensures undertaken { (c : DeviceClock) (s : ClockState) (port : ℕ) (datagram : List ℕ)
         → undertakes c s datagram ≡ true
         → IsInItsDomain (after_coming c s (Undertakes port datagram)) }
-    ensures stays { (c : Clock) (s : ClockState) (x : Coming)
+    ensures stays { (c : DeviceClock) (s : ClockState) (x : Coming)
         → is_taken_meanwhile c s x ≡ true
         → IsInItsDomain s
         → IsInItsDomain (after_coming c s x) }
     ensures observed { (s : ClockState) (o : Observation)
         → IsInItsDomain s
         → IsInItsDomain (record s { state = moved_state o.clock o.ports s.state }) }
-    ensures decided { (c : Clock) (s : ClockState) (x : Datagram) (say : Say)
+    ensures decided { (c : DeviceClock) (s : ClockState) (x : Datagram) (say : Say)
         → IsInItsDomain s
         → s.under_way ≡ Some x
-        → (turn_said c s.state say x.0 x.1).verdict ≢ Verdict.OtherDomain }
+        → (turn_said c.rows c.clock s.state say x.0 x.1).verdict ≢ Verdict.OtherDomain }
 {}

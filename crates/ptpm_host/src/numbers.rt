@@ -7,12 +7,12 @@
 //! out of range, in their order. 104 to 110 are refusals of a restore, and those from 112 on are further refusals of a call.
 
 ghost use Rattle.std.specs.Prelude.{◌≡◌, ◌≤◌};
-ghost use Rattle.ptpm_host.specs.Numbers.{asker_number, begin_number, cause_number, change_number, clock_restore_number, decide_number, give_up_number, handle_number, heard_number, image_number, managers_number, member_number, observe_number, parse_number, read_number, reason_number, report_number, restore_number, resume_number, said_number, saved_number, send_number, session_number, start_number, surveyed_number, take_number, undertake_number, outcome_number, unseal_number, values_number, verdict_number};
+ghost use Rattle.ptpm_host.specs.Numbers.{asker_number, begin_number, cause_number, change_number, clock_restore_number, decide_number, give_up_number, handle_number, heard_number, image_number, managers_number, member_number, observe_number, parse_number, read_number, reason_number, relay_number, report_number, restore_number, resume_number, said_number, saved_number, send_number, session_number, start_number, surveyed_number, take_number, undertake_number, outcome_number, unseal_number, values_number, verdict_number};
 
 use crate::refusal::{
     AskerRefusal, ChangeRefusal, ClockRestoreRefusal, DecideRefusal, HandleRefusal, ParseRefusal,
-    ReadRefusal, ReportRefusal, SaidRefusal, SavedRefusal, SendRefusal, SessionRefusal,
-    StartRefusal, TakeRefusal, UndertakeRefusal,
+    ReadRefusal, RelayRefusal, ReportRefusal, SaidRefusal, SavedRefusal, SendRefusal,
+    SessionRefusal, StartRefusal, TakeRefusal, UndertakeRefusal,
 };
 use crate::reported_outcome::ReportedOutcome;
 use crate::session::Heard;
@@ -177,6 +177,22 @@ pub fn take_number(refusal: TakeRefusal) -> u32
         TakeRefusal::Said(refusal) => said_number(refusal),
         TakeRefusal::UnderWay => UNDER_WAY,
         TakeRefusal::Unsaved => UNSAVED,
+    }
+}
+
+/// Why a table of a device's own ids is not taken, 35 or 133 to 138.
+pub fn relay_number(refusal: RelayRefusal) -> u32
+    ensures number { result ≡ relay_number refusal }
+    ensures some { 1 ≤ result }
+{
+    match refusal {
+        RelayRefusal::TooManyIds => 133,
+        RelayRefusal::ClockHasId => 134,
+        RelayRefusal::RelayedTwice => 135,
+        RelayRefusal::BadScope => 136,
+        RelayRefusal::BadActions => 137,
+        RelayRefusal::BadSizes => 138,
+        RelayRefusal::OutOfMemory => NO_MEMORY,
     }
 }
 

@@ -35,7 +35,7 @@ impl HostedClock {
     pub(crate) fn take_owner_turn(&mut self, port: u16, datagram: &[u8], room: &mut [Sent]) -> Taken
         requires port { HasPort port self.old.agent.sets }
         requires room { most_sent (state_in self.old) ≤ length room.old }
-        ensures turned { IsTurned (owner_turn (clock_in self.old) (state_in self.old) port datagram.now)
+        ensures turned { IsTurned (owner_turn (clock_in self.old).clock (state_in self.old) port datagram.now)
             result.verdict (messages_in (take result.count room.new)) (state_in self.new) }
         ensures count { result.count ≤ length room.new }
         ensures whole { All IsWhole (take result.count room.new) }
@@ -69,10 +69,10 @@ impl HostedClock {
     fn judge_owned(&self, message: &View<'_>) -> Verdict
         ensures { result ≡ owned_at
             (message.now.sdo == 0 && message.now.domain == self.now.agent.sets.default.domain)
-            (is_own (clock_in self.now) message.now)
-            (is_addressed (clock_in self.now) self.now.agent.sets message.now)
+            (is_own (clock_in self.now).clock message.now)
+            (is_addressed (clock_in self.now).clock self.now.agent.sets message.now)
             (is_request message.now)
-            (same_clock message.now.target.clock (clock_in self.now).identity) }
+            (same_clock message.now.target.clock (clock_in self.now).clock.identity) }
     {
         let me = self.agent.table().clock();
         if message.sdo() != 0 || message.domain() != self.agent.sets().domain() {
@@ -92,7 +92,7 @@ impl HostedClock {
 
     /// Whether it is for this clock or every clock, at a port that the clock has.
     fn is_addressed(&self, message: &View<'_>) -> bool
-        ensures { result ≡ is_addressed (clock_in self.now) self.now.agent.sets message.now }
+        ensures { result ≡ is_addressed (clock_in self.now).clock self.now.agent.sets message.now }
     {
         let target = message.target();
         (target.clock == self.agent.table().clock() || target.clock == ClockIdentity::EVERY)
@@ -109,7 +109,7 @@ impl HostedClock {
         requires room { length (reply_to (request_of message.now) all_rights self.old.agent.sets).answers
             ≤ length room.old }
         ensures sent { messages_in (take result.count room.new)
-            ≡ rendered (clock_in self.old).identity (heard_of message.now)
+            ≡ rendered (clock_in self.old).clock.identity (heard_of message.now)
             (reply_to (request_of message.now) all_rights self.old.agent.sets) port }
         ensures sets { self.new.agent.sets
             ≡ changed_by (request_of message.now) all_rights self.old.agent.sets }

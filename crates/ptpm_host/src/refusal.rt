@@ -48,6 +48,25 @@ pub enum SaidRefusal {
     BadSay,
 }
 
+/// Why a table of a device's own ids is not taken, in the order in which the reasons are judged. After the first the ids are judged one
+/// after another.
+#[derive(Clone, Copy)]
+pub enum RelayRefusal {
+    /// It has more than 32.
+    TooManyIds,
+    /// The clock knows the id.
+    ClockHasId,
+    /// The id is in the table twice.
+    RelayedTwice,
+    /// It is neither of the clock nor of a port.
+    BadScope,
+    /// It has neither SET nor COMMAND, or another action.
+    BadActions,
+    /// Its dataField has at least more octets than at most, or more than 130.
+    BadSizes,
+    OutOfMemory,
+}
+
 /// Why a change at the device itself is not carried out, in the order in which the reasons are judged.
 #[derive(Clone, Copy)]
 pub enum ChangeRefusal {

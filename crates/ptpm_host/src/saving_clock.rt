@@ -4,7 +4,7 @@ ghost use Rattle.std.specs.Prelude.{◌≡◌, ◌+◌, ◌≤◌, length};
 ghost use Rattle.ptpm_host.specs.Queue.{queued};
 
 use crate::clock::HostedClock;
-use crate::device::{Asking, Question, Said, Say};
+use crate::device::{Asking, Question, Say};
 use crate::observing::{ObservedClock, ObservedPort, UNOBSERVED, place_each};
 use crate::owner_change::asks_to_move;
 use crate::queue::Queue;
@@ -20,6 +20,7 @@ use ptpm_codec::view;
 use ptpm_data::{
     ChangedMembers, DataSets, INLINE_PORTS, ObservationError, PORTS, PortsLeftDisabled,
 };
+use ptpm_device::DeviceSay;
 use ptpm_table::ReplyTable;
 use std::alloc::Global;
 use std::mem;
@@ -87,7 +88,7 @@ impl SavingClock {
     ghost use Rattle.ptpm_device.specs.Asking.{asked, wanted};
     ghost use Rattle.ptpm_data.specs.Start.{unless};
     ghost use Rattle.ptpm_device.specs.Saying as says;
-    ghost use Rattle.ptpm_device.specs.Saying.{turn_said};
+    ghost use Rattle.ptpm_device.specs.Saying.{IsGiven, said_value, turn_said};
     ghost use Rattle.ptpm_saved.specs.Batching.{Confirms, GivesOut, Handles, Observes, begun};
     ghost use Rattle.ptpm_saved.specs.BatchingClock.{is_of_manager};
     ghost use Rattle.ptpm_saved.specs.Image.{clock_image};
@@ -96,7 +97,7 @@ impl SavingClock {
     ghost use Rattle.ptpm_host.specs.Changing.{IsChangedHere, change_refusal, request_here};
     ghost use Rattle.ptpm_host.specs.Clock.{IsWhole, KeepsBehind, clock_in, message_in, messages_in, state_in};
     ghost use Rattle.ptpm_host.specs.Coming.{Changed, ClockBatch, Decides, Heard, Undertakes, datagram_in, turn_of, undertaken};
-    ghost use Rattle.ptpm_host.specs.Device.{Answers, IsGiven, said_value, say_in};
+    ghost use Rattle.ptpm_host.specs.Device.{Answers, say_in};
     ghost use Rattle.ptpm_host.specs.MostSent.{most_sent};
     ghost use Rattle.ptpm_host.specs.Observing.{IsObserved, clock_observation, observe_refusal, port_observations, ports_left};
     ghost use Rattle.ptpm_host.specs.SavingClock.{IsAsBatch, IsCalled, IsCalledAt, IsNotSaving, KeepsImage, acting_once_imaged, acts_once_saved, called_at, clock_state_in, decide_refusal, free_places, is_behind, is_for_live, is_full, is_stopped, is_unsaved, request_under_way, shown_state, state_asked, take_refusal, undertake_refusal};
@@ -194,7 +195,7 @@ impl SavingClock {
 
     /// Whether it is a message of a manager for this clock alone.
     fn is_of_manager(&self, port: u16, datagram: &[u8]) -> bool
-        ensures { result ≡ is_of_manager (clock_in self.now.clock.value) (port, datagram.now) }
+        ensures { result ≡ is_of_manager (clock_in self.now.clock.value).clock (port, datagram.now) }
     {
         let Ok(message) = view(datagram) else {
             return false;
@@ -206,9 +207,9 @@ impl SavingClock {
     /// What `HostedClock::ask` does, by the clock as it is or as it is shown (`is_for_live`). Nothing changes.
     pub fn ask(&mut self, port: u16, datagram: &[u8]) -> Result<Asking, HandleRefusal>
         ensures asked { IfOk result (Answers
-            (asked (clock_in self.old.clock.value)
+            (asked (clock_in self.old.clock.value).rows (clock_in self.old.clock.value).clock
             (state_asked self.old port datagram.now false) datagram.now)
-            (wanted (clock_in self.old.clock.value)
+            (wanted (clock_in self.old.clock.value).clock
             (state_asked self.old port datagram.now false) datagram.now)) }
         ensures here { is_ok result ≡ has_port port self.old.clock.value.agent.sets }
         ensures refused { IfErr result (λ e. e ≡ HandleRefusal.NoPort) }
@@ -306,17 +307,17 @@ impl SavingClock {
         ensures called { OnOk result
             (IsCalledAt self.old (Handles (Undertakes port datagram.now)) self.new) }
         ensures asked { IfOk result (Answers
-            (asked (clock_in self.old.clock.value)
+            (asked (clock_in self.old.clock.value).rows (clock_in self.old.clock.value).clock
             (state_asked self.old port datagram.now false) datagram.now)
-            (wanted (clock_in self.old.clock.value)
+            (wanted (clock_in self.old.clock.value).clock
             (state_asked self.old port datagram.now false) datagram.now)) }
         ensures under_way { OnOk result (request_under_way self.new.clock.value.under_way
             ≡ (undertaken (clock_in self.old.clock.value) (clock_state_in self.old.clock.value)
             port datagram.now).under_way) }
         ensures waits { OnOk result (self.new.waits
-            ≡ (self.old.waits || is_some (asked (clock_in self.old.clock.value)
+            ≡ (self.old.waits || is_some (asked (clock_in self.old.clock.value).rows (clock_in self.old.clock.value).clock
             (state_in self.old.clock.value) datagram.now))) }
-        ensures others { OnOk result (asked (clock_in self.old.clock.value)
+        ensures others { OnOk result (asked (clock_in self.old.clock.value).rows (clock_in self.old.clock.value).clock
             (state_in self.old.clock.value) datagram.now ≡ None → self.new ≡ self.old) }
         ensures agent { self.new.clock.value.agent ≡ self.old.clock.value.agent }
         ensures free { free_places self.new ≡ free_places self.old }
@@ -348,7 +349,7 @@ impl SavingClock {
 
     /// Has a change under way, while nothing is.
     fn begin_change(&mut self, port: u16, datagram: &[u8])
-        requires asks { is_some (asked (clock_in self.old.clock.value) (state_in self.old.clock.value) datagram.now) ≡ true }
+        requires asks { is_some (asked (clock_in self.old.clock.value).rows (clock_in self.old.clock.value).clock (state_in self.old.clock.value) datagram.now) ≡ true }
         requires nothing { self.old.clock.value.under_way ≡ None }
         ensures called { IsCalledAt self.old (Handles (Undertakes port datagram.now)) self.new }
         ensures under_way { request_under_way self.new.clock.value.under_way
@@ -379,7 +380,7 @@ impl SavingClock {
             IsCalled self.old (Handles (Decides o)) [] self.new) }
         ensures verdict { IfOk result (λ t. (o : says.Say) (x : Datagram) → say_in say.now ≡ Ok o
             → request_under_way self.old.clock.value.under_way ≡ Some x
-            → t.verdict ≡ (turn_said (clock_in self.old.clock.value)
+            → t.verdict ≡ (turn_said (clock_in self.old.clock.value).rows (clock_in self.old.clock.value).clock
             (state_in self.old.clock.value) o x.0 x.1).verdict) }
         ensures members { IfOk result (λ t. t.changed
             ≡ changed self.old.clock.value.agent.sets self.new.clock.value.agent.sets) }
@@ -411,7 +412,12 @@ impl SavingClock {
     }
 
     /// Carries out what is under way.
-    fn take_decided(&mut self, under_way: &UnderWay, said: Said<'_>, room: &mut [Sent]) -> Taken
+    fn take_decided(
+        &mut self,
+        under_way: &UnderWay,
+        said: DeviceSay<'_>,
+        room: &mut [Sent],
+    ) -> Taken
         requires under_way { self.old.clock.value.under_way ≡ Some under_way.now }
         requires port { HasPort under_way.now.port self.old.clock.value.agent.sets }
         requires room { most_sent (state_in self.old.clock.value) ≤ length room.old }
@@ -419,7 +425,7 @@ impl SavingClock {
         requires given { IsGiven said }
         requires ready { self.old.ready ≡ 0 }
         ensures called { IsCalled self.old (Handles (Decides (said_value said.entry))) [] self.new }
-        ensures verdict { result.verdict ≡ (turn_said (clock_in self.old.clock.value)
+        ensures verdict { result.verdict ≡ (turn_said (clock_in self.old.clock.value).rows (clock_in self.old.clock.value).clock
             (state_in self.old.clock.value) (said_value said.entry) under_way.now.port
             (take under_way.now.size under_way.now.octets)).verdict }
         ensures members { result.changed
@@ -465,16 +471,22 @@ impl SavingClock {
     }
 
     /// Answers a datagram by what is shown, while something waits. It changes nothing.
-    fn take_shown(&mut self, port: u16, datagram: &[u8], said: Said<'_>, room: &mut [Sent]) -> Taken
+    fn take_shown(
+        &mut self,
+        port: u16,
+        datagram: &[u8],
+        said: DeviceSay<'_>,
+        room: &mut [Sent],
+    ) -> Taken
         requires port { HasPort port self.old.clock.value.agent.sets }
         requires room { most_sent (state_in self.old.clock.value) ≤ length room.old }
         requires given { IsGiven said }
         requires waits { self.old.waits ≡ true }
         requires ready { self.old.ready ≡ 0 }
-        requires other { is_of_manager (clock_in self.old.clock.value) (port, datagram.now) ≡ false }
+        requires other { is_of_manager (clock_in self.old.clock.value).clock (port, datagram.now) ≡ false }
         ensures called { IsCalled self.old (Handles (Heard port datagram.now (said_value said.entry)))
             (messages_in (take result.count room.new)) self.new }
-        ensures verdict { result.verdict ≡ (turn_said (clock_in self.old.clock.value)
+        ensures verdict { result.verdict ≡ (turn_said (clock_in self.old.clock.value).rows (clock_in self.old.clock.value).clock
             (shown_state self.old) (said_value said.entry) port datagram.now).verdict }
         ensures new { is_new result.verdict ≡ false }
         ensures waiting { result.waiting ≡ 0 }
@@ -507,7 +519,7 @@ impl SavingClock {
         &mut self,
         port: u16,
         datagram: &[u8],
-        said: Said<'_>,
+        said: DeviceSay<'_>,
         of_owner: bool,
         room: &mut [Sent],
     ) -> Taken
@@ -559,7 +571,7 @@ impl SavingClock {
         &mut self,
         port: u16,
         datagram: &[u8],
-        said: Said<'_>,
+        said: DeviceSay<'_>,
         of_owner: bool,
         room: &mut [Sent],
     ) -> Taken
@@ -569,7 +581,7 @@ impl SavingClock {
         requires given { IsGiven said }
         requires waits { self.old.waits ≡ true }
         requires ready { self.old.ready ≡ 0 }
-        requires held { (of_owner || is_of_manager (clock_in self.old.clock.value) (port, datagram.now)) ≡ true }
+        requires held { (of_owner || is_of_manager (clock_in self.old.clock.value).clock (port, datagram.now)) ≡ true }
         ensures called { IsCalled self.old
             (Handles (datagram_in port datagram.now (said_value said.entry) of_owner)) [] self.new }
         ensures verdict { result.verdict ≡ (turn_of (clock_in self.old.clock.value)

@@ -39,7 +39,7 @@ impl HostedClock {
         room: &mut [SentAnswer],
     ) -> Result<Shared, HandleRefusal>
         ensures turned { IfOk result (λ h. IsShared
-            (turn (clock_in self.old) (state_in self.old) port datagram.old) self.old.agent.sets port
+            (turn (clock_in self.old).clock (state_in self.old) port datagram.old) self.old.agent.sets port
             datagram.old datagram.new h.verdict h.ports h.size
             (answers_in (take h.count room.new)) (state_in self.new)) }
         ensures count { IfOk result (λ h. h.count ≤ length room.new) }

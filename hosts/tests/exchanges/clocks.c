@@ -18,8 +18,14 @@ static struct ptpm_changed changed;
 /* How many messages may wait in the clock of the page, if it saves; otherwise 0. */
 static size_t places_to_wait;
 
+/* The ids of its device. One more than a clock takes, so that a page can give too many. */
+struct relayed { size_t count; struct ptpm_relayed_id ids[PTPM_MOST_IDS + 1]; };
+
+static struct relayed relayed;
+
 void stop_clock(void) {
     places_to_wait = 0;
+    relayed.count = 0;
     ptpm_clock_stop(&clock_of_page);
 }
 
@@ -31,6 +37,7 @@ static uint32_t start(void *given) {
 static void run_start(char *words) {
     read_start(&words, &start_of_page);
     places_to_wait = 0;
+    relayed.count = 0;
     say_outcome(refusing(start, &start_of_page, NULL), "STARTED");
 }
 
@@ -48,6 +55,7 @@ static bool restores_second(struct ptpm_clock *second) {
     size_t gone, size = state(image);
     return size > 0 && ptpm_clock_restore(second, as->clock.identity, as->port_count, as->managers.of, as->managers.count, image, size,
                                           &gone) == PTPM_RESTORED && gone == 0
+           && ptpm_clock_relay(second, relayed.ids, relayed.count) == PTPM_RELAYING
            && (places_to_wait == 0 || ptpm_clock_saving(second, places_to_wait) == PTPM_SAVING);
 }
 
@@ -87,7 +95,7 @@ static uint32_t take(struct ptpm_clock *clock, const struct coming *in, struct t
 
 /* Whether ptpm_clock_handle takes a datagram like that, at a clock that sends at once. */
 static bool is_simple(const struct coming *in) {
-    return places_to_wait == 0 && in->said.kind == PTPM_AGREES && !in->is_of_owner && !in->is_under_way;
+    return places_to_wait == 0 && relayed.count == 0 && in->said.kind == PTPM_AGREES && !in->is_of_owner && !in->is_under_way;
 }
 
 /* Hands a datagram in at the second clock: by ptpm_clock_handle if that takes it. */
@@ -379,6 +387,29 @@ static uint32_t begin_saving(void *given) {
     return ptpm_clock_saving(&clock_of_page, *places);
 }
 
+static uint32_t relay(void *given) {
+    const struct relayed *as = given;
+    return ptpm_clock_relay(&clock_of_page, as->ids, as->count);
+}
+
+/* `relay ID SCOPE ACTIONS RIGHT LEAST MOST, ID ..`. */
+static void run_relay(char *words) {
+    static struct relayed given;
+    given.count = 0;
+    for (char *row; given.count <= PTPM_MOST_IDS && (row = strsep(&words, ",")) != NULL; given.count++) {
+        struct ptpm_relayed_id *id = &given.ids[given.count];
+        id->id = next_hex(&row);
+        id->scope = (uint8_t)next_number(&row, 0);
+        id->actions = (uint8_t)next_number(&row, 0);
+        id->right = (uint8_t)next_number(&row, 0);
+        id->least = (uint16_t)next_number(&row, 0);
+        id->most = (uint16_t)next_number(&row, 0);
+    }
+    uint32_t answer = refusing(relay, &given, state);
+    say_outcome(answer, "RELAYING");
+    if (answer == PTPM_RELAYING) relayed = given;
+}
+
 /* `saving PLACES`; PTPM_MOST_SENT of them if none are said. */
 static void run_saving(char *words) {
     size_t places = (size_t)next_number(&words, PTPM_MOST_SENT);
@@ -450,6 +481,7 @@ static void run_restore(char *words) {
     say_outcome(answer, "RESTORED");
     if (answer != PTPM_RESTORED) return;
     places_to_wait = 0;
+    relayed.count = 0;
     if (from.gone != 0) say("gone: %zu\n", from.gone);
     memcpy(start_of_page.clock.identity, from.identity, 8);
     start_of_page.port_count = from.ports;
@@ -463,6 +495,6 @@ static void run_most_sent(char *words) {
 
 const struct command clock_commands[] = {
     { "clock", run_start }, { "in", run_in }, { "in-shared", run_in_shared }, { "transit", run_transit }, { "in-owner", run_in_owner }, { "in-said", run_in_said }, { "in-given", run_in_given }, { "decide", run_decide }, { "decide-given", run_decide_given }, { "changed", run_changed }, { "observe", run_observe },
-    { "set-here", run_set_here }, { "read", run_read }, { "image", run_image }, { "image-is", run_image_is }, { "restore", run_restore }, { "saving", run_saving }, { "image-of", run_image_of },
+    { "set-here", run_set_here }, { "read", run_read }, { "image", run_image }, { "image-is", run_image_is }, { "restore", run_restore }, { "relay", run_relay }, { "saving", run_saving }, { "image-of", run_image_of },
     { "saved", run_saved }, { "next", run_next }, { "free", run_free }, { "unsaved", run_unsaved }, { "most-sent", run_most_sent }, { NULL, NULL },
 };

@@ -8,7 +8,7 @@ use Rattle.ptpm_device.proofs.asking.ask.Goals as goal
 
 pub returns-in-Err-clause-asked : goal.returns-in-Err-clause-asked
 returns-in-Err-clause-asked g c =
-    sym (asked-unread (clock_of g.T.ReplyTable.owner c.args.agent.now) (state_of g.T.ReplyTable.entries c.args.agent.now)
+    sym (asked-unread c.args.rows.now (clock_of g.T.ReplyTable.owner c.args.agent.now) (state_of g.T.ReplyTable.entries c.args.agent.now)
     c.args.datagram.now _ (sym c.view.ensures.exact ∙ c.in-Err.is))
 
 pub returns-then-not-is_asked-clause-asked : goal.returns-then-not-is_asked-clause-asked
@@ -16,15 +16,15 @@ returns-then-not-is_asked-clause-asked g c =
     let clock = clock_of g.T.ReplyTable.owner c.args.agent.now in
     let state = state_of g.T.ReplyTable.entries c.args.agent.now in
     let v = c.in-Ok.message in
-    let no : is_asked clock state v ≡ false = cc in
-    sym (asked-read clock state c.args.datagram.now v (sym c.view.ensures.exact ∙ c.in-Ok.is) ∙ cond-false _ _ _ no)
+    let no : is_asked c.args.rows.now clock state v ≡ false = cc in
+    sym (asked-read c.args.rows.now clock state c.args.datagram.now v (sym c.view.ensures.exact ∙ c.in-Ok.is) ∙ cond-false _ _ _ no)
 
 pub returns-clause-asked : goal.returns-clause-asked
 returns-clause-asked g c =
     let clock = clock_of g.T.ReplyTable.owner c.args.agent.now in
     let state = state_of g.T.ReplyTable.entries c.args.agent.now in
     let v = c.in-Ok.message in
-    let yes : is_asked clock state v ≡ true = cc in
-    let e : asked clock state c.args.datagram.now ≡ Some (numbered_from v) =
-    asked-read clock state c.args.datagram.now v (sym c.view.ensures.exact ∙ c.in-Ok.is) ∙ cond-true _ _ _ yes in
+    let yes : is_asked c.args.rows.now clock state v ≡ true = cc in
+    let e : asked c.args.rows.now clock state c.args.datagram.now ≡ Some (numbered_from v) =
+    asked-read c.args.rows.now clock state c.args.datagram.now v (sym c.view.ensures.exact ∙ c.in-Ok.is) ∙ cond-true _ _ _ yes in
     grind arith

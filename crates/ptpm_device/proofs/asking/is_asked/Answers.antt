@@ -1,48 +1,26 @@
-use Rattle.std.proofs.Common.{arith, ◌≡◌, ◌&&◌, is_none, Bool, true, false, sym, ◌∙◌, ap}
-use Rattle.std.specs.FinMap.{get}
-use Rattle.ptpm_codec.specs.Message.{action_of}
-use Rattle.ptpm_data.specs.Refusals.{refusal_of}
-use Rattle.ptpm_table.specs.declared.reply_table.Look.TheVariants as looks
-use Rattle.ptpm_table.specs.Entries.{is_known}
-use Rattle.ptpm_table.specs.Numbering.{look_of}
+use Rattle.std.proofs.Common.{arith, rules, ◌≡◌, ◌∙◌, None, Some, is_none, sym}
+use Rattle.std.proofs.lemmas.Grind.{common_steps}
 use Rattle.ptpm_agent.specs.Addressing.{request_of}
 use Rattle.ptpm_agent.specs.Agent.{clock_of, state_of}
-use Rattle.ptpm_device.specs.Asking.{is_asked, is_change, is_here}
-use Rattle.ptpm_device.proofs.WhenAsked.{away-not_asked, is_asked-here, is_new_look-other, unchanging-not_asked}
+use Rattle.ptpm_device.specs.Asking.{is_asked, rights_of_change}
+use Rattle.ptpm_device.specs.Relayed.{refusal_in}
+use Rattle.ptpm_device.proofs.WhenAsked.{is_asked-by, is_asked-none}
 use Rattle.ptpm_device.proofs.asking.is_asked.Goals as goal
 
-pub returns-then-not-is_change : goal.returns-then-not-is_change
-returns-then-not-is_change g c =
-    let e : is_change (action_of c.args.message.now.body) ≡ false = grind arith in
-    sym (unchanging-not_asked (clock_of g.T.ReplyTable.owner c.args.agent.now) (state_of g.T.ReplyTable.entries c.args.agent.now) c.args.message.now e)
-
-pub returns-then-not-is_here : goal.returns-then-not-is_here
-returns-then-not-is_here g c =
-    let clock = clock_of g.T.ReplyTable.owner c.args.agent.now in
-    let state = state_of g.T.ReplyTable.entries c.args.agent.now in
-    let e : is_here clock state c.args.message.now ≡ false = cc in
-    sym (away-not_asked clock state c.args.message.now e)
-
-pub returns-in-New : goal.returns-in-New
-returns-in-New g c =
+pub returns-in-Some : goal.returns-in-Some
+returns-in-Some g c =
     let clock = clock_of g.T.ReplyTable.owner c.args.agent.now in
     let state = state_of g.T.ReplyTable.entries c.args.agent.now in
     let v = c.args.message.now in
-    let here : is_here clock state v ≡ true = cc in
-    let change : is_change (action_of v.body) ≡ true = grind arith in
-    let look : looks.New ≡ look_of (is_known v.source clock.managers) (get state.entries v.source) v.number (request_of v) = grind arith in
-    let e : is_asked clock state v ≡ is_none (refusal_of (request_of v) (clock.rights v.source)) = is_asked-here clock state v looks.New here change look in
-    let own : c.is_none.result ≡ is_none (refusal_of (request_of v) (clock.rights v.source)) = grind arith in
+    let found : rights_of_change clock state v ≡ Some c.in-Some.rights = first_of (cc, search rules, grind (arith, common_steps)) in
+    let e : is_asked c.args.rows.now clock state v ≡ is_none (refusal_in c.args.rows.now (request_of v) c.in-Some.rights) =
+    is_asked-by c.args.rows.now clock state v c.in-Some.rights found in
+    let own : c.is_none.result ≡ is_none (refusal_in c.args.rows.now (request_of v) c.in-Some.rights) = first_of (cc, search rules, grind (arith, common_steps)) in
     own ∙ sym e
 
-pub returns-in_default : goal.returns-in_default
-returns-in_default g c =
+pub returns-in-None : goal.returns-in-None
+returns-in-None g c =
     let clock = clock_of g.T.ReplyTable.owner c.args.agent.now in
     let state = state_of g.T.ReplyTable.entries c.args.agent.now in
-    let v = c.args.message.now in
-    let l = c.look_with_rights-look.result.0 in
-    let here : is_here clock state v ≡ true = cc in
-    let change : is_change (action_of v.body) ≡ true = grind arith in
-    let look : l ≡ look_of (is_known v.source clock.managers) (get state.entries v.source) v.number (request_of v) = grind arith in
-    sym (is_asked-here clock state v l here change look
-    ∙ ap (λ (b : Bool). b && is_none (refusal_of (request_of v) (clock.rights v.source))) (is_new_look-other l c.in_default.not-New))
+    let none : rights_of_change clock state c.args.message.now ≡ None = first_of (cc, search rules, grind (arith, common_steps)) in
+    sym (is_asked-none c.args.rows.now clock state c.args.message.now none)

@@ -11,6 +11,7 @@ use Rattle.ptpm_table.proofs.Identities.{same_identity-refl}
 use Rattle.ptpm_agent.specs.Turn.{Clock, State, outbox_of}
 use Rattle.ptpm_agent.specs.Once.{Accepted, History, RequestCopy, accepted_from, after_copy, copy_of, due_reply, greatest, joined, joins, kept_reply, Delivery, initial_history}
 use Rattle.ptpm_agent.specs.Observing.{AreOfOneRequest}
+use Rattle.ptpm_device.specs.declared.relayed.RelayedId.{RelayedId}
 use Rattle.ptpm_device.specs.Decided.{Changed, Delivered, Happening, Observed, after_arrival, after_decision, after_reply_to, decided_in_place, due_decided, history_after, reply_decided, ComeInTime, ComesInTime, after_happening, after_happenings}
 use Rattle.ptpm_device.specs.Saying.{Say, turn_said}
 use Rattle.ptpm_data.specs.Rights.{all_rights}
@@ -63,35 +64,35 @@ keeps-reply : (c : Clock) (m : PortIdentity) (k : ℕ) (a : Accepted) (h : Histo
 keeps-reply c m k a h x None y keeps = keeps-copy c m k a h x keeps
 keeps-reply c m k a h x (Some reply) y keeps = keeps-more m k a h _ h.sets (above_all h x y) keeps
 
-keeps-decision : (c : Clock) (m : PortIdentity) (k : ℕ) (a : Accepted) (h : History) (x : RequestCopy) (say : Say)
+keeps-decision : (rows : List RelayedId) (c : Clock) (m : PortIdentity) (k : ℕ) (a : Accepted) (h : History) (x : RequestCopy) (say : Say)
     → Keeps m k a h
-    → Keeps m k a (after_decision c h x say)
-keeps-decision c m k a h x say keeps = ⊎_elim
-    (λ (y : joins h x ≡ true). keeps-reply c m k a h x (reply_decided c h x say) y keeps)
+    → Keeps m k a (after_decision rows c h x say)
+keeps-decision rows c m k a h x say keeps = ⊎_elim
+    (λ (y : joins h x ≡ true). keeps-reply c m k a h x (reply_decided rows c h x say) y keeps)
     (λ (n : joins h x ≡ false).
     subst (λ (o : Option ReplyValue). Keeps m k a (after_reply_to c h x o)) (sym (cond-false _ _ _ n)) (keeps-copy c m k a h x keeps))
     (cases_Bool (joins h x))
 
-keeps-arrival : (c : Clock) (m : PortIdentity) (k : ℕ) (a : Accepted) (h : History) (o : Option RequestCopy) (say : Say)
+keeps-arrival : (rows : List RelayedId) (c : Clock) (m : PortIdentity) (k : ℕ) (a : Accepted) (h : History) (o : Option RequestCopy) (say : Say)
     → Keeps m k a h
-    → Keeps m k a (after_arrival c h o say)
-keeps-arrival c m k a h None say keeps = keeps
-keeps-arrival c m k a h (Some x) say keeps = keeps-decision c m k a h x say keeps
+    → Keeps m k a (after_arrival rows c h o say)
+keeps-arrival rows c m k a h None say keeps = keeps
+keeps-arrival rows c m k a h (Some x) say keeps = keeps-decision rows c m k a h x say keeps
 
-keeps-happening : (c : Clock) (ports : ℕ) (m : PortIdentity) (k : ℕ) (a : Accepted) (h : History) (x : Happening)
+keeps-happening : (rows : List RelayedId) (c : Clock) (ports : ℕ) (m : PortIdentity) (k : ℕ) (a : Accepted) (h : History) (x : Happening)
     → Keeps m k a h
-    → Keeps m k a (history_after c ports h x)
-keeps-happening c ports m k a h (Delivered x say) keeps = keeps-arrival c m k a h (copy_of c ports x) say keeps
-keeps-happening c ports m k a h (Observed o seen) keeps = record { kept = keeps.kept; accepted = keeps.accepted }
-keeps-happening c ports m k a h (Changed q) keeps = record { kept = keeps.kept; accepted = keeps.accepted }
+    → Keeps m k a (history_after rows c ports h x)
+keeps-happening rows c ports m k a h (Delivered x say) keeps = keeps-arrival rows c m k a h (copy_of c ports x) say keeps
+keeps-happening rows c ports m k a h (Observed o seen) keeps = record { kept = keeps.kept; accepted = keeps.accepted }
+keeps-happening rows c ports m k a h (Changed q) keeps = record { kept = keeps.kept; accepted = keeps.accepted }
 
 -- it is kept through all that happens
-keeps-happenings : (c : Clock) (ports : ℕ) (m : PortIdentity) (k : ℕ) (a : Accepted) (h : History) (xs : List Happening)
+keeps-happenings : (rows : List RelayedId) (c : Clock) (ports : ℕ) (m : PortIdentity) (k : ℕ) (a : Accepted) (h : History) (xs : List Happening)
     → Keeps m k a h
-    → Keeps m k a (decided_in_place c ports h xs)
-keeps-happenings c ports m k a h [] keeps = keeps
-keeps-happenings c ports m k a h (x ∷ xs) keeps =
-    keeps-happenings c ports m k a (history_after c ports h x) xs (keeps-happening c ports m k a h x keeps)
+    → Keeps m k a (decided_in_place rows c ports h xs)
+keeps-happenings rows c ports m k a h [] keeps = keeps
+keeps-happenings rows c ports m k a h (x ∷ xs) keeps =
+    keeps-happenings rows c ports m k a (history_after rows c ports h x) xs (keeps-happening rows c ports m k a h x keeps)
 
 keeps-first : (h : History) (a : Accepted) (d : DataSetsValue)
     → greatest a.manager h.accepted < a.index
@@ -119,156 +120,156 @@ due_reply-latest : (c : Clock) (h : History) (k j : RequestCopy) (a : Accepted)
 due_reply-latest c h k j a one asked kept latest = grind arith
 
 -- the reply that is due to it, whatever is said of it
-due-latest : (c : Clock) (h : History) (k j : RequestCopy) (a : Accepted) (say : Say)
+due-latest : (rows : List RelayedId) (c : Clock) (h : History) (k j : RequestCopy) (a : Accepted) (say : Say)
     → AreOfOneRequest k j
     → a.request ≡ k.request
     → Keeps k.heard.source k.index a h
     → greatest k.heard.source h.accepted ≡ k.index
-    → due_decided c h j say ≡ Some a.reply
-due-latest c h k j a say one asked keeps latest =
+    → due_decided rows c h j say ≡ Some a.reply
+due-latest rows c h k j a say one asked keeps latest =
     subst (λ (o : Option ReplyValue). option_or o (due_reply c h j) ≡ Some a.reply) (sym (cond-false _ _ _ (latest_stays h k j one latest)))
     (due_reply-latest c h k j a one asked keeps.kept latest)
 
-since : (c : Clock) (ports : ℕ) (first : History) (k j : RequestCopy) (a : Accepted) (later : Say) (xs : List Happening)
+since : (rows : List RelayedId) (c : Clock) (ports : ℕ) (first : History) (k j : RequestCopy) (a : Accepted) (later : Say) (xs : List Happening)
     → AreOfOneRequest k j
     → a.request ≡ k.request
     → Keeps k.heard.source k.index a first
-    → greatest k.heard.source (decided_in_place c ports first xs).accepted ≡ k.index
-    → due_decided c (decided_in_place c ports first xs) j later ≡ Some a.reply
-since c ports first k j a later xs one asked keeps latest =
-    due-latest c (decided_in_place c ports first xs) k j a later one asked
-    (keeps-happenings c ports k.heard.source k.index a first xs keeps) latest
+    → greatest k.heard.source (decided_in_place rows c ports first xs).accepted ≡ k.index
+    → due_decided rows c (decided_in_place rows c ports first xs) j later ≡ Some a.reply
+since rows c ports first k j a later xs one asked keeps latest =
+    due-latest rows c (decided_in_place rows c ports first xs) k j a later one asked
+    (keeps-happenings rows c ports k.heard.source k.index a first xs keeps) latest
 
 due_reply-joins : (c : Clock) (h : History) (k : RequestCopy)
     → joins h k ≡ true
     → due_reply c h k ≡ Some (accepted_from c h k).reply
 due_reply-joins c h k y = cond-true _ _ _ y
 
-due-since : (c : Clock) (ports : ℕ) (h : History) (k j : RequestCopy) (o : Option ReplyValue) (later : Say) (xs : List Happening)
+due-since : (rows : List RelayedId) (c : Clock) (ports : ℕ) (h : History) (k j : RequestCopy) (o : Option ReplyValue) (later : Say) (xs : List Happening)
     → joins h k ≡ true
     → AreOfOneRequest k j
-    → greatest k.heard.source (decided_in_place c ports (after_reply_to c h k o) xs).accepted ≡ k.index
-    → due_decided c (decided_in_place c ports (after_reply_to c h k o) xs) j later ≡ option_or o (due_reply c h k)
-due-since c ports h k j None later xs y one latest =
-    since c ports (after_copy c h k) k j (accepted_from c h k) later xs one refl (keeps-joined c h k y) latest ∙ sym (due_reply-joins c h k y)
-due-since c ports h k j (Some reply) later xs y one latest =
-    since c ports (after_reply_to c h k (Some reply)) k j (record { manager = k.heard.source; index = k.index; request = k.request; reply = reply }) later xs
+    → greatest k.heard.source (decided_in_place rows c ports (after_reply_to c h k o) xs).accepted ≡ k.index
+    → due_decided rows c (decided_in_place rows c ports (after_reply_to c h k o) xs) j later ≡ option_or o (due_reply c h k)
+due-since rows c ports h k j None later xs y one latest =
+    since rows c ports (after_copy c h k) k j (accepted_from c h k) later xs one refl (keeps-joined c h k y) latest ∙ sym (due_reply-joins c h k y)
+due-since rows c ports h k j (Some reply) later xs y one latest =
+    since rows c ports (after_reply_to c h k (Some reply)) k j (record { manager = k.heard.source; index = k.index; request = k.request; reply = reply }) later xs
     one refl (keeps-first h _ h.sets (above_all h k y)) latest
 
-kept_since : (c : Clock) (ports : ℕ) (h : History) (k j : RequestCopy) (say later : Say) (xs : List Happening)
+kept_since : (rows : List RelayedId) (c : Clock) (ports : ℕ) (h : History) (k j : RequestCopy) (say later : Say) (xs : List Happening)
     → joins h k ≡ true
     → AreOfOneRequest k j
-    → greatest k.heard.source (decided_in_place c ports (after_decision c h k say) xs).accepted ≡ k.index
-    → due_decided c (decided_in_place c ports (after_decision c h k say) xs) j later ≡ due_decided c h k say
-kept_since c ports h k j say later xs = due-since c ports h k j (reply_decided c h k say) later xs
+    → greatest k.heard.source (decided_in_place rows c ports (after_decision rows c h k say) xs).accepted ≡ k.index
+    → due_decided rows c (decided_in_place rows c ports (after_decision rows c h k say) xs) j later ≡ due_decided rows c h k say
+kept_since rows c ports h k j say later xs = due-since rows c ports h k j (reply_decided rows c h k say) later xs
 
 -- At-most-once execution over all that happens at a clock whose device has a say.
 
 -- ---- one happening
 
-stands-arrival : (first : PortIdentity → ℕ) (c : Clock) (ports : ℕ) (s : State) (h : History)
+stands-arrival : (first : PortIdentity → ℕ) (rows : List RelayedId) (c : Clock) (ports : ℕ) (s : State) (h : History)
     (x : Delivery) (say : Say) (o : Option RequestCopy)
     → length h.sets.ports ≡ ports → copy_of c ports x ≡ o → StandsAt first s h
     → ((k : RequestCopy) → copy_of c ports x ≡ Some k → IsInTime first h k)
-    → StandsAt first (turn_said c s say x.ingress x.datagram).next (after_arrival c h o say)
-stands-arrival first c ports s h x say None many e at time = grind (arith, turn_said-no_copy)
-stands-arrival first c ports s h x say (Some k) many e at time =
-    (decides_as first c s h x say k at (ap (λ p. copy_of c p x) many ∙ e) (time k e)).stands
+    → StandsAt first (turn_said rows c s say x.ingress x.datagram).next (after_arrival rows c h o say)
+stands-arrival first rows c ports s h x say None many e at time = grind (arith, turn_said-no_copy)
+stands-arrival first rows c ports s h x say (Some k) many e at time =
+    (decides_as first rows c s h x say k at (ap (λ p. copy_of c p x) many ∙ e) (time k e)).stands
 
-stands-happening : (first : PortIdentity → ℕ) (c : Clock) (ports : ℕ) (s : State) (h : History)
+stands-happening : (first : PortIdentity → ℕ) (rows : List RelayedId) (c : Clock) (ports : ℕ) (s : State) (h : History)
     (x : Happening)
-    → length h.sets.ports ≡ ports → StandsAt first s h → ComesInTime first c ports h x
-    → StandsAt first (after_happening c s x) (history_after c ports h x)
-stands-happening first c ports s h (Delivered x say) many at time = stands-arrival first c ports s h x say (copy_of c ports x) many refl at time
-stands-happening first c ports s h (Observed o seen) many at time = grind arith
-stands-happening first c ports s h (Changed q) many at time = grind arith
+    → length h.sets.ports ≡ ports → StandsAt first s h → ComesInTime first rows c ports h x
+    → StandsAt first (after_happening rows c s x) (history_after rows c ports h x)
+stands-happening first rows c ports s h (Delivered x say) many at time = stands-arrival first rows c ports s h x say (copy_of c ports x) many refl at time
+stands-happening first rows c ports s h (Observed o seen) many at time = grind arith
+stands-happening first rows c ports s h (Changed q) many at time = grind arith
 
 after_reply_to-ports : (c : Clock) (h : History) (k : RequestCopy) (o : Option ReplyValue)
     → length (after_reply_to c h k o).sets.ports ≡ length h.sets.ports
 after_reply_to-ports c h k None = after_copy-ports c h k
 after_reply_to-ports c h k (Some reply) = refl
 
-after_arrival-ports : (c : Clock) (h : History) (o : Option RequestCopy) (say : Say)
-    → length (after_arrival c h o say).sets.ports ≡ length h.sets.ports
-after_arrival-ports c h None say = refl
-after_arrival-ports c h (Some k) say = after_reply_to-ports c h k (reply_decided c h k say)
+after_arrival-ports : (rows : List RelayedId) (c : Clock) (h : History) (o : Option RequestCopy) (say : Say)
+    → length (after_arrival rows c h o say).sets.ports ≡ length h.sets.ports
+after_arrival-ports rows c h None say = refl
+after_arrival-ports rows c h (Some k) say = after_reply_to-ports c h k (reply_decided rows c h k say)
 
-history_after-ports : (c : Clock) (ports : ℕ) (h : History) (x : Happening)
-    → length (history_after c ports h x).sets.ports ≡ length h.sets.ports
-history_after-ports c ports h (Delivered x say) = after_arrival-ports c h (copy_of c ports x) say
-history_after-ports c ports h (Observed o seen) = observed-ports o seen h.sets
-history_after-ports c ports h (Changed q) = changed_by-ports q all_rights h.sets
+history_after-ports : (rows : List RelayedId) (c : Clock) (ports : ℕ) (h : History) (x : Happening)
+    → length (history_after rows c ports h x).sets.ports ≡ length h.sets.ports
+history_after-ports rows c ports h (Delivered x say) = after_arrival-ports rows c h (copy_of c ports x) say
+history_after-ports rows c ports h (Observed o seen) = observed-ports o seen h.sets
+history_after-ports rows c ports h (Changed q) = changed_by-ports q all_rights h.sets
 
 -- ---- all that happens
 
-decided_in_place-ports : (c : Clock) (ports : ℕ) (h : History) (xs : List Happening)
-    → length (decided_in_place c ports h xs).sets.ports ≡ length h.sets.ports
-decided_in_place-ports c ports h [] = refl
-decided_in_place-ports c ports h (x ∷ xs) = decided_in_place-ports c ports (history_after c ports h x) xs ∙ history_after-ports c ports h x
+decided_in_place-ports : (rows : List RelayedId) (c : Clock) (ports : ℕ) (h : History) (xs : List Happening)
+    → length (decided_in_place rows c ports h xs).sets.ports ≡ length h.sets.ports
+decided_in_place-ports rows c ports h [] = refl
+decided_in_place-ports rows c ports h (x ∷ xs) = decided_in_place-ports rows c ports (history_after rows c ports h x) xs ∙ history_after-ports rows c ports h x
 
-stands_happenings : (first : PortIdentity → ℕ) (c : Clock) (ports : ℕ) (s : State) (h : History)
+stands_happenings : (first : PortIdentity → ℕ) (rows : List RelayedId) (c : Clock) (ports : ℕ) (s : State) (h : History)
     (xs : List Happening)
-    → length h.sets.ports ≡ ports → StandsAt first s h → ComeInTime first c ports h xs
-    → StandsAt first (after_happenings c s xs) (decided_in_place c ports h xs)
-stands_happenings first c ports s h [] many at time = at
-stands_happenings first c ports s h (x ∷ xs) many at time =
-    stands_happenings first c ports (after_happening c s x) (history_after c ports h x) xs
-    (history_after-ports c ports h x ∙ many) (stands-happening first c ports s h x many at time.0) time.1
+    → length h.sets.ports ≡ ports → StandsAt first s h → ComeInTime first rows c ports h xs
+    → StandsAt first (after_happenings rows c s xs) (decided_in_place rows c ports h xs)
+stands_happenings first rows c ports s h [] many at time = at
+stands_happenings first rows c ports s h (x ∷ xs) many at time =
+    stands_happenings first rows c ports (after_happening rows c s x) (history_after rows c ports h x) xs
+    (history_after-ports rows c ports h x ∙ many) (stands-happening first rows c ports s h x many at time.0) time.1
 
 -- a list with one more happening
-time_parts : (first : PortIdentity → ℕ) (c : Clock) (ports : ℕ) (h : History) (xs : List Happening)
+time_parts : (first : PortIdentity → ℕ) (rows : List RelayedId) (c : Clock) (ports : ℕ) (h : History) (xs : List Happening)
     (x : Happening)
-    → ComeInTime first c ports h (xs ++ x ∷ [])
-    → ComeInTime first c ports h xs × ComesInTime first c ports (decided_in_place c ports h xs) x
-time_parts first c ports h [] x time = (tt, time.0)
-time_parts first c ports h (y ∷ ys) x time = let rest = time_parts first c ports (history_after c ports h y) ys x time.1 in ((time.0, rest.0), rest.1)
+    → ComeInTime first rows c ports h (xs ++ x ∷ [])
+    → ComeInTime first rows c ports h xs × ComesInTime first rows c ports (decided_in_place rows c ports h xs) x
+time_parts first rows c ports h [] x time = (tt, time.0)
+time_parts first rows c ports h (y ∷ ys) x time = let rest = time_parts first rows c ports (history_after rows c ports h y) ys x time.1 in ((time.0, rest.0), rest.1)
 
-after_happenings-append : (c : Clock) (s : State) (xs : List Happening) (x : Happening)
-    → after_happenings c s (xs ++ x ∷ []) ≡ after_happening c (after_happenings c s xs) x
-after_happenings-append c s [] x = refl
-after_happenings-append c s (y ∷ ys) x = after_happenings-append c (after_happening c s y) ys x
+after_happenings-append : (rows : List RelayedId) (c : Clock) (s : State) (xs : List Happening) (x : Happening)
+    → after_happenings rows c s (xs ++ x ∷ []) ≡ after_happening rows c (after_happenings rows c s xs) x
+after_happenings-append rows c s [] x = refl
+after_happenings-append rows c s (y ∷ ys) x = after_happenings-append rows c (after_happening rows c s y) ys x
 
-decides_as_last : (first : PortIdentity → ℕ) (c : Clock) (d : DataSetsValue) (xs : List Happening)
+decides_as_last : (first : PortIdentity → ℕ) (rows : List RelayedId) (c : Clock) (d : DataSetsValue) (xs : List Happening)
     (x : Delivery) (say : Say) (k : RequestCopy)
     → copy_of c (length d.ports) x ≡ Some k
-    → ComeInTime first c (length d.ports) (initial_history d) (xs ++ Delivered x say ∷ [])
-    → DecidesAs first c (after_happenings c (initial_clock_state d) xs)
-    (decided_in_place c (length d.ports) (initial_history d) xs) x say k
-decides_as_last first c d xs x say k e time =
-    let t = time_parts first c (length d.ports) (initial_history d) xs (Delivered x say) time in
-    decides_as first c (after_happenings c (initial_clock_state d) xs)
-    (decided_in_place c (length d.ports) (initial_history d) xs) x say k
-    (stands_happenings first c (length d.ports) (initial_clock_state d) (initial_history d) xs refl (stands-initial_history first d) t.0)
-    (ap (λ p. copy_of c p x) (decided_in_place-ports c (length d.ports) (initial_history d) xs) ∙ e) (t.1 k e)
+    → ComeInTime first rows c (length d.ports) (initial_history d) (xs ++ Delivered x say ∷ [])
+    → DecidesAs first rows c (after_happenings rows c (initial_clock_state d) xs)
+    (decided_in_place rows c (length d.ports) (initial_history d) xs) x say k
+decides_as_last first rows c d xs x say k e time =
+    let t = time_parts first rows c (length d.ports) (initial_history d) xs (Delivered x say) time in
+    decides_as first rows c (after_happenings rows c (initial_clock_state d) xs)
+    (decided_in_place rows c (length d.ports) (initial_history d) xs) x say k
+    (stands_happenings first rows c (length d.ports) (initial_clock_state d) (initial_history d) xs refl (stands-initial_history first d) t.0)
+    (ap (λ p. copy_of c p x) (decided_in_place-ports rows c (length d.ports) (initial_history d) xs) ∙ e) (t.1 k e)
 
-sets_in_place : (c : Clock) (first : PortIdentity → ℕ) (d : DataSetsValue)
+sets_in_place : (rows : List RelayedId) (c : Clock) (first : PortIdentity → ℕ) (d : DataSetsValue)
     (xs : List Happening)
-    → ComeInTime first c (length d.ports) (initial_history d) xs
-    → (after_happenings c (initial_clock_state d) xs).sets
-    ≡ (decided_in_place c (length d.ports) (initial_history d) xs).sets
-sets_in_place c first d xs time =
-    (stands_happenings first c (length d.ports) (initial_clock_state d) (initial_history d) xs refl (stands-initial_history first d) time).sets
+    → ComeInTime first rows c (length d.ports) (initial_history d) xs
+    → (after_happenings rows c (initial_clock_state d) xs).sets
+    ≡ (decided_in_place rows c (length d.ports) (initial_history d) xs).sets
+sets_in_place rows c first d xs time =
+    (stands_happenings first rows c (length d.ports) (initial_clock_state d) (initial_history d) xs refl (stands-initial_history first d) time).sets
 
-outbox_in_place : (c : Clock) (first : PortIdentity → ℕ) (d : DataSetsValue)
+outbox_in_place : (rows : List RelayedId) (c : Clock) (first : PortIdentity → ℕ) (d : DataSetsValue)
     (xs : List Happening) (x : Delivery) (say : Say) (k : RequestCopy)
     → copy_of c (length d.ports) x ≡ Some k
-    → ComeInTime first c (length d.ports) (initial_history d) (xs ++ Delivered x say ∷ [])
-    → outbox_of (turn_said c (after_happenings c (initial_clock_state d) xs) say x.ingress x.datagram)
+    → ComeInTime first rows c (length d.ports) (initial_history d) (xs ++ Delivered x say ∷ [])
+    → outbox_of (turn_said rows c (after_happenings rows c (initial_clock_state d) xs) say x.ingress x.datagram)
     ≡ due_messages c k
-    (due_decided c (decided_in_place c (length d.ports) (initial_history d) xs) k say)
-outbox_in_place c first d xs x say k e time =
-    let as' = decides_as_last first c d xs x say k e time in
-    ap (λ (f : List (ℕ × List ℕ)). f ++ (turn_said c (after_happenings c (initial_clock_state d) xs) say x.ingress x.datagram).replies) as'.forwards ∙ as'.replies
+    (due_decided rows c (decided_in_place rows c (length d.ports) (initial_history d) xs) k say)
+outbox_in_place rows c first d xs x say k e time =
+    let as' = decides_as_last first rows c d xs x say k e time in
+    ap (λ (f : List (ℕ × List ℕ)). f ++ (turn_said rows c (after_happenings rows c (initial_clock_state d) xs) say x.ingress x.datagram).replies) as'.forwards ∙ as'.replies
 
-repeat_in_place : (c : Clock) (first : PortIdentity → ℕ) (d : DataSetsValue)
+repeat_in_place : (rows : List RelayedId) (c : Clock) (first : PortIdentity → ℕ) (d : DataSetsValue)
     (xs : List Happening) (x : Delivery) (say : Say) (k : RequestCopy)
     → copy_of c (length d.ports) x ≡ Some k
-    → ComeInTime first c (length d.ports) (initial_history d) (xs ++ Delivered x say ∷ [])
-    → joins (decided_in_place c (length d.ports) (initial_history d) xs) k ≡ false
-    → after_happenings c (initial_clock_state d) (xs ++ Delivered x say ∷ [])
-    ≡ after_happenings c (initial_clock_state d) xs
-repeat_in_place c first d xs x say k e time j =
-    after_happenings-append c (initial_clock_state d) xs (Delivered x say) ∙ (decides_as_last first c d xs x say k e time).stays j
+    → ComeInTime first rows c (length d.ports) (initial_history d) (xs ++ Delivered x say ∷ [])
+    → joins (decided_in_place rows c (length d.ports) (initial_history d) xs) k ≡ false
+    → after_happenings rows c (initial_clock_state d) (xs ++ Delivered x say ∷ [])
+    ≡ after_happenings rows c (initial_clock_state d) xs
+repeat_in_place rows c first d xs x say k e time j =
+    after_happenings-append rows c (initial_clock_state d) xs (Delivered x say) ∙ (decides_as_last first rows c d xs x say k e time).stays j
 
 pub returns-clause-sets : goal.returns-clause-sets
 returns-clause-sets c = sets_in_place
@@ -280,7 +281,7 @@ pub returns-clause-repeats : goal.returns-clause-repeats
 returns-clause-repeats c = repeat_in_place
 
 pub returns-clause-stands : goal.returns-clause-stands
-returns-clause-stands c = λ clock first s h xs at time. stands_happenings first clock _ s h xs refl at time
+returns-clause-stands c = λ rows clock first s h xs at time. stands_happenings first rows clock _ s h xs refl at time
 
 pub returns-clause-kept : goal.returns-clause-kept
 returns-clause-kept c = kept_since

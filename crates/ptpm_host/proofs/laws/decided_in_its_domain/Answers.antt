@@ -19,6 +19,7 @@ use Rattle.ptpm_data.specs.ObservationBack.{Observation}
 use Rattle.ptpm_data.specs.Refusals.{refusal_of, row_refusal}
 use Rattle.ptpm_data.specs.Request.{RequestValue}
 use Rattle.ptpm_data.specs.Rights.{all_rights}
+use Rattle.ptpm_data.proofs.Answering.{changed_by-unlisted}
 use Rattle.ptpm_data.proofs.FieldSizes.{found}
 use Rattle.ptpm_data.proofs.Keeping.{changed_by-all, changed_by-refused}
 use Rattle.ptpm_data.proofs.Observed.{observed-all}
@@ -28,9 +29,11 @@ use Rattle.ptpm_agent.specs.Addressing.{is_addressed, is_own, is_request, reques
 use Rattle.ptpm_agent.specs.Observing.{moved_state}
 use Rattle.ptpm_agent.specs.Turn.{Clock, State, is_in_domain, judged, look, next_by, numbered_from, turn, turn_by, verdict_at}
 use Rattle.ptpm_agent.proofs.Turns.{turn-next}
-use Rattle.ptpm_device.specs.Asking.{asked, asked_by, is_asked, is_change, is_new, is_permitted}
+use Rattle.ptpm_device.specs.Asking.{asked, asked_by, is_asked, is_for_device, is_new}
+use Rattle.ptpm_device.specs.declared.relayed.RelayedId.{RelayedId}
+use Rattle.ptpm_device.specs.Relayed.{is_change, refusal_at, relayed}
 use Rattle.ptpm_device.specs.Saying.{Say, turn_said}
-use Rattle.ptpm_device.proofs.Judged.{judged-asked, turn_said-verdict}
+use Rattle.ptpm_device.proofs.Judged.{judged-asked, relayed_parts, turn_said-verdict}
 use Rattle.ptpm_device.proofs.Steps.{turn_said-each}
 use Rattle.ptpm_device.proofs.WhenAsked.{here-new, here_parts, not_asked}
 use Rattle.ptpm_saved.specs.SavingClock.{Datagram}
@@ -43,6 +46,7 @@ use Rattle.ptpm_data.specs.declared.management_id.Layout.TheVariants as layouts
 use Rattle.ptpm_table.specs.declared.reply_table.Look.TheVariants as looks
 use Rattle.ptpm_agent.specs.declared.verdict.Verdict.TheVariants as verdicts
 use Rattle.ptpm_host.proofs.laws.decided_in_its_domain.Goals as goal
+use Rattle.ptpm_host.specs.Clock.{DeviceClock}
 
 -- ---- a verdict in the clock's domain
 
@@ -71,22 +75,22 @@ judged_on false true reply l = refl
 judged_on false false true l = refl
 judged_on false false false l = looked l
 
-judged_here : (c : Clock) (s : State) (v : Message)
+judged_here : (c : DeviceClock) (s : State) (v : Message)
     → v.sdo == 0 ≡ true
     → v.domain == s.sets.default.domain ≡ true
-    → is_other (judged c s v) ≡ false
+    → is_other (judged c.clock s v) ≡ false
 unfolding judged
 judged_here c s v sdo domain =
-    let inside : is_in_domain c s v ≡ true = and_from _ _ sdo (or_left _ _ domain) in
-    ap is_other (cond-false _ _ _ (ap not inside)) ∙ judged_on (is_own c v) (not (is_addressed c s.sets v)) (not (is_request v)) (look c s v)
+    let inside : is_in_domain c.clock s v ≡ true = and_from _ _ sdo (or_left _ _ domain) in
+    ap is_other (cond-false _ _ _ (ap not inside)) ∙ judged_on (is_own c.clock v) (not (is_addressed c.clock s.sets v)) (not (is_request v)) (look c.clock s v)
 
-turned_here : (c : Clock) (s : State) (port : ℕ) (datagram : List ℕ)
-    → ((v : Message) → reading datagram ≡ Ok v → is_other (judged c s v) ≡ false)
-    → is_other (turn c s port datagram).verdict ≡ false
+turned_here : (c : DeviceClock) (s : State) (port : ℕ) (datagram : List ℕ)
+    → ((v : Message) → reading datagram ≡ Ok v → is_other (judged c.clock s v) ≡ false)
+    → is_other (turn c.clock s port datagram).verdict ≡ false
 unfolding is_other turn
 turned_here c s port datagram each = by_reading (reading datagram) refl
   where
-    by_reading : (r : Result Message DecodeError) → reading datagram ≡ r → is_other (turn_by c s port datagram r).verdict ≡ false
+    by_reading : (r : Result Message DecodeError) → reading datagram ≡ r → is_other (turn_by c.clock s port datagram r).verdict ≡ false
     by_reading (Err cause) is = refl
     by_reading (Ok v) is = each v is
 
@@ -94,13 +98,13 @@ read_message : (datagram : List ℕ) (v : Message) → reading datagram ≡ Ok v
 unfolding message_of
 read_message datagram v is = grind arith
 
-decided_here : (c : Clock) (s : ClockState) (x : Datagram) (say : Say)
+decided_here : (c : DeviceClock) (s : ClockState) (x : Datagram) (say : Say)
     → IsInItsDomain s
     → s.under_way ≡ Some x
-    → (turn_said c s.state say x.0 x.1).verdict ≢ verdicts.OtherDomain
+    → (turn_said c.rows c.clock s.state say x.0 x.1).verdict ≢ verdicts.OtherDomain
 decided_here c s x say here busy =
-    never (turn_said c s.state say x.0 x.1).verdict
-    (ap is_other (turn_said-verdict c s.state say x.0 x.1)
+    never (turn_said c.rows c.clock s.state say x.0 x.1).verdict
+    (ap is_other (turn_said-verdict c.rows c.clock s.state say x.0 x.1)
     ∙ turned_here c s.state x.0 x.1 (λ v is.
     let parts = here x v busy (read_message x.1 v is) in judged_here c s.state v parts.0 parts.1))
 
@@ -129,28 +133,36 @@ unpermitted : (q : RequestValue) (rights : Rights) (d : DataSetsValue) (b : Bool
 unpermitted q rights d true is none = refused q rights d (refusal_of q rights) refl none
 unpermitted q rights d false is none = changed_by-all (λ e. e ≡ d) q rights d refl (λ e suits. untouched e.layout q q.action d is)
 
+-- what does not reach the device, by the row of its id or by the clock, changes nothing
+closed : (rows : List RelayedId) (q : RequestValue) (rights : Rights) (d : DataSetsValue) (o : Option RelayedId)
+    → relayed rows q ≡ o
+    → (is_change q.action && is_none (refusal_at o q rights)) ≡ false
+    → changed_by q rights d ≡ d
+closed rows q rights d None found none = unpermitted q rights d (is_change q.action) refl none
+closed rows q rights d (Some r) found none = sym (changed_by-unlisted q rights d (relayed_parts rows q r found).1)
+
 -- a manager's message about which the device is not asked changes nothing
-unasked_at : (c : Clock) (s : State) (v : Message) (w : Verdict)
-    → judged c s v ≡ w
-    → is_asked c s v ≡ false
-    → (next_by w c s v).sets ≡ s.sets
+unasked_at : (c : DeviceClock) (s : State) (v : Message) (w : Verdict)
+    → judged c.clock s v ≡ w
+    → is_asked c.rows c.clock s v ≡ false
+    → (next_by w c.clock s v).sets ≡ s.sets
 unfolding is_asked
 unasked_at c s v verdicts.AnsweredNew is none =
-    unpermitted (request_of v) (c.rights v.source) s.sets (is_change (request_of v).action) refl
-    (sym (ap (λ (w : Verdict). is_new w && is_permitted c v.source (request_of v)) is) ∙ none)
+    closed c.rows (request_of v) (c.clock.rights v.source) s.sets (relayed c.rows (request_of v)) refl
+    (sym (ap (λ (w : Verdict). is_new w && is_for_device c.rows c.clock v.source (request_of v)) is) ∙ none)
 unasked_at c s v _ is none = refl
 
 none_of : {A : Type 0} (o : Option A) → not (is_some o) ≡ true → o ≡ None
 none_of None none = refl
 none_of (Some x) none = absurd (false≢true none)
 
-heard_stays : (c : Clock) (s : State) (port : ℕ) (datagram : List ℕ) (say : Say)
-    → asked c s datagram ≡ None
-    → (turn_said c s say port datagram).next.sets ≡ s.sets
+heard_stays : (c : DeviceClock) (s : State) (port : ℕ) (datagram : List ℕ) (say : Say)
+    → asked c.rows c.clock s datagram ≡ None
+    → (turn_said c.rows c.clock s say port datagram).next.sets ≡ s.sets
 heard_stays c s port datagram say none =
-    turn_said-each (λ t. t.next.sets ≡ s.sets) c s say port datagram
-    (turn-next (λ t. t.sets ≡ s.sets) c s port datagram refl
-    (λ v read. unasked_at c s v (judged c s v) refl (not_asked c s datagram v read none)))
+    turn_said-each (λ t. t.next.sets ≡ s.sets) c.rows c.clock s say port datagram
+    (turn-next (λ t. t.sets ≡ s.sets) c.clock s port datagram refl
+    (λ v read. unasked_at c s v (judged c.clock s v) refl (not_asked c.rows c.clock s datagram v read none)))
     (λ v reply read new said. refl) (λ v reply read other told. refl)
 
 -- ---- a SET of another id than DOMAIN
@@ -279,26 +291,26 @@ kept_domain s t busy same here = λ x v is read.
     let parts = here x v (sym busy ∙ is) read in
     (parts.0, subst (λ (n : ℕ). v.domain == n ≡ true) (sym same) parts.1)
 
-unread_unasked : (c : Clock) (s : State) (datagram : List ℕ)
+unread_unasked : (c : DeviceClock) (s : State) (datagram : List ℕ)
     → message_of datagram ≡ None
-    → is_some (asked c s datagram) ≡ false
+    → is_some (asked c.rows c.clock s datagram) ≡ false
 unfolding asked
-unread_unasked c s datagram unread = ap (λ (o : Option Message). is_some (asked_by c s o)) unread
+unread_unasked c s datagram unread = ap (λ (o : Option Message). is_some (asked_by c.rows c.clock s o)) unread
 
-unasked : (c : Clock) (s : State) (datagram : List ℕ) (v : Message)
+unasked : (c : DeviceClock) (s : State) (datagram : List ℕ) (v : Message)
     → message_of datagram ≡ Some v
-    → is_asked c s v ≡ false
-    → is_some (asked c s datagram) ≡ false
+    → is_asked c.rows c.clock s v ≡ false
+    → is_some (asked c.rows c.clock s datagram) ≡ false
 unfolding asked
 unasked c s datagram v read none =
-    ap (λ (o : Option Message). is_some (asked_by c s o)) read
+    ap (λ (o : Option Message). is_some (asked_by c.rows c.clock s o)) read
     ∙ ap (λ (b : Bool). is_some (if b then Some (numbered_from v) else None)) none
 
-asked_one : (c : Clock) (s : State) (datagram : List ℕ) (v : Message) (b : Bool)
+asked_one : (c : DeviceClock) (s : State) (datagram : List ℕ) (v : Message) (b : Bool)
     → message_of datagram ≡ Some v
-    → is_some (asked c s datagram) ≡ true
-    → is_asked c s v ≡ b
-    → is_asked c s v ≡ true
+    → is_some (asked c.rows c.clock s datagram) ≡ true
+    → is_asked c.rows c.clock s v ≡ b
+    → is_asked c.rows c.clock s v ≡ true
 asked_one c s datagram v true read some is = is
 asked_one c s datagram v false read some is = absurd (false≢true (sym (unasked c s datagram v read is) ∙ some))
 
@@ -306,38 +318,38 @@ second : (a b : Bool) → (a && b) ≡ true → b ≡ true
 second true b is = is
 second false b is = absurd (false≢true is)
 
-undertaken_at : (c : Clock) (s : ClockState) (port : ℕ) (datagram : List ℕ) (x : Datagram) (v : Message) (o : Option Message)
-    → is_some (asked c s.state datagram) ≡ true
+undertaken_at : (c : DeviceClock) (s : ClockState) (port : ℕ) (datagram : List ℕ) (x : Datagram) (v : Message) (o : Option Message)
+    → is_some (asked c.rows c.clock s.state datagram) ≡ true
     → message_of datagram ≡ o
     → ◌≡◌ {A = Option Datagram} (Some (port, message_octets datagram)) (Some x)
     → message_of x.1 ≡ Some v
     → (v.sdo == 0 ≡ true) × (v.domain == s.state.sets.default.domain ≡ true)
 undertaken_at c s port datagram x v None some unread busy read = absurd (false≢true (sym (unread_unasked c s.state datagram unread) ∙ some))
 undertaken_at c s port datagram x v (Some w) some its busy read =
-    let here = here_parts c s.state w (here-new c s.state w (judged-asked c s.state w (asked_one c s.state datagram w (is_asked c s.state w) its some refl))) in
+    let here = here_parts c.clock s.state w (here-new c.clock s.state w (judged-asked c.rows c.clock s.state w (asked_one c s.state datagram w (is_asked c.rows c.clock s.state w) its some refl))) in
     let whole : ◌≡◌ {A = Datagram} (port, message_octets datagram) x = cc in
     let spelled : Some w ≡ Some v = sym (message_alone w datagram its).0 ∙ (ap (λ (y : Datagram). message_of y.1) whole ∙ read) in
     let same : w ≡ v = cc in
     subst (λ (u : Message). (u.sdo == 0 ≡ true) × (u.domain == s.state.sets.default.domain ≡ true)) same (here.sdo, here.domain)
 
-undertaken_here : (c : Clock) (s : ClockState) (port : ℕ) (datagram : List ℕ)
+undertaken_here : (c : DeviceClock) (s : ClockState) (port : ℕ) (datagram : List ℕ)
     → undertakes c s datagram ≡ true
     → IsInItsDomain (after_coming c s (Undertakes port datagram))
 undertaken_here c s port datagram is =
     subst (λ (b : Bool). IsInItsDomain (if b then record s { under_way = Some (port, message_octets datagram) } else s)) (sym is)
     (λ x v busy read.
-    undertaken_at c s port datagram x v (message_of datagram) (second (not (is_some s.under_way)) (is_some (asked c s.state datagram)) is) refl busy read)
+    undertaken_at c s port datagram x v (message_of datagram) (second (not (is_some s.under_way)) (is_some (asked c.rows c.clock s.state datagram)) is) refl busy read)
 
-stays_here : (c : Clock) (s : ClockState) (x : Coming)
+stays_here : (c : DeviceClock) (s : ClockState) (x : Coming)
     → is_taken_meanwhile c s x ≡ true
     → IsInItsDomain s
     → IsInItsDomain (after_coming c s x)
 stays_here c s (Heard port datagram say) taken here =
     kept_domain s (after_coming c s (Heard port datagram say)) refl
-    (ap (λ (d : DataSetsValue). d.default.domain) (heard_stays c s.state port datagram say (none_of (asked c s.state datagram) taken))) here
+    (ap (λ (d : DataSetsValue). d.default.domain) (heard_stays c s.state port datagram say (none_of (asked c.rows c.clock s.state datagram) taken))) here
 stays_here c s (OfOwner port datagram) taken here =
     kept_domain s (after_coming c s (OfOwner port datagram)) refl
-    (owner_stays c s.state port datagram (not_true (moves_domain_in (message_of datagram)) taken)) here
+    (owner_stays c.clock s.state port datagram (not_true (moves_domain_in (message_of datagram)) taken)) here
 stays_here c s (Changed request) taken here =
     kept_domain s (after_coming c s (Changed request)) refl (other_domain request all_rights s.state.sets (not_true (moves_domain request) taken)) here
 stays_here c s (Undertakes port datagram) taken here = by_taking (undertakes c s datagram) refl

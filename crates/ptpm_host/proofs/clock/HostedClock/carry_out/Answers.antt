@@ -6,7 +6,7 @@ use Rattle.ptpm_agent.specs.Turn.{State}
 use Rattle.ptpm_device.specs.Saying as says
 use Rattle.ptpm_saved.specs.SavingClock.{is_new}
 use Rattle.ptpm_host.specs.Clock.{clock_in, state_in}
-use Rattle.ptpm_host.specs.Device.{said_value}
+use Rattle.ptpm_device.specs.Saying.{said_value}
 use Rattle.ptpm_host.specs.MostSent.{most_sent}
 use Rattle.ptpm_host.proofs.ComingLaws.{not_new, turn_of-ports, turn_of-unchanged}
 use Rattle.ptpm_host.proofs.MostSent.{sends_no_more, sends_no_more_here}
@@ -17,7 +17,7 @@ pub returns-then-of_owner-clause-most : goal.returns-then-of_owner-clause-most
 returns-then-of_owner-clause-most c =
     sent_most c.take_owner_turn.result.count (most_sent (state_in c.args.self.now)) c.take_owner_turn.new.room _ c.take_owner_turn.ensures.count
     c.take_owner_turn.ensures.turned.outbox_is
-    (sends_no_more_here (clock_in c.args.self.now) (state_in c.args.self.now) c.args.port c.args.datagram.now c.sent_law.ensures.sized c.requires.port)
+    (sends_no_more_here (clock_in c.args.self.now).clock (state_in c.args.self.now) c.args.port c.args.datagram.now c.sent_law.ensures.sized c.requires.port)
 
 pub returns-then-of_owner-clause-new_alone : goal.returns-then-of_owner-clause-new_alone
 returns-then-of_owner-clause-new_alone c = λ other.

@@ -18,7 +18,7 @@ handle_into-verdict-requires-clause-room c =
     let enough : most_sent (state_in c.args.self.now) ≤ length c.args.room.now = first_of (grind (arith, nat_tests), search rules) in
     omega (
       arith,
-      sends_no_more_alone (clock_in c.args.self.now) (state_in c.args.self.now) c.args.port c.args.datagram.now c.sent_law.ensures.sized port,
+      sends_no_more_alone (clock_in c.args.self.now).clock (state_in c.args.self.now) c.args.port c.args.datagram.now c.sent_law.ensures.sized port,
       enough,
       ap (λ places. length places) c.new-places.ensures.room,
     )

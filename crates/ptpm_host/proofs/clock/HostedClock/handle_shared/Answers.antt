@@ -13,7 +13,7 @@ reply_into-verdict-requires-clause-room c =
     let enough : most_replied (state_in c.args.self.now) ≤ length c.args.room.now = first_of (grind (arith, nat_tests), search rules) in
     omega (
       arith,
-      replies_no_more (clock_in c.args.self.now) (state_in c.args.self.now) c.args.port c.args.datagram.now c.sent_law.ensures.sized,
+      replies_no_more (clock_in c.args.self.now).clock (state_in c.args.self.now) c.args.port c.args.datagram.now c.sent_law.ensures.sized,
       enough,
       ap (λ places. length places) c.new-places.ensures.room,
     )

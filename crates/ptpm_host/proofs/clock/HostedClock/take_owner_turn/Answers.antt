@@ -275,16 +275,16 @@ owner_new c s next port datagram v w out read new verdict sent sets entries =
 
 pub take_turn-requires-clause-room : goal.take_turn-requires-clause-room
 take_turn-requires-clause-room c =
-    omega (arith, sends_no_more_alone (clock_in c.args.self.now) (state_in c.args.self.now) c.args.port c.args.datagram.now c.sent_law.ensures.sized c.requires.port, c.requires.room)
+    omega (arith, sends_no_more_alone (clock_in c.args.self.now).clock (state_in c.args.self.now) c.args.port c.args.datagram.now c.sent_law.ensures.sized c.requires.port, c.requires.room)
 
 pub take_turn-requires-2-clause-room : goal.take_turn-requires-2-clause-room
 take_turn-requires-2-clause-room c =
-    omega (arith, sends_no_more_alone (clock_in c.args.self.now) (state_in c.args.self.now) c.args.port c.args.datagram.now c.sent_law.ensures.sized c.requires.port, c.requires.room)
+    omega (arith, sends_no_more_alone (clock_in c.args.self.now).clock (state_in c.args.self.now) c.args.port c.args.datagram.now c.sent_law.ensures.sized c.requires.port, c.requires.room)
 
 pub returns-in_default-clause-turned : goal.returns-in_default-clause-turned
 returns-in_default-clause-turned c =
     subst (λ (t : Turned). IsTurned t c.take_turn.result.verdict (messages_in (take c.take_turn.result.count c.take_turn.new.room)) (state_in c.take_turn.new.self))
-    (sym (owner_unread (clock_in c.args.self.now) (state_in c.args.self.now) c.args.port c.args.datagram.now _
+    (sym (owner_unread (clock_in c.args.self.now).clock (state_in c.args.self.now) c.args.port c.args.datagram.now _
     (sym c.view.ensures.exact ∙ c.in_default.is))) c.take_turn.ensures.turned
 
 pub carry_out_owned-requires-clause-room : goal.carry_out_owned-requires-clause-room
@@ -296,7 +296,7 @@ returns-then-eq-clause-turned c =
     let read : message_of c.args.datagram.now ≡ Some c.in-Ok.message =
     message_of-reading c.args.datagram.now c.in-Ok.message (sym c.view.ensures.exact ∙ c.in-Ok.is) in
     let new : c.judge_owned-verdict.result ≡ verdicts.AnsweredNew = first_of (search rules, grind (arith, common_steps)) in
-    owner_new (clock_in c.args.self.now) (state_in c.args.self.now) (state_in c.carry_out_owned.new.self) c.args.port c.args.datagram.now c.in-Ok.message
+    owner_new (clock_in c.args.self.now).clock (state_in c.args.self.now) (state_in c.carry_out_owned.new.self) c.args.port c.args.datagram.now c.in-Ok.message
     c.carry_out_owned.result.verdict (messages_in (take c.carry_out_owned.result.count c.carry_out_owned.new.room)) read
     (sym new ∙ c.judge_owned-verdict.ensures) c.carry_out_owned.ensures.verdict c.carry_out_owned.ensures.sent c.carry_out_owned.ensures.sets
     (ap entries_of_block c.carry_out_owned.ensures.table)
@@ -305,9 +305,9 @@ pub returns-then-eq-2-clause-turned : goal.returns-then-eq-2-clause-turned
 returns-then-eq-2-clause-turned c =
     let read : message_of c.args.datagram.now ≡ Some c.in-Ok.message =
     message_of-reading c.args.datagram.now c.in-Ok.message (sym c.view.ensures.exact ∙ c.in-Ok.is) in
-    let here : same_clock c.in-Ok.message.target.clock (clock_in c.args.self.now).identity ≡ true = first_of (search rules, grind (arith, common_steps)) in
+    let here : same_clock c.in-Ok.message.target.clock (clock_in c.args.self.now).clock.identity ≡ true = first_of (search rules, grind (arith, common_steps)) in
     let other : c.judge_owned-verdict.result ≡ verdicts.AnsweredNew → ⊥ = first_of (search rules, grind (arith, common_steps)) in
-    owner_silent (clock_in c.args.self.now) (state_in c.args.self.now) c.args.port c.args.datagram.now c.in-Ok.message c.judge_owned-verdict.result read here
+    owner_silent (clock_in c.args.self.now).clock (state_in c.args.self.now) c.args.port c.args.datagram.now c.in-Ok.message c.judge_owned-verdict.result read here
     c.judge_owned-verdict.ensures other
 
 pub returns-then-eq-2-clause-behind : goal.returns-then-eq-2-clause-behind
@@ -320,6 +320,6 @@ pub returns-clause-turned : goal.returns-clause-turned
 returns-clause-turned c =
     let read : message_of c.args.datagram.now ≡ Some c.in-Ok.message =
     message_of-reading c.args.datagram.now c.in-Ok.message (sym c.view.ensures.exact ∙ c.in-Ok.is) in
-    let elsewhere : same_clock c.in-Ok.message.target.clock (clock_in c.args.self.now).identity ≡ false = first_of (search rules, grind (arith, common_steps)) in
-    owner_elsewhere (clock_in c.args.self.now) (state_in c.args.self.now) (state_in c.take_turn-2.new.self) c.args.port c.args.datagram.now c.in-Ok.message
+    let elsewhere : same_clock c.in-Ok.message.target.clock (clock_in c.args.self.now).clock.identity ≡ false = first_of (search rules, grind (arith, common_steps)) in
+    owner_elsewhere (clock_in c.args.self.now).clock (state_in c.args.self.now) (state_in c.take_turn-2.new.self) c.args.port c.args.datagram.now c.in-Ok.message
     c.take_turn-2.result.verdict (messages_in (take c.take_turn-2.result.count c.take_turn-2.new.room)) read elsewhere c.take_turn-2.ensures.turned

@@ -1,5 +1,5 @@
 -- Places that are enough for a turn with what the device says are enough for the turn that is taken for it.
-use Rattle.std.proofs.Common.{arith, ◌≡◌, ◌≤◌, ◌<◌, ℕ, true, false, List, ap, length, refl, ◌∙◌, subst, sym}
+use Rattle.std.proofs.Common.{arith, ◌≡◌, ◌≤◌, ◌<◌, ℕ, true, false, List, [], ap, length, refl, ◌∙◌, subst, sym}
 use Rattle.std.specs.Prelude.{IfSome, is_some}
 use Rattle.ptpm_agent.specs.Agent.{IsTurned}
 use Rattle.ptpm_agent.specs.Turn.{Clock, State, Turned, outbox_of, turn}
@@ -24,7 +24,7 @@ given_fits : (c : Clock) (s : State) (octets : List ℕ) (ingress : ℕ) (datagr
     → wanted_once c s datagram ≡ false
     → after ≡ c
     → kept ≡ given_by s (wanted_new c s datagram) octets
-    → length (outbox_of (turn_said c s (Gives octets) ingress datagram)) ≤ room
+    → length (outbox_of (turn_said [] c s (Gives octets) ingress datagram)) ≤ room
     → length (outbox_of (turn after kept ingress datagram)) ≤ room
 given_fits c s octets ingress datagram after kept room small once clock is few =
     let t = turn after kept ingress datagram in
@@ -37,24 +37,24 @@ given_fits c s octets ingress datagram after kept room small once clock is few =
 
 pub returns-then-is_kept-clause-turned : goal.returns-then-is_kept-clause-turned
 returns-then-is_kept-clause-turned c =
-    turned_kept (clock_in c.args.self.now) (state_in c.args.self.now) c.args.octets.now c.args.port c.args.datagram.now _ _ _ _ _
+    turned_kept (clock_in c.args.self.now).clock (state_in c.args.self.now) c.args.octets.now c.args.port c.args.datagram.now _ _ _ _ _
     (sym c.keep_value-is_kept.ensures.wanted ∙ c.if-is_kept.true) c.keep_value-is_kept.ensures.number
     c.keep_value-is_kept.ensures.clock c.keep_value-is_kept.ensures.kept c.take_turn-handled.ensures.turned
 
 pub returns-clause-turned : goal.returns-clause-turned
 returns-clause-turned c =
-    let once : wanted_once (clock_in c.args.self.now) (state_in c.args.self.now) c.args.datagram.now ≡ false = grind arith in
-    turned_ungiven (clock_in c.args.self.now) (state_in c.args.self.now) c.args.octets.now c.args.port c.args.datagram.now _ _ _ _ _
+    let once : wanted_once (clock_in c.args.self.now).clock (state_in c.args.self.now) c.args.datagram.now ≡ false = grind arith in
+    turned_ungiven (clock_in c.args.self.now).clock (state_in c.args.self.now) c.args.octets.now c.args.port c.args.datagram.now _ _ _ _ _
     (sym c.keep_value-is_kept.ensures.wanted ∙ c.if-is_kept.false) once
     c.keep_value-is_kept.ensures.clock c.keep_value-is_kept.ensures.kept c.take_turn-handled.ensures.turned
 
 pub take_turn-handled-requires-clause-room : goal.take_turn-handled-requires-clause-room
 take_turn-handled-requires-clause-room c =
-    let once : wanted_once (clock_in c.args.self.now) (state_in c.args.self.now) c.args.datagram.now ≡ false = grind arith in
+    let once : wanted_once (clock_in c.args.self.now).clock (state_in c.args.self.now) c.args.datagram.now ≡ false = grind arith in
     let same : c.answer_value.new.room ≡ c.args.room.now = grind arith in
-    subst (λ places. length (outbox_of (turn (clock_in (record c.args.self.now { agent = c.keep_value-is_kept.new.agent })) (state_in (record c.args.self.now { agent = c.keep_value-is_kept.new.agent })) c.args.port c.args.datagram.now)) ≤ length places)
+    subst (λ places. length (outbox_of (turn (clock_in (record c.args.self.now { agent = c.keep_value-is_kept.new.agent })).clock (state_in (record c.args.self.now { agent = c.keep_value-is_kept.new.agent })) c.args.port c.args.datagram.now)) ≤ length places)
     (sym same)
-    (given_fits (clock_in c.args.self.now) (state_in c.args.self.now) c.args.octets.now c.args.port c.args.datagram.now _ _ (length c.args.room.now)
+    (given_fits (clock_in c.args.self.now).clock (state_in c.args.self.now) c.args.octets.now c.args.port c.args.datagram.now _ _ (length c.args.room.now)
     c.keep_value-is_kept.ensures.number once c.keep_value-is_kept.ensures.clock c.keep_value-is_kept.ensures.kept c.requires.room)
 
 pub returns-in-Some-clause-members : goal.returns-in-Some-clause-members

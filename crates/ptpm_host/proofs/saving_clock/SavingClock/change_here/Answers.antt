@@ -1,12 +1,12 @@
 -- A change that the owner makes at the device itself, at a clock that is saved while it goes on.
 use Rattle.std.proofs.Common.{◌≡◌, ◌∙◌, ◌||◌, Bool, true, false, ap, append-nil, length, refl, sym, subst, [], ℕ, if◌then◌else◌, rules}
-use Rattle.ptpm_agent.specs.Turn.{Clock, State}
+use Rattle.ptpm_agent.specs.Turn.{State}
 use Rattle.ptpm_data.specs.Request.{RequestValue}
 use Rattle.ptpm_device.specs.Changing.{changed_state}
 use Rattle.ptpm_saved.specs.Batching.{Handles, waits}
 use Rattle.ptpm_host.specs.declared.clock.HostedClock.{HostedClock}
 use Rattle.ptpm_host.specs.declared.saving_clock.SavingClock.{SavingClock}
-use Rattle.ptpm_host.specs.Clock.{clock_in, state_in}
+use Rattle.ptpm_host.specs.Clock.{DeviceClock, clock_in, state_in}
 use Rattle.ptpm_host.specs.Coming.{Changed, ClockBatch, coming_process, is_held_by}
 use Rattle.ptpm_host.specs.KeptBatch.{IsKept, kept_held}
 use Rattle.ptpm_host.specs.SavingClock.{IsAsBatch, asked_later, asked_next, called_at, clock_state_in, kept_of, request_under_way, shown_sets}
@@ -49,7 +49,7 @@ changed_call old here turned q b count own state clock under_way as_batch =
       waits = true;
       is_changed = sym (or_true old.is_changed) i;
     } in
-    subst (λ (d : Clock). IsKept (coming_process d) shown_sets (record (kept_of old) { live = clock_state_in turned; waits = true; is_changed = true })
+    subst (λ (d : DeviceClock). IsKept (coming_process d) shown_sets (record (kept_of old) { live = clock_state_in turned; waits = true; is_changed = true })
     (called_at old b (Handles (Changed q))) count) (sym (clock ∙ ap clock_in own))
     (subst (λ k. IsKept (coming_process c) shown_sets k (called_at old b (Handles (Changed q))) count) same
     (waiting_silent (coming_process c) shown_sets (is_held_by c) (kept_of old) b count (Changed q) as_batch (always (waits b.since)) refl))

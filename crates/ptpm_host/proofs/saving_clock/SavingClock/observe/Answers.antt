@@ -1,7 +1,6 @@
 -- What is observed at a clock that is saved while it goes on.
 use Rattle.std.proofs.Common.{◌≡◌, ◌∙◌, ◌&&◌, Bool, ap, length, refl, sym, subst, List, ℕ, rules}
 use Rattle.ptpm_agent.specs.Observing.{moved_state}
-use Rattle.ptpm_agent.specs.Turn.{Clock}
 use Rattle.ptpm_data.specs.declared.observation.ClockObservation.{ClockObservation}
 use Rattle.ptpm_data.specs.declared.observation.PortObservation.{PortObservation}
 use Rattle.ptpm_data.specs.Members.{DataSetsValue}
@@ -10,7 +9,7 @@ use Rattle.ptpm_data.specs.ObservationBack.{Observation}
 use Rattle.ptpm_saved.specs.Batching.{Observes}
 use Rattle.ptpm_host.specs.declared.clock.HostedClock.{HostedClock}
 use Rattle.ptpm_host.specs.declared.saving_clock.SavingClock.{SavingClock}
-use Rattle.ptpm_host.specs.Clock.{clock_in, state_in}
+use Rattle.ptpm_host.specs.Clock.{DeviceClock, clock_in, state_in}
 use Rattle.ptpm_host.specs.Coming.{ClockBatch, coming_process, is_held_by}
 use Rattle.ptpm_host.specs.KeptBatch.{IsKept, kept_observed}
 use Rattle.ptpm_host.specs.SavingClock.{IsAsBatch, asked_later, asked_next, called_at, clock_state_in, kept_of, request_under_way, shown_sets}
@@ -46,7 +45,7 @@ observed_call old moved shown copied imaged o ports b count live clock under_way
       copied = sym copied_is i;
       is_imaged = sym imaged_is i;
     } in
-    subst (λ (d : Clock). IsKept (coming_process d) shown_sets
+    subst (λ (d : DeviceClock). IsKept (coming_process d) shown_sets
     (record (kept_of old) { live = clock_state_in moved; shown = shown; copied = copied; is_imaged = imaged }) (called_at old b (Observes n)) count) (sym clock)
     (subst (λ k. IsKept (coming_process c) shown_sets k (called_at old b (Observes n)) count) same
     (observed_kept (coming_process c) shown_sets (is_held_by c) (observed o ports) n (λ s. refl) (kept_of old) b count as_batch))

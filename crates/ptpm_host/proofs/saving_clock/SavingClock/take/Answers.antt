@@ -8,7 +8,8 @@ use Rattle.ptpm_saved.specs.Batching.{Handles}
 use Rattle.ptpm_host.specs.declared.saving_clock.SavingClock.{SavingClock}
 use Rattle.ptpm_host.specs.Clock.{KeepsBehind, clock_in, messages_in, state_in}
 use Rattle.ptpm_host.specs.Coming.{Coming, datagram_in, turn_of}
-use Rattle.ptpm_host.specs.Device.{said_value, say_in}
+use Rattle.ptpm_device.specs.Saying.{said_value}
+use Rattle.ptpm_host.specs.Device.{say_in}
 use Rattle.ptpm_host.specs.OutboxLaws.{kept_by_none}
 use Rattle.ptpm_host.specs.SavingClock.{LeadsTo, called_at, is_for_live, shown_state, state_asked}
 use Rattle.ptpm_host.proofs.saving_clock.SavingClock.take.Goals as goal

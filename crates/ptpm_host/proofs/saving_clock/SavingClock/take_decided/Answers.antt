@@ -5,7 +5,7 @@ use Rattle.ptpm_device.specs.Saying.{turn_said}
 use Rattle.ptpm_saved.specs.SavingClock.{Datagram}
 use Rattle.ptpm_host.specs.declared.clock.HostedClock.{HostedClock}
 use Rattle.ptpm_host.specs.Clock.{clock_in, messages_in, state_in}
-use Rattle.ptpm_host.specs.Device.{said_value}
+use Rattle.ptpm_device.specs.Saying.{said_value}
 use Rattle.ptpm_host.specs.SavingClock.{kept_of, request_under_way}
 use Rattle.ptpm_host.proofs.UndertakenCalls.{decided_call}
 use Rattle.ptpm_host.proofs.saving_clock.SavingClock.take_decided.Goals as goal
@@ -19,10 +19,10 @@ returns-clause-called c = λ b count as_batch.
     let out = messages_in (take c.carry_out-handled.result.count c.carry_out-handled.new.room) in
     let verdict = c.carry_out-handled.result.verdict in
     let next = state_in c.carry_out-handled.new.self in
-    let turn : IsTurned (turn_said (clock_in c.args.self.now.clock.value) (state_in c.args.self.now.clock.value) say x.0 x.1) verdict out next =
-    subst (λ (m : List ℕ). IsTurned (turn_said (clock_in c.args.self.now.clock.value) (state_in c.args.self.now.clock.value) say x.0 m) verdict out next)
+    let turn : IsTurned (turn_said (clock_in c.args.self.now.clock.value).rows (clock_in c.args.self.now.clock.value).clock (state_in c.args.self.now.clock.value) say x.0 x.1) verdict out next =
+    subst (λ (m : List ℕ). IsTurned (turn_said (clock_in c.args.self.now.clock.value).rows (clock_in c.args.self.now.clock.value).clock (state_in c.args.self.now.clock.value) say x.0 m) verdict out next)
     c.message.ensures.message
-    (subst (λ (h : HostedClock). IsTurned (turn_said (clock_in h) (state_in h) say x.0 c.message.result.now) verdict out next) own
+    (subst (λ (h : HostedClock). IsTurned (turn_said (clock_in h).rows (clock_in h).clock (state_in h) say x.0 c.message.result.now) verdict out next) own
     c.carry_out-handled.ensures.turned) in
     decided_call c.args.self.now _ x say out next b count (ap request_under_way c.requires.under_way)
     (λ i. record { sets = turn.sets_are i; entries = turn.entries_are i }) turn.outbox_is

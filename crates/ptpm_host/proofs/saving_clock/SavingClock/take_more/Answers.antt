@@ -2,7 +2,7 @@ use Rattle.std.proofs.Common.{◌≡◌, ◌∙◌, ap, refl, rules, take}
 use Rattle.ptpm_data.specs.Changed.{changed}
 use Rattle.ptpm_host.specs.declared.clock.HostedClock.{HostedClock}
 use Rattle.ptpm_host.specs.Clock.{clock_in, messages_in}
-use Rattle.ptpm_host.specs.Device.{said_value}
+use Rattle.ptpm_device.specs.Saying.{said_value}
 use Rattle.ptpm_host.specs.Queue.{queued}
 use Rattle.ptpm_host.specs.SavingClock.{request_under_way}
 use Rattle.ptpm_host.proofs.AskedCalls.{asks_called, led_to}

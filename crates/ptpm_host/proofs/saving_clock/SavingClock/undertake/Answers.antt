@@ -18,7 +18,7 @@ nothing (Some r) none = absurd (false≢true (sym none))
 
 pub returns-then-not-asks_change-clause-called : goal.returns-then-not-asks_change-clause-called
 returns-then-not-asks_change-clause-called c = λ b count as_batch.
-    let own : is_some (asked (clock_in c.args.self.now.clock.value) (state_in c.args.self.now.clock.value) c.args.datagram.now) ≡ false =
+    let own : is_some (asked (clock_in c.args.self.now.clock.value).rows (clock_in c.args.self.now.clock.value).clock (state_in c.args.self.now.clock.value) c.args.datagram.now) ≡ false =
     first_of (search rules, cc, grind (arith, common_steps)) in
     let ready : c.args.self.now.ready ≡ 0 = first_of (search rules, grind (arith, common_steps)) in
     subst (λ (k : SavingClock). IsAsBatch k (called_at c.args.self.now b (Handles (Undertakes c.args.port c.args.datagram.now))) count)
