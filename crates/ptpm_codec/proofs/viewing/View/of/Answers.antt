@@ -7,12 +7,12 @@ use Rattle.ptpm_codec.proofs.viewing.View.of.Goals as goal
 
 pub u16_at-requires : goal.u16_at-requires
 u16_at-requires c =
-    let size = message_size c.args.datagram.now c.requires.well_formed in omega (arith, size.0, size.1.0)
+    let size = message_size c.args.datagram.now c.requires.well_formed in omega (arith, size.0, size.1)
 
 pub slice_bounds-result-end : goal.slice_bounds-result-end
 slice_bounds-result-end c =
     let size = message_size c.args.datagram.now c.requires.well_formed in
-    sym (length-take-le c.u16_at.result c.args.datagram.now (omega (arith, c.u16_at.ensures, size.1.0)))
+    sym (length-take-le c.u16_at.result c.args.datagram.now (omega (arith, c.u16_at.ensures, size.1)))
 
 pub invariant_of-result : goal.invariant_of-result
 invariant_of-result c =
