@@ -67,10 +67,10 @@ enum {
 #define PTPM_TO_EIGHT uint32_t rest; PTPM_AT_EIGHT
 #endif
 
-/* The most ports that a clock has, and the most managers. */
+/* The most ports and managers that a clock has, and the most ids of its device (ptpm_clock_relay). */
 enum { PTPM_MOST_PORTS = 64, PTPM_MOST_MANAGERS = 64, PTPM_MOST_IDS = 32 };
 
-/* A clock, at one pointer: with up to eight ports 2,760 octets with one manager, and 34,920 with sixteen (ptpm_clock_start). All
+/* A clock, at one pointer: with up to eight ports 2,784 octets with one manager, and 34,944 with sixteen (ptpm_clock_start). All
    zeros hold no clock: struct ptpm_clock clock = { 0 }; */
 struct ptpm_clock { void *at; PTPM_TO_EIGHT bool live; bool restored; };
 
@@ -196,8 +196,8 @@ struct ptpm_observed_clock {
     uint8_t has_time_source;
 };
 
-/* What a host observes of a port. Only a manager's command enters or leaves state 3, DISABLED. An enabled port is not observed in
-   that state, and a disabled port stays in it. A number that is not a portState counts as 3. */
+/* What a host observes of a port. Only a manager's command enters or leaves state 3, DISABLED. To observe it at an enabled port
+   is refused. A disabled port stays disabled, whatever is observed. A number that is not a portState counts as 3. */
 struct ptpm_observed_port {
     PTPM_AT_EIGHT int64_t peer_delay;   /* in nanoseconds times 2^16 */
     uint8_t state;                      /* portState, PTPM_STATE_INITIALIZING to PTPM_STATE_SLAVE */
@@ -231,7 +231,7 @@ struct ptpm_answer {
     uint8_t octets[184];
 };
 
-/* What is sent for a datagram that is its own copy (ptpm_clock_handle_shared). */
+/* What is sent for a datagram if the datagram itself is forwarded, and not a copy of it (ptpm_clock_handle_shared). */
 struct ptpm_shared {
     PTPM_AT_EIGHT uint64_t ports;       /* the ports at which it is forwarded: 1 for port 1, 2 for port 2, and so on, summed up */
     uint64_t size;                      /* how many of its octets are forwarded; 0 if none */
@@ -436,7 +436,7 @@ enum {
 /* The flags of a journal: the change goes on at other clocks if one fails; and each step comes after all those before it. */
 enum { PTPM_KEEPS_GOING = 1, PTPM_IN_ONE_ROW = 2 };
 
-/* What the answer to a step says; how a change ends; and the step of an ending without a step. */
+/* What the answer to a step says. How a change ends. The number of a step if there is none. */
 enum { PTPM_STEP_DONE = 1, PTPM_STEP_REFUSED = 2, PTPM_STEP_ANSWERED = 3 };
 enum {
     PTPM_END_COMPLETE = 1, PTPM_END_REFUSED = 2, PTPM_END_ANSWERED = 3, PTPM_END_CHANGED = 4, PTPM_END_GIVEN_UP = 5,
@@ -1093,25 +1093,26 @@ enum ptpm_handled ptpm_clock_handle(struct ptpm_clock *clock, uint16_t port, con
 
 /* Does what ptpm_clock_handle does, in less room. What is forwarded is the datagram itself, with boundaryHops decremented. So only answers
    have places, of 188 octets each. It is for a clock of many ports, or a host of little memory.
-   Takes:   the port, counted from 1; size octets; and room places: as many as the clock has ports. More are needed only after a restore
-            from an image of another hand, in which a kept reply has more answers.
+   Takes:   the port, counted from 1; size octets; and room places: as many as the clock has ports. More are needed only after a
+            restore from an image that another program made, in which a kept reply has more answers.
    Returns: what ptpm_clock_handle returns.
-   Writes:  *shared, and the first shared->count places of answers. If shared->size is not 0, octet 45 of the datagram is less by one.
+   Writes:  *shared, and the first shared->count places of answers. If shared->size is not 0, octet 45 of the datagram,
+            boundaryHops, is decremented.
    Caller:  sends the first shared->size octets of the datagram at each of shared->ports, and then the answers in their order, each at its
             port. After PTPM_ANSWERED_NEW it does what it does after ptpm_clock_handle. */
 enum ptpm_handled ptpm_clock_handle_shared(struct ptpm_clock *clock, uint16_t port, uint8_t *datagram, size_t size,
                                            struct ptpm_answer *answers, size_t room, struct ptpm_shared *shared);
 
 /* Gives a clock the ids that its device has and the clock lacks, instead of those that it has. A SET or COMMAND of such an id then
-   reaches the device, as one of the 21 ids does (ptpm_clock_ask). First it is judged by these rules, in their order. If it breaks one,
-   that error is the answer, and is kept:
+   reaches the device, as one of the 21 ids does (ptpm_clock_ask). First the request is judged by these rules, in their order. If it
+   breaks one, the rule's error is the answer, and is kept:
    - NOT_SETABLE of a SET, and NOT_SUPPORTED of a COMMAND, that is not among the actions;
    - NOT_SUPPORTED without the right;
    - WRONG_LENGTH outside least..most;
    - RESPONSE_TOO_BIG for every port of an id of a port.
-   If the device agrees, a COMMAND is acknowledged, and a SET is answered with its octets. If it gives octets, a SET is answered with
-   these. The data sets stay. The answer comes from the port at which the request came in.
-   A GET needs no such id. ptpm_clock_handle, and a request of the owner or of a stranger, do not read them.
+   If the device agrees, a COMMAND is acknowledged, and a SET is answered with its own octets. If the device gives octets, a SET is
+   answered with these. The data sets stay. The answer comes from the port at which the request came in. A GET reaches the device
+   without this call. ptpm_clock_handle does not read these ids. Nor do they count for requests of the owner and of strangers.
    Takes:   id_count ids, PTPM_MOST_IDS at most. 0 takes them away.
    Returns: PTPM_RELAYING; or why not, and then nothing changes. PTPM_NO_CLOCK also for a clock that saves (ptpm_clock_saving).
    Memory:  10 octets for each id, until the clock is stopped.
@@ -1142,8 +1143,8 @@ enum ptpm_asking ptpm_clock_ask(const struct ptpm_clock *clock, uint16_t port, c
    Returns: what became of the datagram; or why it was not judged, the first of these: PTPM_NO_CLOCK, PTPM_NO_PORT, PTPM_NO_ROOM,
             PTPM_BAD_SAY, PTPM_UNDER_WAY (ptpm_clock_undertake) and PTPM_UNSAVED. A datagram that is not judged counts as lost.
    Writes:  all of *taken: zeros if the datagram was not judged. And the first taken->count places of sent, as ptpm_clock_handle
-            does. If messages wait, taken->count is 0, and as many places of sent have zeros. No member changed unless the
-            answer is PTPM_ANSWERED_NEW, nor after a GET or a request that was refused.
+            does. If messages wait, taken->count is 0, and the first taken->waiting places of sent have zeros. No member changed
+            unless the answer is PTPM_ANSWERED_NEW, nor after a GET or a request that was refused.
    Caller:  sends these messages in their order, each at its port, and then acts on each change. A clock that does not save is
             first saved, as after ptpm_clock_handle. If taken->waiting is not 0, the caller acts on the change once these messages
             are given out. If the caller has written to its hardware and the answer is not PTPM_ANSWERED_NEW, it undoes the write:
@@ -1155,11 +1156,11 @@ enum ptpm_handled ptpm_clock_take(struct ptpm_clock *clock, uint16_t port, const
 /* Keeps a change as under way, so that the device is asked for it once, whatever happens to the power. It is for a clock that
    saves (ptpm_clock_saving). If ptpm_clock_ask would return PTPM_ASKED_CHANGE for the clock in its present state, the change is
    under way, and in each image from now on. Then the clock is unsaved. The host saves it, ptpm_clock_saved returns PTPM_ACT_NOW
-   once, and the host asks its device. ptpm_clock_decide then says what the device did. After a restart the host only looks whether
-   its device has the change. While the change is under way, ptpm_clock_take returns PTPM_UNDER_WAY for each request of the same
-   manager that is addressed to exactly this clock. It returns PTPM_UNDER_WAY too for any datagram for which ptpm_clock_ask would
-   return PTPM_ASKED_CHANGE. Of the owner's requests only a SET of DOMAIN is answered so, by ptpm_clock_set too: in another domain
-   the change would get no answer.
+   once, and the host asks its device. ptpm_clock_decide then says what the device did. After a restart the host only looks
+   whether its device has the change. While the change is under way, ptpm_clock_take returns PTPM_UNDER_WAY for each request of
+   the same manager that is addressed to exactly this clock. It returns PTPM_UNDER_WAY too for any datagram for which
+   ptpm_clock_ask would return PTPM_ASKED_CHANGE. Of the owner's requests only a SET of DOMAIN gets that answer, from
+   ptpm_clock_set too: in another domain the change would get no answer.
    Takes:   what ptpm_clock_ask takes.
    Returns: PTPM_ASKED_CHANGE. PTPM_ASKED_VALUE and PTPM_ASKED_NOTHING as ptpm_clock_ask does, and nothing is kept. Or why not, the
             first of these: PTPM_NO_CLOCK, also for a clock that does not save, PTPM_NO_PORT, PTPM_UNSAVED and PTPM_UNDER_WAY. It
@@ -1178,9 +1179,9 @@ enum ptpm_asking ptpm_clock_under_way(const struct ptpm_clock *clock, struct ptp
 /* Does what ptpm_clock_take does with the datagram that is under way, at its port. Then nothing is under way, and the clock is unsaved:
    its messages wait for a save.
    Takes:   what the device says; and room places, as ptpm_clock_take.
-   Returns: what ptpm_clock_take returns, but never PTPM_HANDLE_OTHER_DOMAIN: the clock stays in the domain of what is under way. Or
-            why not, and then the change stays under way. The first of these: PTPM_NO_CLOCK, also for
-            a clock that does not save, PTPM_NOTHING_UNDER_WAY, PTPM_NO_ROOM, PTPM_BAD_SAY, and PTPM_UNSAVED as at ptpm_clock_take.
+   Returns: what ptpm_clock_take returns, but never PTPM_HANDLE_OTHER_DOMAIN: the clock stays in the domain of what is under way.
+            Or why not, the first of these: PTPM_NO_CLOCK, also for a clock that does not save, PTPM_NOTHING_UNDER_WAY,
+            PTPM_NO_ROOM, PTPM_BAD_SAY, and PTPM_UNSAVED as at ptpm_clock_take. The change then stays under way.
    Writes:  what ptpm_clock_take writes.
    Caller:  after PTPM_UNSAVED takes the messages that were released or saves the clock, and calls again. If the device has the
             change and the answer is not PTPM_ANSWERED_NEW, the caller undoes the change: the clock was restored without that
@@ -1254,8 +1255,8 @@ size_t ptpm_clock_transit(const struct ptpm_clock *clock, uint16_t port, const u
 /* Has a clock show no change before it is saved. Without this call, a host has to see to that itself, for each message that it
    sends. A clock that saves takes datagrams by ptpm_clock_take, also during a save. What a manager or the owner asks of this clock,
    and not of every clock, is carried out at once. If the request changed the clock, or something was unsaved before, the messages
-   that it makes wait in the clock. That includes a repeat, and all else the same manager sends. Anyone else is answered at once, by
-   what was saved last and observed since.
+   that it makes wait in the clock. So do those for a repeat, and for all else that the same manager sends. Anyone else is answered
+   at once, by what was saved last and observed since.
    A save is: ptpm_clock_image_of, the image stored, and ptpm_clock_saved. Then ptpm_clock_next gives the messages that waited when
    the image was made. What came later goes on waiting for the next image, unless it changed nothing. After a failed save, nothing
    has to be undone: the next image has all of it.
@@ -1283,8 +1284,8 @@ enum ptpm_saved ptpm_clock_image_of(struct ptpm_clock *clock, uint8_t *octets, s
 
 /* Takes the caller's word that a restart would find the image of this token. Strangers are shown what the image has, and
    ptpm_clock_next gives the messages that waited when the image was made.
-   Takes:   the token of the latest ptpm_clock_image_of, which counts once. An observation after the image also ends the token, if
-            no change waited when the image was made.
+   Takes:   the token of the latest ptpm_clock_image_of. It counts once. It does not count after an observation that came after
+            the image, if no change waited when the image was made.
    Returns: PTPM_SAVED. PTPM_ACT_NOW if the image has a change that is still under way, once for each change and never for one that a
             restore found. Or PTPM_NO_CLOCK, also for a clock that does not save, or PTPM_OTHER_IMAGE for any other token, and then
             nothing changes.
@@ -1584,8 +1585,8 @@ enum ptpm_asked ptpm_asker_hear(struct ptpm_asker *asker, const uint8_t *datagra
    Memory:  a copy of the dataField of a question, until it is answered. */
 enum ptpm_asked ptpm_asker_wake(struct ptpm_asker *asker, uint64_t now, struct ptpm_handed *handed);
 
-/* Says that the message of the latest PTPM_SEND_IT could not be sent. If no message of the request left before, a request of
-   this run is taken back. Its number is that of the next one, and PTPM_FAILED follows its save.
+/* Says that the message of the latest PTPM_SEND_IT could not be sent. If no message of a request of this run has left, the
+   request is withdrawn. The next request then gets that number, and PTPM_FAILED comes after the save.
    Returns: PTPM_ASKED.
    Writes:  all of *handed. */
 enum ptpm_asked ptpm_asker_unsent(struct ptpm_asker *asker, struct ptpm_handed *handed);
