@@ -500,7 +500,7 @@ enum {
     PTPM_DO_CHECK = 5,                  /* say whether the change goes on: this step is the first one at another clock */
     PTPM_DO_ASK = 6,                    /* ask the step */
     PTPM_DO_NOTE = 7,                   /* append the record to the journal's file, and synchronize it */
-    PTPM_DO_GO_ON = 8,                  /* the note is made: ptpm_asker_noted, and what comes then */
+    PTPM_DO_GO_ON = 8,                  /* the note is made: call ptpm_asker_noted, and do what it hands out */
     PTPM_DO_LEAVE = 9,                  /* no step of the lane is to come */
     PTPM_DO_END = 10                    /* it is over */
 };
@@ -666,9 +666,9 @@ enum { PTPM_MOST_ANSWERS = 16384, PTPM_SURVEY_PORT = 65534 };
 /* The starts. A session is refused with PTPM_MANAGER_IS_EVERY, PTPM_TARGET_IS_EVERY, PTPM_SAME_CLOCK, PTPM_NO_PORTS,
    PTPM_TOO_MANY_PORTS, PTPM_TARGET_IS_ZERO or PTPM_NO_MEMORY, in this order. A survey of every clock is refused with the first or
    the last of these. A survey of one clock is refused with any of them except the two about ports. An asker is refused as a
-   session is, and with PTPM_MANAGER_TWICE before PTPM_NO_MEMORY if `nobody` is the manager's port. A clock is refused with any of
-   the others, PTPM_IDENTITY_IS_ZERO last, and with PTPM_NO_PORTS, PTPM_TOO_MANY_PORTS and PTPM_NO_MEMORY. PTPM_OTHER_SIZES comes
-   before all of them, and only for ptpm_clock_start_sized and the like. */
+   session is, and with PTPM_MANAGER_TWICE before PTPM_NO_MEMORY if `nobody` is the manager's port. A clock is refused with
+   PTPM_NO_PORTS, PTPM_TOO_MANY_PORTS, PTPM_NO_MEMORY or one of the other names below, of which PTPM_IDENTITY_IS_ZERO comes last.
+   PTPM_OTHER_SIZES comes before all of them, and only for ptpm_clock_start_sized and the like. */
 __extension__ enum PTPM_FOUR_OCTETS(ptpm_started) {
     PTPM_STARTED = 0,
     PTPM_START_NO_MEMORY = PTPM_NO_MEMORY,
@@ -1662,8 +1662,8 @@ enum ptpm_journaled ptpm_journal_add(struct ptpm_journal *journal, const struct 
 /* Takes the next record of a journal's file. A host begins with all octets of the file, and after each call goes on *size
    octets later, until PTPM_JOURNAL_WHOLE. It cuts off what is left then. The journal goes on from there with
    ptpm_journal_add.
-   Returns: PTPM_JOURNALED; PTPM_JOURNAL_WHOLE; or why not. PTPM_JOURNAL_DAMAGED is also the end of a file that lacks its head or
-            a step. PTPM_JOURNAL_OTHER_VERSION comes only for the first record.
+   Returns: PTPM_JOURNALED; PTPM_JOURNAL_WHOLE; or why not. PTPM_JOURNAL_DAMAGED is also returned at the end of a file that lacks
+            its head or a step. PTPM_JOURNAL_OTHER_VERSION comes only for the first record.
    Writes:  *record, all 0 unless one was taken. *size: how many octets it had, or 0.
    Memory:  as ptpm_journal_add. */
 enum ptpm_journaled ptpm_journal_next(struct ptpm_journal *journal, const uint8_t *octets, size_t octet_count,
@@ -1715,7 +1715,7 @@ static inline void ptpm_rollout_stop_any(struct ptpm_rollout *rollout) {
 
 #define ptpm_rollout_stop(rollout) ptpm_rollout_stop_any(rollout)
 
-/* Seals an image: writes `ptps`, the count of saves and the CRC-32 of all before it after the image. By them damage is found.
+/* Seals an image: writes after it `ptps`, the count of saves, and the CRC-32 of all octets before the CRC-32. These show damage.
    Takes:   room octets: the image is the first size octets. And the count, one more at each save. A host calls ptpm_image_seal,
             which takes size before room.
    Returns: PTPM_SAVED; or PTPM_NO_ROOM if room is less than size and PTPM_SEAL_OCTETS, and then no octet is written.
@@ -1735,8 +1735,8 @@ static inline enum ptpm_saved ptpm_image_seal(uint8_t *octets, size_t size, size
             are 0. */
 enum ptpm_restored ptpm_image_unseal(const uint8_t *octets, size_t size, uint64_t *count, size_t *image);
 
-/* Finds the newest image of several places, each of as many octets. A host that writes only the oldest place has one image at any
-   moment, whenever its power fails (docs/image.md).
+/* Finds the newest image of several places, which have the same size. A host that writes only the oldest place has one image at
+   any moment, whenever its power fails (docs/image.md).
    Takes:   the octets of all places, one after the other; how many octets a place has, and how many places there are. The first
             octets of each place are enough: as many as the largest image and its seal have.
    Returns: the place of the image with the highest count, counted from 0; of several such places, the first. The number of places
