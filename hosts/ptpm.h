@@ -1190,7 +1190,7 @@ enum ptpm_handled ptpm_clock_decide(struct ptpm_clock *clock, const struct ptpm_
                                     struct ptpm_taken *taken);
 
 /* Writes exactly the values of a range to a limit.
-   Takes:   the least and the most, each from -128 to 255. A number under 0 has the octet of an Integer8. A range that is not within
+   Takes:   the least and the most, each from -128 to 255. A number under 0 is written as an Integer8. A range that is not within
             -128 to 255 leaves the limit without a value.
    Writes:  all of limit->values. */
 void ptpm_limit_range(struct ptpm_limit *limit, int32_t least, int32_t most);
@@ -1258,8 +1258,8 @@ size_t ptpm_clock_transit(const struct ptpm_clock *clock, uint16_t port, const u
    that it makes wait in the clock. So do those for a repeat, and for all else that the same manager sends. Anyone else is answered
    at once, by what was saved last and observed since.
    A save is: ptpm_clock_image_of, the image stored, and ptpm_clock_saved. Then ptpm_clock_next gives the messages that waited when
-   the image was made. What came later goes on waiting for the next image, unless it changed nothing. After a failed save, nothing
-   has to be undone: the next image has all of it.
+   the image was made. Later messages wait for the next image, unless all that came in since changed nothing. After a failed save,
+   nothing has to be undone: the next image has all of it.
    A clock that was just restored is saved. Any other clock is not: it takes no datagram before ptpm_clock_saved. Call
    ptpm_clock_saving right after the start or the restore.
    ptpm_clock_take returns PTPM_UNSAVED in three cases, and nothing changes. The first is any datagram before the first save of a
@@ -1292,8 +1292,7 @@ enum ptpm_saved ptpm_clock_image_of(struct ptpm_clock *clock, uint8_t *octets, s
    Caller:  calls ptpm_clock_next until that gives no message. After PTPM_ACT_NOW it asks its device (ptpm_clock_undertake). */
 enum ptpm_saved ptpm_clock_saved(struct ptpm_clock *clock, uint64_t token);
 
-/* Gives the next message that no longer waits for a save. The messages come in the order of their
-   datagrams.
+/* Gives the next message that no longer waits for a save. The messages come in the order of their datagrams.
    Returns: 1; or 0 if there is none, and for a clock that does not save.
    Writes:  *message, as ptpm_clock_take writes each message. If the answer is 0, nothing of it.
    Caller:  sends it at its port, and acts on what changed with it. It calls again until the answer is 0: the clock takes no datagram
@@ -1311,11 +1310,11 @@ uint32_t ptpm_clock_unsaved(const struct ptpm_clock *clock);
    Takes:   the identity and the number of ports that the clock of the image must have; its managers, as for a start; and size octets.
             Managers and what each of them may change are those that are given. All else comes from the image. A manager that is
             given and has no request in the image begins afresh.
-   Returns: PTPM_RESTORED; or why not, and then the handle holds what it held. The first of these that holds: PTPM_TOO_MANY_MANAGERS,
-            PTPM_MANAGER_TWICE, PTPM_IDENTITY_IS_ZERO, PTPM_NOT_AN_IMAGE, PTPM_OTHER_VERSION, PTPM_OTHER_KIND, PTPM_DAMAGED,
-            PTPM_OTHER_CLOCK, PTPM_OTHER_PORTS and PTPM_NO_MEMORY. A change under way at a port over port_count is PTPM_DAMAGED
-            too. Do not start a fresh clock after a refused restore: it would carry out requests again that were carried
-            out before.
+   Returns: PTPM_RESTORED; or why not, and then the handle holds what it held. The first of these that holds:
+            PTPM_TOO_MANY_MANAGERS, PTPM_MANAGER_TWICE, PTPM_IDENTITY_IS_ZERO, PTPM_NOT_AN_IMAGE, PTPM_OTHER_VERSION,
+            PTPM_OTHER_KIND, PTPM_DAMAGED, PTPM_OTHER_CLOCK, PTPM_OTHER_PORTS and PTPM_NO_MEMORY. A change under way at a port
+            over port_count is PTPM_DAMAGED too. Do not start a fresh clock after a refused restore: it would carry out requests
+            again that were carried out before.
    Writes:  *gone: the number of requests of the image whose managers are not among those that are given. They are forgotten. If the
             call is refused, it is 0.
    Memory:  the clock, until it is stopped, as much as for a start. Over eight ports also 160 octets for each port until the call
@@ -1395,8 +1394,7 @@ enum ptpm_resumed ptpm_session_resume(struct ptpm_session *session, uint8_t atte
             the request that was given up. */
 enum ptpm_given_up ptpm_session_give_up(struct ptpm_session *session);
 
-/* From now on requests are sent, and replies expected, in this domain. That includes the unanswered
-   request.
+/* From now on requests are sent, and replies expected, in this domain. That includes the unanswered request.
    Returns: PTPM_RETUNED, or why not. */
 enum ptpm_retuned ptpm_session_retune(struct ptpm_session *session, uint8_t domain);
 
@@ -1417,9 +1415,8 @@ enum ptpm_saved ptpm_session_image(const struct ptpm_session *session, uint8_t *
    stays open, with all its attempts: send it again.
    Takes:   size octets, and the settings of the session. Its manager, managed clock, number of ports and first number must be
             those of the image. Domain, hops and attempts are those of the image.
-   Returns: PTPM_RESTORED; or why not, and then the handle holds what it held. Do not start a fresh
-            session after a refused restore: the clock would treat its requests as old, or as
-            conflicts.
+   Returns: PTPM_RESTORED; or why not, and then the handle holds what it held. Do not start a fresh session after a refused
+            restore: the clock would treat its requests as old, or as conflicts.
    Memory:  the session, until it is stopped, and a copy of the dataField of its request.
    Caller:  stops the session. */
 enum ptpm_restored ptpm_session_restore(struct ptpm_session *session, const struct ptpm_session_settings *settings,
