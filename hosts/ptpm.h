@@ -67,10 +67,10 @@ enum {
 #define PTPM_TO_EIGHT uint32_t rest; PTPM_AT_EIGHT
 #endif
 
-/* The most ports that a clock has, and the most managers. */
+/* The most ports and managers that a clock has, and the most ids of its device (ptpm_clock_relay). */
 enum { PTPM_MOST_PORTS = 64, PTPM_MOST_MANAGERS = 64, PTPM_MOST_IDS = 32 };
 
-/* A clock, at one pointer: with up to eight ports 2,760 octets with one manager, and 34,920 with sixteen (ptpm_clock_start). All
+/* A clock, at one pointer: with up to eight ports 2,784 octets with one manager, and 34,944 with sixteen (ptpm_clock_start). All
    zeros hold no clock: struct ptpm_clock clock = { 0 }; */
 struct ptpm_clock { void *at; PTPM_TO_EIGHT bool live; bool restored; };
 
@@ -196,8 +196,8 @@ struct ptpm_observed_clock {
     uint8_t has_time_source;
 };
 
-/* What a host observes of a port. Only a manager's command enters or leaves state 3, DISABLED. An enabled port is not observed in
-   that state, and a disabled port stays in it. A number that is not a portState counts as 3. */
+/* What a host observes of a port. Only a manager's command enters or leaves state 3, DISABLED. To observe it at an enabled port
+   is refused. A disabled port stays disabled, whatever is observed. A number that is not a portState counts as 3. */
 struct ptpm_observed_port {
     PTPM_AT_EIGHT int64_t peer_delay;   /* in nanoseconds times 2^16 */
     uint8_t state;                      /* portState, PTPM_STATE_INITIALIZING to PTPM_STATE_SLAVE */
@@ -231,7 +231,7 @@ struct ptpm_answer {
     uint8_t octets[184];
 };
 
-/* What is sent for a datagram that is its own copy (ptpm_clock_handle_shared). */
+/* What is sent for a datagram if the datagram itself is forwarded, and not a copy of it (ptpm_clock_handle_shared). */
 struct ptpm_shared {
     PTPM_AT_EIGHT uint64_t ports;       /* the ports at which it is forwarded: 1 for port 1, 2 for port 2, and so on, summed up */
     uint64_t size;                      /* how many of its octets are forwarded; 0 if none */
@@ -436,7 +436,7 @@ enum {
 /* The flags of a journal: the change goes on at other clocks if one fails; and each step comes after all those before it. */
 enum { PTPM_KEEPS_GOING = 1, PTPM_IN_ONE_ROW = 2 };
 
-/* What the answer to a step says; how a change ends; and the step of an ending without a step. */
+/* What the answer to a step says. How a change ends. The number of a step if there is none. */
 enum { PTPM_STEP_DONE = 1, PTPM_STEP_REFUSED = 2, PTPM_STEP_ANSWERED = 3 };
 enum {
     PTPM_END_COMPLETE = 1, PTPM_END_REFUSED = 2, PTPM_END_ANSWERED = 3, PTPM_END_CHANGED = 4, PTPM_END_GIVEN_UP = 5,
@@ -500,7 +500,7 @@ enum {
     PTPM_DO_CHECK = 5,                  /* say whether the change goes on: this step is the first one at another clock */
     PTPM_DO_ASK = 6,                    /* ask the step */
     PTPM_DO_NOTE = 7,                   /* append the record to the journal's file, and synchronize it */
-    PTPM_DO_GO_ON = 8,                  /* the note is made: ptpm_asker_noted, and what comes then */
+    PTPM_DO_GO_ON = 8,                  /* the note is made: call ptpm_asker_noted, and do what it hands out */
     PTPM_DO_LEAVE = 9,                  /* no step of the lane is to come */
     PTPM_DO_END = 10                    /* it is over */
 };
@@ -666,9 +666,9 @@ enum { PTPM_MOST_ANSWERS = 16384, PTPM_SURVEY_PORT = 65534 };
 /* The starts. A session is refused with PTPM_MANAGER_IS_EVERY, PTPM_TARGET_IS_EVERY, PTPM_SAME_CLOCK, PTPM_NO_PORTS,
    PTPM_TOO_MANY_PORTS, PTPM_TARGET_IS_ZERO or PTPM_NO_MEMORY, in this order. A survey of every clock is refused with the first or
    the last of these. A survey of one clock is refused with any of them except the two about ports. An asker is refused as a
-   session is, and with PTPM_MANAGER_TWICE before PTPM_NO_MEMORY if `nobody` is the manager's port. A clock is refused with any of
-   the others, PTPM_IDENTITY_IS_ZERO last, and with PTPM_NO_PORTS, PTPM_TOO_MANY_PORTS and PTPM_NO_MEMORY. PTPM_OTHER_SIZES comes
-   before all of them, and only for ptpm_clock_start_sized and the like. */
+   session is, and with PTPM_MANAGER_TWICE before PTPM_NO_MEMORY if `nobody` is the manager's port. A clock is refused with
+   PTPM_NO_PORTS, PTPM_TOO_MANY_PORTS, PTPM_NO_MEMORY or one of the other names below. Of these PTPM_IDENTITY_IS_ZERO comes last.
+   PTPM_OTHER_SIZES comes before all of them, and only for ptpm_clock_start_sized and the like. */
 __extension__ enum PTPM_FOUR_OCTETS(ptpm_started) {
     PTPM_STARTED = 0,
     PTPM_START_NO_MEMORY = PTPM_NO_MEMORY,
@@ -1093,25 +1093,26 @@ enum ptpm_handled ptpm_clock_handle(struct ptpm_clock *clock, uint16_t port, con
 
 /* Does what ptpm_clock_handle does, in less room. What is forwarded is the datagram itself, with boundaryHops decremented. So only answers
    have places, of 188 octets each. It is for a clock of many ports, or a host of little memory.
-   Takes:   the port, counted from 1; size octets; and room places: as many as the clock has ports. More are needed only after a restore
-            from an image of another hand, in which a kept reply has more answers.
+   Takes:   the port, counted from 1; size octets; and room places: as many as the clock has ports. More are needed only after a
+            restore from an image that another program made, in which a kept reply has more answers.
    Returns: what ptpm_clock_handle returns.
-   Writes:  *shared, and the first shared->count places of answers. If shared->size is not 0, octet 45 of the datagram is less by one.
+   Writes:  *shared, and the first shared->count places of answers. If shared->size is not 0, octet 45 of the datagram,
+            boundaryHops, is decremented.
    Caller:  sends the first shared->size octets of the datagram at each of shared->ports, and then the answers in their order, each at its
             port. After PTPM_ANSWERED_NEW it does what it does after ptpm_clock_handle. */
 enum ptpm_handled ptpm_clock_handle_shared(struct ptpm_clock *clock, uint16_t port, uint8_t *datagram, size_t size,
                                            struct ptpm_answer *answers, size_t room, struct ptpm_shared *shared);
 
 /* Gives a clock the ids that its device has and the clock lacks, instead of those that it has. A SET or COMMAND of such an id then
-   reaches the device, as one of the 21 ids does (ptpm_clock_ask). First it is judged by these rules, in their order. If it breaks one,
-   that error is the answer, and is kept:
+   reaches the device, as one of the 21 ids does (ptpm_clock_ask). First the request is judged by these rules, in their order. If it
+   breaks one, the rule's error is the answer, and is kept:
    - NOT_SETABLE of a SET, and NOT_SUPPORTED of a COMMAND, that is not among the actions;
    - NOT_SUPPORTED without the right;
    - WRONG_LENGTH outside least..most;
    - RESPONSE_TOO_BIG for every port of an id of a port.
-   If the device agrees, a COMMAND is acknowledged, and a SET is answered with its octets. If it gives octets, a SET is answered with
-   these. The data sets stay. The answer comes from the port at which the request came in.
-   A GET needs no such id. ptpm_clock_handle, and a request of the owner or of a stranger, do not read them.
+   If the device agrees, a COMMAND is acknowledged, and a SET is answered with its own octets. If the device gives octets, a SET is
+   answered with these. The data sets stay. The answer comes from the port at which the request came in. A GET reaches the device
+   without this call. ptpm_clock_handle does not read these ids. Nor do they count for requests of the owner and of strangers.
    Takes:   id_count ids, PTPM_MOST_IDS at most. 0 takes them away.
    Returns: PTPM_RELAYING; or why not, and then nothing changes. PTPM_NO_CLOCK also for a clock that saves (ptpm_clock_saving).
    Memory:  10 octets for each id, until the clock is stopped.
@@ -1142,8 +1143,8 @@ enum ptpm_asking ptpm_clock_ask(const struct ptpm_clock *clock, uint16_t port, c
    Returns: what became of the datagram; or why it was not judged, the first of these: PTPM_NO_CLOCK, PTPM_NO_PORT, PTPM_NO_ROOM,
             PTPM_BAD_SAY, PTPM_UNDER_WAY (ptpm_clock_undertake) and PTPM_UNSAVED. A datagram that is not judged counts as lost.
    Writes:  all of *taken: zeros if the datagram was not judged. And the first taken->count places of sent, as ptpm_clock_handle
-            does. If messages wait, taken->count is 0, and as many places of sent have zeros. No member changed unless the
-            answer is PTPM_ANSWERED_NEW, nor after a GET or a request that was refused.
+            does. If messages wait, taken->count is 0, and the first taken->waiting places of sent have zeros. No member changed
+            unless the answer is PTPM_ANSWERED_NEW, nor after a GET or a request that was refused.
    Caller:  sends these messages in their order, each at its port, and then acts on each change. A clock that does not save is
             first saved, as after ptpm_clock_handle. If taken->waiting is not 0, the caller acts on the change once these messages
             are given out. If the caller has written to its hardware and the answer is not PTPM_ANSWERED_NEW, it undoes the write:
@@ -1155,11 +1156,11 @@ enum ptpm_handled ptpm_clock_take(struct ptpm_clock *clock, uint16_t port, const
 /* Keeps a change as under way, so that the device is asked for it once, whatever happens to the power. It is for a clock that
    saves (ptpm_clock_saving). If ptpm_clock_ask would return PTPM_ASKED_CHANGE for the clock in its present state, the change is
    under way, and in each image from now on. Then the clock is unsaved. The host saves it, ptpm_clock_saved returns PTPM_ACT_NOW
-   once, and the host asks its device. ptpm_clock_decide then says what the device did. After a restart the host only looks whether
-   its device has the change. While the change is under way, ptpm_clock_take returns PTPM_UNDER_WAY for each request of the same
-   manager that is addressed to exactly this clock. It returns PTPM_UNDER_WAY too for any datagram for which ptpm_clock_ask would
-   return PTPM_ASKED_CHANGE. Of the owner's requests only a SET of DOMAIN is answered so, by ptpm_clock_set too: in another domain
-   the change would get no answer.
+   once, and the host asks its device. ptpm_clock_decide then says what the device did. After a restart the host only looks
+   whether its device has the change. While the change is under way, ptpm_clock_take returns PTPM_UNDER_WAY for each request of
+   the same manager that is addressed to exactly this clock. It returns PTPM_UNDER_WAY too for any datagram for which
+   ptpm_clock_ask would return PTPM_ASKED_CHANGE. Of the owner's requests only a SET of DOMAIN gets that answer, from
+   ptpm_clock_set too: in another domain the change would get no answer.
    Takes:   what ptpm_clock_ask takes.
    Returns: PTPM_ASKED_CHANGE. PTPM_ASKED_VALUE and PTPM_ASKED_NOTHING as ptpm_clock_ask does, and nothing is kept. Or why not, the
             first of these: PTPM_NO_CLOCK, also for a clock that does not save, PTPM_NO_PORT, PTPM_UNSAVED and PTPM_UNDER_WAY. It
@@ -1178,9 +1179,9 @@ enum ptpm_asking ptpm_clock_under_way(const struct ptpm_clock *clock, struct ptp
 /* Does what ptpm_clock_take does with the datagram that is under way, at its port. Then nothing is under way, and the clock is unsaved:
    its messages wait for a save.
    Takes:   what the device says; and room places, as ptpm_clock_take.
-   Returns: what ptpm_clock_take returns, but never PTPM_HANDLE_OTHER_DOMAIN: the clock stays in the domain of what is under way. Or
-            why not, and then the change stays under way. The first of these: PTPM_NO_CLOCK, also for
-            a clock that does not save, PTPM_NOTHING_UNDER_WAY, PTPM_NO_ROOM, PTPM_BAD_SAY, and PTPM_UNSAVED as at ptpm_clock_take.
+   Returns: what ptpm_clock_take returns, but never PTPM_HANDLE_OTHER_DOMAIN: the clock stays in the domain of what is under way.
+            Or why not, the first of these: PTPM_NO_CLOCK, also for a clock that does not save, PTPM_NOTHING_UNDER_WAY,
+            PTPM_NO_ROOM, PTPM_BAD_SAY, and PTPM_UNSAVED as at ptpm_clock_take. The change then stays under way.
    Writes:  what ptpm_clock_take writes.
    Caller:  after PTPM_UNSAVED takes the messages that were released or saves the clock, and calls again. If the device has the
             change and the answer is not PTPM_ANSWERED_NEW, the caller undoes the change: the clock was restored without that
@@ -1189,7 +1190,7 @@ enum ptpm_handled ptpm_clock_decide(struct ptpm_clock *clock, const struct ptpm_
                                     struct ptpm_taken *taken);
 
 /* Writes exactly the values of a range to a limit.
-   Takes:   the least and the most, each from -128 to 255. A number under 0 has the octet of an Integer8. A range that is not within
+   Takes:   the least and the most, each from -128 to 255. A number under 0 is written as an Integer8. A range that is not within
             -128 to 255 leaves the limit without a value.
    Writes:  all of limit->values. */
 void ptpm_limit_range(struct ptpm_limit *limit, int32_t least, int32_t most);
@@ -1254,11 +1255,11 @@ size_t ptpm_clock_transit(const struct ptpm_clock *clock, uint16_t port, const u
 /* Has a clock show no change before it is saved. Without this call, a host has to see to that itself, for each message that it
    sends. A clock that saves takes datagrams by ptpm_clock_take, also during a save. What a manager or the owner asks of this clock,
    and not of every clock, is carried out at once. If the request changed the clock, or something was unsaved before, the messages
-   that it makes wait in the clock. That includes a repeat, and all else the same manager sends. Anyone else is answered at once, by
-   what was saved last and observed since.
+   that it makes wait in the clock. So do those for a repeat, and for all else that the same manager sends. Anyone else is answered
+   at once, by what was saved last and observed since.
    A save is: ptpm_clock_image_of, the image stored, and ptpm_clock_saved. Then ptpm_clock_next gives the messages that waited when
-   the image was made. What came later goes on waiting for the next image, unless it changed nothing. After a failed save, nothing
-   has to be undone: the next image has all of it.
+   the image was made. Later messages wait for the next image, unless all that came in since changed nothing. After a failed save,
+   nothing has to be undone: the next image has all of it.
    A clock that was just restored is saved. Any other clock is not: it takes no datagram before ptpm_clock_saved. Call
    ptpm_clock_saving right after the start or the restore.
    ptpm_clock_take returns PTPM_UNSAVED in three cases, and nothing changes. The first is any datagram before the first save of a
@@ -1283,16 +1284,15 @@ enum ptpm_saved ptpm_clock_image_of(struct ptpm_clock *clock, uint8_t *octets, s
 
 /* Takes the caller's word that a restart would find the image of this token. Strangers are shown what the image has, and
    ptpm_clock_next gives the messages that waited when the image was made.
-   Takes:   the token of the latest ptpm_clock_image_of, which counts once. An observation after the image also ends the token, if
-            no change waited when the image was made.
+   Takes:   the token of the latest ptpm_clock_image_of. It counts once. It does not count after an observation that came after
+            the image, if no change waited when the image was made.
    Returns: PTPM_SAVED. PTPM_ACT_NOW if the image has a change that is still under way, once for each change and never for one that a
             restore found. Or PTPM_NO_CLOCK, also for a clock that does not save, or PTPM_OTHER_IMAGE for any other token, and then
             nothing changes.
    Caller:  calls ptpm_clock_next until that gives no message. After PTPM_ACT_NOW it asks its device (ptpm_clock_undertake). */
 enum ptpm_saved ptpm_clock_saved(struct ptpm_clock *clock, uint64_t token);
 
-/* Gives the next message that no longer waits for a save. The messages come in the order of their
-   datagrams.
+/* Gives the next message that no longer waits for a save. The messages come in the order of their datagrams.
    Returns: 1; or 0 if there is none, and for a clock that does not save.
    Writes:  *message, as ptpm_clock_take writes each message. If the answer is 0, nothing of it.
    Caller:  sends it at its port, and acts on what changed with it. It calls again until the answer is 0: the clock takes no datagram
@@ -1310,11 +1310,11 @@ uint32_t ptpm_clock_unsaved(const struct ptpm_clock *clock);
    Takes:   the identity and the number of ports that the clock of the image must have; its managers, as for a start; and size octets.
             Managers and what each of them may change are those that are given. All else comes from the image. A manager that is
             given and has no request in the image begins afresh.
-   Returns: PTPM_RESTORED; or why not, and then the handle holds what it held. The first of these that holds: PTPM_TOO_MANY_MANAGERS,
-            PTPM_MANAGER_TWICE, PTPM_IDENTITY_IS_ZERO, PTPM_NOT_AN_IMAGE, PTPM_OTHER_VERSION, PTPM_OTHER_KIND, PTPM_DAMAGED,
-            PTPM_OTHER_CLOCK, PTPM_OTHER_PORTS and PTPM_NO_MEMORY. A change under way at a port over port_count is PTPM_DAMAGED
-            too. Do not start a fresh clock after a refused restore: it would carry out requests again that were carried
-            out before.
+   Returns: PTPM_RESTORED; or why not, and then the handle holds what it held. The first of these that holds:
+            PTPM_TOO_MANY_MANAGERS, PTPM_MANAGER_TWICE, PTPM_IDENTITY_IS_ZERO, PTPM_NOT_AN_IMAGE, PTPM_OTHER_VERSION,
+            PTPM_OTHER_KIND, PTPM_DAMAGED, PTPM_OTHER_CLOCK, PTPM_OTHER_PORTS and PTPM_NO_MEMORY. A change under way at a port
+            over port_count is PTPM_DAMAGED too. Do not start a fresh clock after a refused restore: it would carry out requests
+            again that were carried out before.
    Writes:  *gone: the number of requests of the image whose managers are not among those that are given. They are forgotten. If the
             call is refused, it is 0.
    Memory:  the clock, until it is stopped, as much as for a start. Over eight ports also 160 octets for each port until the call
@@ -1394,8 +1394,7 @@ enum ptpm_resumed ptpm_session_resume(struct ptpm_session *session, uint8_t atte
             the request that was given up. */
 enum ptpm_given_up ptpm_session_give_up(struct ptpm_session *session);
 
-/* From now on requests are sent, and replies expected, in this domain. That includes the unanswered
-   request.
+/* From now on requests are sent, and replies expected, in this domain. That includes the unanswered request.
    Returns: PTPM_RETUNED, or why not. */
 enum ptpm_retuned ptpm_session_retune(struct ptpm_session *session, uint8_t domain);
 
@@ -1416,9 +1415,8 @@ enum ptpm_saved ptpm_session_image(const struct ptpm_session *session, uint8_t *
    stays open, with all its attempts: send it again.
    Takes:   size octets, and the settings of the session. Its manager, managed clock, number of ports and first number must be
             those of the image. Domain, hops and attempts are those of the image.
-   Returns: PTPM_RESTORED; or why not, and then the handle holds what it held. Do not start a fresh
-            session after a refused restore: the clock would treat its requests as old, or as
-            conflicts.
+   Returns: PTPM_RESTORED; or why not, and then the handle holds what it held. Do not start a fresh session after a refused
+            restore: the clock would treat its requests as old, or as conflicts.
    Memory:  the session, until it is stopped, and a copy of the dataField of its request.
    Caller:  stops the session. */
 enum ptpm_restored ptpm_session_restore(struct ptpm_session *session, const struct ptpm_session_settings *settings,
@@ -1584,8 +1582,8 @@ enum ptpm_asked ptpm_asker_hear(struct ptpm_asker *asker, const uint8_t *datagra
    Memory:  a copy of the dataField of a question, until it is answered. */
 enum ptpm_asked ptpm_asker_wake(struct ptpm_asker *asker, uint64_t now, struct ptpm_handed *handed);
 
-/* Says that the message of the latest PTPM_SEND_IT could not be sent. If no message of the request left before, a request of
-   this run is taken back. Its number is that of the next one, and PTPM_FAILED follows its save.
+/* Says that the message of the latest PTPM_SEND_IT could not be sent. If no message of a request of this run has left, the
+   request is withdrawn. The next request then gets that number, and PTPM_FAILED comes after the save.
    Returns: PTPM_ASKED.
    Writes:  all of *handed. */
 enum ptpm_asked ptpm_asker_unsent(struct ptpm_asker *asker, struct ptpm_handed *handed);
@@ -1661,8 +1659,8 @@ enum ptpm_journaled ptpm_journal_add(struct ptpm_journal *journal, const struct 
 /* Takes the next record of a journal's file. A host begins with all octets of the file, and after each call goes on *size
    octets later, until PTPM_JOURNAL_WHOLE. It cuts off what is left then. The journal goes on from there with
    ptpm_journal_add.
-   Returns: PTPM_JOURNALED; PTPM_JOURNAL_WHOLE; or why not. PTPM_JOURNAL_DAMAGED is also the end of a file that lacks its head or
-            a step. PTPM_JOURNAL_OTHER_VERSION comes only for the first record.
+   Returns: PTPM_JOURNALED; PTPM_JOURNAL_WHOLE; or why not. PTPM_JOURNAL_DAMAGED is also returned at the end of a file that lacks
+            its head or a step. PTPM_JOURNAL_OTHER_VERSION comes only for the first record.
    Writes:  *record, all 0 unless one was taken. *size: how many octets it had, or 0.
    Memory:  as ptpm_journal_add. */
 enum ptpm_journaled ptpm_journal_next(struct ptpm_journal *journal, const uint8_t *octets, size_t octet_count,
@@ -1714,7 +1712,7 @@ static inline void ptpm_rollout_stop_any(struct ptpm_rollout *rollout) {
 
 #define ptpm_rollout_stop(rollout) ptpm_rollout_stop_any(rollout)
 
-/* Seals an image: writes `ptps`, the count of saves and the CRC-32 of all before it after the image. By them damage is found.
+/* Seals an image: writes after it `ptps`, the count of saves, and the CRC-32 of all octets before the CRC-32. These show damage.
    Takes:   room octets: the image is the first size octets. And the count, one more at each save. A host calls ptpm_image_seal,
             which takes size before room.
    Returns: PTPM_SAVED; or PTPM_NO_ROOM if room is less than size and PTPM_SEAL_OCTETS, and then no octet is written.
@@ -1734,8 +1732,8 @@ static inline enum ptpm_saved ptpm_image_seal(uint8_t *octets, size_t size, size
             are 0. */
 enum ptpm_restored ptpm_image_unseal(const uint8_t *octets, size_t size, uint64_t *count, size_t *image);
 
-/* Finds the newest image of several places, each of as many octets. A host that writes only the oldest place has one image at any
-   moment, whenever its power fails (docs/image.md).
+/* Finds the newest image of several places, which have the same size. A host that writes only the oldest place has one image at
+   any moment, whenever its power fails (docs/image.md).
    Takes:   the octets of all places, one after the other; how many octets a place has, and how many places there are. The first
             octets of each place are enough: as many as the largest image and its seal have.
    Returns: the place of the image with the highest count, counted from 0; of several such places, the first. The number of places

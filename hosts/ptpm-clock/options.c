@@ -33,6 +33,8 @@ enum {
 static struct options given;
 const struct options *const options = &given;
 
+static bool is_named[PTP4L_RULES + 1];      /* whether the command line has the option */
+
 static const struct option names[] = {
     ALONE("ipv6", '6'), ALONE("ethernet", '2'), TAKES("hops", HOPS), TAKES("rate", RATE), TAKES("manager-rate", MANAGER_RATE),
     ALONE("no-forward", NO_FORWARD), ALONE("transit", TRANSIT), ALONE("any-source", ANY_SOURCE), ALONE("ttl-security", TTL_SECURITY),
@@ -295,6 +297,7 @@ static void take_limit(int option) {
 }
 
 static void take_option(int option, char *const *words) {
+    is_named[option] = true;
     switch (option) {
     case GIVE: take_value(words); break;
     case '2': take_transport(ETHERNET); break;
@@ -310,7 +313,8 @@ static void take_option(int option, char *const *words) {
         break;
     case 'n': given.end = milliseconds() + number("-n", 0, 1000000) * SECOND; break;
     case 'm':
-        if (given.manager_count <= MANAGERS) given.managers[given.manager_count++] = read_manager(optarg);
+        if (given.manager_count == MANAGERS) refuse_command_line("-m %s: %d managers at most", optarg, MANAGERS);
+        given.managers[given.manager_count++] = read_manager(optarg);
         break;
     case 'h': exit(fputs(help_text, stdout) < 0 || fputs(help_end, stdout) < 0 || fflush(stdout) != 0);
     case VERSION: exit(puts("ptpm-clock " PTPM_VERSION) < 0 || fflush(stdout) != 0);
@@ -342,24 +346,39 @@ static void refuse_long(void) {
     }
 }
 
+/* The identity of every clock, or of none, is not one clock's. */
+static void refuse_identity(void) {
+    static const uint8_t no_clock[CLOCK_IDENTITY];
+    const uint8_t *identity = options->settings.identity;
+    bool is_every = memcmp(identity, every_clock, sizeof every_clock) == 0;
+    if (!is_every && memcmp(identity, no_clock, sizeof no_clock) != 0) return;
+    refuse_command_line("%s: it means %s clock: a clock's own is, for example, the MAC of an interface with fffe in its middle",
+                        identity_text(identity), is_every ? "every" : "no");
+}
+
 /* A clock drops what has its own identity as its source: it treats that as a message of its own that came back. */
-static void refuse_itself(void) {
+static void refuse_managers(void) {
     for (size_t i = 0; i < options->manager_count; i++) {
         const struct ptpm_manager_settings *manager = &options->managers[i];
-        if (memcmp(manager->clock, options->settings.identity, sizeof manager->clock) != 0) continue;
-        refuse_command_line("-m %s/%u: it has the identity of the clock, which hears no such manager", identity_text(manager->clock), manager->port);
+        const char *name = identity_text(manager->clock);
+        if (memcmp(manager->clock, options->settings.identity, sizeof manager->clock) == 0) {
+            refuse_command_line("-m %s/%u: it has the identity of the clock, which hears no such manager", name, manager->port);
+        }
+        for (size_t k = 0; k < i; k++) {
+            const struct ptpm_manager_settings *other = &options->managers[k];
+            bool is_twice = manager->port == other->port && memcmp(manager->clock, other->clock, sizeof other->clock) == 0;
+            if (is_twice) refuse_command_line("-m %s/%u: the manager is named twice: once is enough", name, manager->port);
+        }
     }
 }
 
-/* Refuses an option that belongs to another one which is missing. At this point a group is set only if an option names it. */
+/* Refuses an option that belongs to another one which is missing. */
 static void refuse_alone(void) {
     bool has_socket = options->meeting.path != NULL;
-    const char *of_socket = options->limits.is_passed_on_from_host ? "-f" : options->meeting.mode != MODE_AT_FIRST ? "--unix-mode" : NULL;
-    if (!has_socket && options->owner == NULL && options->ptp4l == NULL && options->meeting.group != (gid_t)-1) of_socket = "--unix-group";
+    const char *of_socket = is_named['f'] ? "-f" : is_named[UNIX_MODE] ? "--unix-mode" : NULL;
+    if (!has_socket && options->owner == NULL && options->ptp4l == NULL && is_named[UNIX_GROUP]) of_socket = "--unix-group";
     if (!has_socket && of_socket != NULL) refuse_command_line("%s: its Unix socket is missing: -u PATH", of_socket);
-    if (options->device_program == NULL && options->device_seconds != ASK_TIME_AT_FIRST) {
-        refuse_command_line("--ask-time: its program is missing: --ask PROGRAM");
-    }
+    if (options->device_program == NULL && is_named[ASK_TIME]) refuse_command_line("--ask-time: its program is missing: --ask PROGRAM");
     if (options->device_program == NULL && options->relayed_count > 0) refuse_command_line("--relay: its program is missing: --ask PROGRAM");
 }
 
@@ -375,12 +394,10 @@ static void refuse_port(void) {
 /* The ptp4l observes for itself, and is the device. */
 static void judge_ptp4l(void) {
     const char *other = options->source != NULL ? "-o" : options->device_program != NULL ? "--ask" : options->owner != NULL ? "--owner" : NULL;
-    if (options->ptp4l == NULL && options->diverted_port != DIVERTED_AT_FIRST) refuse_command_line("--diverted: --ptp4l PATH is missing");
+    if (options->ptp4l == NULL && is_named[DIVERTED]) refuse_command_line("--diverted: --ptp4l PATH is missing");
     if (options->ptp4l == NULL) return;
     if (other != NULL) refuse_command_line("--ptp4l and %s exclude each other", other);
-    if (options->transport == ETHERNET && options->diverted_port != DIVERTED_AT_FIRST) {
-        refuse_command_line("--diverted and -2 exclude each other: no rule diverts frames");
-    }
+    if (options->transport == ETHERNET && is_named[DIVERTED]) refuse_command_line("--diverted and -2 exclude each other: no rule diverts frames");
     if (options->interface_count == 0) refuse_command_line("--ptp4l: the interfaces of the ptp4l are missing");
 }
 
@@ -395,7 +412,8 @@ static void judge(void) {
     }
     refuse_long();
     refuse_twice();
-    refuse_itself();
+    refuse_identity();
+    refuse_managers();
     refuse_port();
 }
 

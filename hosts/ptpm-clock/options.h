@@ -16,7 +16,7 @@ struct value { uint16_t id, port; const char *path; };
 
 struct options {
     struct ptpm_clock_settings settings;
-    struct ptpm_manager_settings managers[MANAGERS + 1];
+    struct ptpm_manager_settings managers[MANAGERS];
     size_t manager_count;
     char **interfaces;
     size_t interface_count;

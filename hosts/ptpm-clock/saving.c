@@ -4,6 +4,7 @@
 #include "monotonic.h"
 #include "names.h"
 #include "output.h"
+#include "program.h"
 #include "words.h"
 #include <errno.h>
 #include <libgen.h>
@@ -27,6 +28,7 @@ enum { JOINED = 5 };        /* requests of managers for which there is one save 
 enum { SECOND = 1000, MOST_PAUSE = 5, PAUSE_PART = 20 };        /* milliseconds, and which part of the time of a save */
 
 static struct kept_file file = { .folder = -1, .mode = 0600 };
+static int lock = -1;               /* of it, while the program runs */
 static uint8_t octets[MOST_STATE_OCTETS];
 static uint64_t saves_of_file;      /* by its seal */
 static size_t size_of_file;         /* of what is saved */
@@ -86,7 +88,7 @@ static void hand_over(int made) {
 /* Two clocks that save to one file would each undo what the other said. */
 static void take_file(void) {
     for (int tries = 0; tries < LOCK_TRIES; tries++) {
-        int lock = open_kept_lock(&file);
+        lock = open_kept_lock(&file);
         if (lock < 0) refuse_file(NULL);
         if (!take_kept_lock(lock)) {
             if (errno != EAGAIN && errno != EACCES) refuse_file(NULL);
@@ -242,10 +244,29 @@ static void wait_for(sem_t *what) {
     while (sem_wait(what)) continue;        /* a debugger may interrupt it */
 }
 
+/* The folder was removed. Takes the one that is there by now, and its lock; whether it could. If not, errno says why. The filter of system
+   calls lets no folder be made. */
+static bool reopen_folder(void) {
+    struct kept_file other = file;
+    if (!open_kept_folder(&other, options->state)) {
+        if (errno == EPERM) errno = ENOENT;
+        return false;
+    }
+    int other_lock = open_kept_lock(&other);
+    bool is_taken = other_lock >= 0 && take_kept_lock(other_lock) && is_kept_lock(&other, other_lock);
+    close_quietly(is_taken ? file.folder : other.folder);
+    close_quietly(is_taken ? lock : other_lock);
+    if (!is_taken) return false;
+    file = other;
+    lock = other_lock;
+    return true;
+}
+
 static void *replace_files(void *nothing) {
     for (;;) {
         wait_for(&asked);
         became = replace_kept(&file, octets, size_of_file);
+        if (became == NOT_REPLACED && errno == ENOENT && reopen_folder()) became = replace_kept(&file, octets, size_of_file);
         failure = errno;
         eventfd_write(event, 1);
         sem_post(&done);

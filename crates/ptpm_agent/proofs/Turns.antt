@@ -245,7 +245,7 @@ not_forwarded-far : (c : Clock) (s : State) (ingress : ℕ) (v : Message)
 not_forwarded-far c s ingress v far = elim (cases_Bool (is_forwarded c.identity ingress s.sets v)) [
   | inl passed ↦
       let p = forwarded_parts c s ingress v passed in absurd (false≢true (sym far ∙ is_near-judged c s v p.0 p.1))
-  | inr no ↦ no
+  | inr stays ↦ stays
 ]
 
 pub not_forwarded-foreign : (c : Clock) (s : State) (ingress : ℕ) (v : Message)
@@ -259,16 +259,16 @@ pub not_forwarded-own : (c : Clock) (s : State) (ingress : ℕ) (v : Message)
 not_forwarded-own c s ingress v e = not_forwarded-far c s ingress v (ap is_near e)
 
 false_unless : (b : Bool) → (b ≡ true → ⊥) → b ≡ false
-false_unless true no = absurd (no refl)
-false_unless false no = refl
+false_unless true differs = absurd (differs refl)
+false_unless false differs = refl
 
 true_unless : (b : Bool) → (b ≡ false → ⊥) → b ≡ true
-true_unless true no = refl
-true_unless false no = absurd (no refl)
+true_unless true differs = refl
+true_unless false differs = absurd (differs refl)
 
 either_true : (x y : Bool) → (x || y) ≡ true → y ≡ false → x ≡ true
-either_true true y h no = refl
-either_true false y h no = absurd (false≢true (sym no ∙ h))
+either_true true y h is_false = refl
+either_true false y h is_false = absurd (false≢true (sym is_false ∙ h))
 
 -- by any other verdict than these, only the target, the hops and the ingress port are left to see
 pub forwarded_near : (c : Clock) (s : State) (ingress : ℕ) (v : Message)
@@ -278,7 +278,7 @@ pub forwarded_near : (c : Clock) (s : State) (ingress : ℕ) (v : Message)
     → is_forwarded c.identity ingress s.sets v
     ≡ (not (same_clock v.target.clock c.identity) && (nat_lt 0 v.hops && may_forward ingress s.sets))
 forwarded_near c s ingress v not_foreign not_own not_repeat =
-    let d : is_in_domain c s v ≡ true = true_unless _ (λ no. not_foreign (judged-foreign c s v no)) in
+    let d : is_in_domain c s v ≡ true = true_unless _ (λ foreign. not_foreign (judged-foreign c s v foreign)) in
     let sdo = and_parts _ _ d in
     let repeat : is_accepted_repeat c s v ≡ false = false_unless _ (λ yes. not_repeat (judged-repeat c s v sdo.0 yes)) in
     let domain : (v.domain == s.sets.default.domain) ≡ true = either_true _ (is_accepted_repeat c s v) sdo.1 repeat in

@@ -10,7 +10,7 @@ ghost use Rattle.ptpm_journal.specs.Journal.{MayTake};
 ghost use Rattle.ptpm_journal.specs.Octets.{is_short, kind_of};
 ghost use Rattle.ptpm_journal.specs.Plain.{blank, entry_of, plain_of};
 ghost use Rattle.ptpm_journal.specs.State.{state_of};
-ghost use Rattle.ptpm_journal.specs.Turns.{IsAtEnd, IsRead, IsStuck};
+ghost use Rattle.ptpm_journal.specs.Turns.{IsAtEnd, IsAtStep, IsRead, IsStuck};
 ghost use Rattle.ptpm_host.specs.JournalNumbers.{add_number, journal_is_whole, mark_number, next_number, no_journal};
 ghost use Rattle.ptpm_host.specs.Numbers.{no_memory};
 ghost use Rattle.ptpm_c.specs.declared.kept.Hosted.TheVariants.{Nothing};
@@ -104,6 +104,8 @@ pub extern "C" fn ptpm_journal_next(
         → IsStuck (state_of j) j.crc octets.now }
     ensures version { (j : Journal) → journal_held handle.old.keeping ≡ Some j → result ≡ next_number NextError.OtherVersion
         → IsStuck (state_of j) j.crc octets.now }
+    ensures memory { (j : Journal) → journal_held handle.old.keeping ≡ Some j → result ≡ next_number NextError.OutOfMemory
+        → IsAtStep (state_of j) j.crc octets.now }
     ensures unchanged { (j : Journal) → journal_held handle.old.keeping ≡ Some j → result ≢ 0
         → (plain.new ≡ blank) × (size.new ≡ 0)
         × IsSomeAnd (journal_held handle.new.keeping) (λ k. (state_of k ≡ state_of j) × (k.crc ≡ j.crc)) }

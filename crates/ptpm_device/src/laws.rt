@@ -65,10 +65,10 @@ pub fn at_most_once_decided()
         due_decided rows c since j later ≡ due_decided rows c h k say }
 {}
 
-/// The device is asked to carry out each new SET or COMMAND that nothing refuses before, and nothing else. The row of its id may refuse
-/// it, or without a row the clock itself. It is asked for the value of each GET that is answered, of an id that the clock lacks, and
-/// of nothing else. Of a request without a row, an objection to anything else doesn't count, nor does a value of anything else.
-/// Whatever it says, the verdict and what is passed on are those of the clock without a device.
+/// The device is asked to carry out each new SET or COMMAND that nothing refuses before, and nothing else. The row of its id may
+/// refuse it, or without a row the clock itself. It is asked for the value of each GET that is answered, of an id that the clock
+/// lacks, and of nothing else. Of a request without a row, an objection to anything else doesn't count, nor does a value of
+/// anything else. Whatever it says, the verdict and what is passed on are those of the clock without a device.
 pub fn device_judged_last()
     ensures asked { (rows : List RelayedId) (c : Clock) (s : State) (v : Message) → is_asked rows c s v ≡ true →
         (judged c s v ≡ verdicts.AnsweredNew) × ((is_change (request_of v).action ≡ true)
@@ -96,9 +96,9 @@ pub fn device_judged_last()
         (turn_said rows c s say ingress datagram).forwards ≡ (turn c s ingress datagram).forwards }
 {}
 
-/// If the device is asked for a value, what it gives is the answer: one RESPONSE of the clock. To a manager's numbered GET it has 130
-/// octets at most, since it is kept. Of more than that the answer is RESPONSE_TOO_BIG, and this is kept. To any other GET it has
-/// 1,418 at most. The data sets stay.
+/// If the device is asked for a value, what it gives is the answer: one RESPONSE of the clock. To a manager's numbered GET it has
+/// 130 octets at most, since it is kept. Of more than that the answer is RESPONSE_TOO_BIG, and this is kept. To any other GET it
+/// has 1,418 at most. The data sets stay.
 pub fn given_is_answered()
     ensures answer { (rows : List RelayedId) (c : Clock) (s : State) (ingress : ℕ) (datagram octets : List ℕ) (v : Message) →
         message_of datagram ≡ Some v → is_wanted c s v ≡ true →
@@ -114,8 +114,9 @@ pub fn given_is_answered()
         ≡ after_reply s (numbered_from v) (reply_given 130 (request_of v) octets) }
 {}
 
-/// A new SET or COMMAND of one of the device's own ids is answered once, and that reply is kept. The data sets stay. If the row of the id
-/// refuses it, its error is the reply, and the device is not asked. Otherwise the device is asked, and the reply is what it says.
+/// A new SET or COMMAND of one of the device's own ids is answered once, and that reply is kept. The data sets stay. If the row of
+/// the id refuses it, its error is the reply, and the device is not asked. Otherwise the device is asked, and the reply is what it
+/// says.
 pub fn relayed_is_decided()
     ensures turned { (rows : List RelayedId) (c : Clock) (s : State) (say : Say) (ingress : ℕ)
         (datagram : List ℕ) (v : Message) (r : RelayedId) →
@@ -138,8 +139,8 @@ pub fn relayed_is_decided()
         is_asked rows c s v ≡ true }
 {}
 
-/// A clock whose device says nothing is as one that asks no device, except of the SETs and COMMANDs of the device's own ids. Without
-/// such ids there are none, and what is refused before is what the clock itself refuses.
+/// A clock whose device says nothing is as one that asks no device, except of the SETs and COMMANDs of the device's own ids.
+/// Without such ids there are none, and what is refused before is what the clock itself refuses.
 pub fn silent_device()
     ensures silent { (rows : List RelayedId) (c : Clock) (s : State) (ingress : ℕ) (datagram : List ℕ)
         → is_relayed rows datagram ≡ false

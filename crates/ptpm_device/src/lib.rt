@@ -1,5 +1,6 @@
-//! A clock whose device has a say (this project's profile): what it is asked about a datagram, and a turn with what it says. A device that has no ids of its own, and says nothing, leaves the clock as it is without this crate. The device's owner may also ask for a change
-//! at the device itself.
+//! A clock whose device has a say (this project's profile): what it is asked about a datagram, and a turn with what it says. A
+//! device that has no ids of its own, and says nothing, leaves the clock as it is without this crate. The device's owner may
+//! also ask for a change at the device itself.
 #![tactic(auto)]
 
 mod asking;

@@ -1,21 +1,21 @@
 //! What a clock's device says of a SET or COMMAND of one of its own ids.
 
-ghost use Rattle.std.specs.Prelude.{◌≡◌, ◌<◌, ℕ, [], ◌∷◌, IsTrue, List, None, false, length};
+ghost use Rattle.std.specs.Prelude.{◌≡◌, ℕ, [], IsTrue, List, None, false};
 ghost use Rattle.ptpm_codec.specs.Message.{IsDataField};
-ghost use Rattle.ptpm_data.specs.declared.ports.TheConstants.{INLINE_PORTS};
-ghost use Rattle.ptpm_data.specs.AnswerLaws.{answered_more};
 ghost use Rattle.ptpm_data.specs.ManagementId.{row_of};
+ghost use Rattle.ptpm_data.specs.Reply.{outcome_of};
 ghost use Rattle.ptpm_table.specs.Entries.{is_known};
 ghost use Rattle.ptpm_agent.specs.Agent.{IsTurned, clock_of, state_of};
 ghost use Rattle.ptpm_agent.specs.Turn.{State, turn};
 ghost use Rattle.ptpm_device.specs.Relayed.{is_change};
-ghost use Rattle.ptpm_device.specs.Saying.{IsGiven, after_reply, given_to, reply_relayed, said_value, turn_said};
+ghost use Rattle.ptpm_device.specs.Saying.{IsGiven, after_reply, given_to, relayed_outcome, reply_relayed, said_value, turn_said};
 
 use crate::asking::{Asked, asked_by, request_of, rights_of_change};
-use crate::relayed::{MOST_KEPT, RelayedId, relayed, relayed_refusal};
+use crate::relayed::{RelayedId, relayed, relayed_refusal};
+use crate::saying::given;
 use ptpm_agent::{Agent, Verdict};
 use ptpm_codec::{Action, ErrorId, view};
-use ptpm_data::{Answers, Reply, Request, data_sets_law};
+use ptpm_data::{PortAnswer, Request, What, data_sets_law};
 use ptpm_table::SureTable;
 
 /// What a device says of a datagram.
@@ -28,11 +28,11 @@ pub enum DeviceSay<'a> {
     Gives(&'a [u8]),
 }
 
-/// Keeps a manager's new SET or COMMAND of one of the device's own ids (`rows`) with its reply. That is the refusal of the id's row, if
-/// there is one, whatever the device says. Otherwise it is what the device says: its error, or its success. A COMMAND is then
-/// acknowledged. A SET is answered with the octets that the device gives, or else with those of the request; RESPONSE_TOO_BIG if they
-/// are more than 130. The clock's own turn on the datagram is then that of a repeat, and sends this reply. Answers whether that was so.
-/// Otherwise nothing changes, and the rows don't count. Takes no memory.
+/// Keeps a manager's new SET or COMMAND of one of the device's own ids (`rows`) with its reply. That is the refusal of the id's
+/// row, if there is one, whatever the device says. Otherwise it is what the device says: its error, or its success. A COMMAND is
+/// then acknowledged. A SET is answered with the octets that the device gives, or else with those of the request; RESPONSE_TOO_BIG
+/// if they are more than 130. The clock's own turn on the datagram is then that of a repeat, and sends this reply. Answers whether
+/// that was so. Otherwise nothing changes, and the rows don't count. Takes no memory.
 pub fn keep_relayed<T: SureTable + Drop>(
     agent: &mut Agent<T>,
     rows: &[RelayedId],
@@ -89,39 +89,34 @@ fn keep<T: SureTable + Drop>(
     ensures clock { clock_of T.owner agent.new ≡ clock_of T.owner agent.old }
 {
     data_sets_law(agent.sets());
-    let reply = reply_relayed(&change.request, refusal, said);
-    let answers = reply.answers.as_slice();
-    agent.keep_again(&change.manager, change.number, &change.request, answers);
+    let answer = PortAnswer {
+        port: None,
+        what: relayed_outcome(&change.request, refusal, said),
+    };
+    agent.keep_again(&change.manager, change.number, &change.request, &[answer]);
 }
 
-/// The reply to a SET or COMMAND: one answer, of the clock.
-fn reply_relayed(request: &Request<'_>, refusal: Option<ErrorId>, said: DeviceSay<'_>) -> Reply
-    ensures { result ≡ reply_relayed refusal request.now (said_value said.entry) }
+/// What a SET or COMMAND is answered.
+fn relayed_outcome(request: &Request<'_>, refusal: Option<ErrorId>, said: DeviceSay<'_>) -> What
+    ensures { outcome_of result ≡ relayed_outcome refusal request.now (said_value said.entry) }
 {
-    let mut reply = Reply::to(request);
     if let Some(error) = refusal {
-        reply.take_refusal(None, error);
-        return reply;
+        return What::Refused(error);
     }
     match said {
-        DeviceSay::Agrees => take_given(&mut reply, request.action, request.octets),
-        DeviceSay::Objects(error) => reply.take_refusal(None, error),
-        DeviceSay::Gives(octets) => take_given(&mut reply, request.action, octets),
+        DeviceSay::Agrees => given_to(request.action, request.octets),
+        DeviceSay::Objects(error) => What::Refused(error),
+        DeviceSay::Gives(octets) => given_to(request.action, octets),
     }
-    reply
 }
 
-/// Takes the answer to a SET with these octets, or that a COMMAND is done.
-fn take_given(reply: &mut Reply, action: Action, octets: &[u8])
-    requires { length reply.old.answers < INLINE_PORTS }
-    ensures { reply.new ≡ answered_more reply.old
-        (record { port = None; outcome = given_to action octets.now } ∷ []) }
+/// What a SET with these octets is answered, or that a COMMAND is done.
+fn given_to(action: Action, octets: &[u8]) -> What
+    ensures { outcome_of result ≡ given_to action octets.now }
 {
     if action == Action::Command {
-        reply.take_done(None);
-    } else if octets.len() <= MOST_KEPT {
-        reply.take_value(None, octets);
+        What::Done
     } else {
-        reply.take_refusal(None, ErrorId::ResponseTooBig);
+        given(octets)
     }
 }

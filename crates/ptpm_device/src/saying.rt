@@ -1,31 +1,33 @@
-//! What a clock's device says of a datagram that has no row in the table of the device's own ids. A refusal, and a value that is not kept, are sent in place of the clock's own turn. A
-//! value for a new GET is kept before that turn, and is then what it answers.
+//! What a clock's device says of a datagram that has no row in the table of the device's own ids. A refusal, and a value that is
+//! not kept, are sent in place of the clock's own turn. A value for a new GET is kept before that turn, and is then what it
+//! answers.
 
 ghost use Rattle.std.specs.Prelude.{◌≡◌, ◌≤◌, ◌<◌, ◌^◌, ◌++◌, [], IfSome, IsTrue, Some, false, is_some, length};
 ghost use Rattle.std.specs.FinMap as fin;
 ghost use Rattle.ptpm_codec.specs.Message.{IsDataField, IsValid};
 ghost use Rattle.ptpm_data.specs.Members.{HasPort};
 ghost use Rattle.ptpm_data.specs.Replies.{reply_of};
+ghost use Rattle.ptpm_data.specs.Reply.{outcome_of};
 ghost use Rattle.ptpm_table.specs.Entries.{is_known};
 ghost use Rattle.ptpm_table.specs.Rendering.{rendered};
 ghost use Rattle.ptpm_agent.specs.Addressing.{heard_of, request_of};
 ghost use Rattle.ptpm_agent.specs.Agent.{IsTurned, clock_of, state_of};
 ghost use Rattle.ptpm_agent.specs.Turn.{judged, numbered_from, outbox_of, turn};
 ghost use Rattle.ptpm_device.specs.Asking.{asked, is_lacked, is_wanted_new, is_wanted_once, wanted_new, wanted_once};
-ghost use Rattle.ptpm_device.specs.Saying.{Gives, Objects, after_reply, given_by, reply_given, turn_said};
+ghost use Rattle.ptpm_device.specs.Saying.{Gives, Objects, after_reply, given, given_by, reply_given, turn_said};
 
 use crate::asking::{Asked, asked_by, is_asked, is_lacked, is_reached, look, request_of};
 use crate::passing::pass_on;
 use crate::refusing::Refusing;
 use crate::relayed::MOST_KEPT;
 use ptpm_agent::{Agent, Verdict};
-use ptpm_codec::{Action, Draft, DraftBody, Envelope, ErrorId, PortIdentity, View, view};
-use ptpm_data::{Answers, Reply, Request, data_sets_law};
+use ptpm_codec::{Action, Draft, DraftBody, Envelope, ErrorId, PortIdentity, View, put, view};
+use ptpm_data::{PortAnswer, Request, Value, What, data_sets_law};
 use ptpm_table::{Heard, LongOutgoing, Look, Outgoing, ReplyTable, Sender, SureTable};
 
-/// The turn of a clock whose device objects to a datagram with this error, if the device is asked (`ask` without rows). The request is kept with
-/// that refusal, and the refusal is sent: one answer, of the clock or of each named port. Answers whether that was so. Otherwise
-/// nothing changes and nothing is sent, and the turn is the clock's own. Takes no memory.
+/// The turn of a clock whose device objects to a datagram with this error, if the device is asked (`ask` without rows). The request
+/// is kept with that refusal, and the refusal is sent: one answer, of the clock or of each named port. Answers whether that was so.
+/// Otherwise nothing changes and nothing is sent, and the turn is the clock's own. Takes no memory.
 pub fn object<T: SureTable + Drop, O: Outgoing>(
     agent: &mut Agent<T>,
     ingress: u16,
@@ -91,8 +93,9 @@ pub fn keep_value<T: SureTable + Drop>(agent: &mut Agent<T>, datagram: &[u8], oc
     }
 }
 
-/// Answers a GET without a number, of an id that the clock lacks, with the value that the device gives. The copies of it that the clock passes on are sent first. Answers whether that was so.
-/// Otherwise nothing is sent. No clock is changed by such a GET. Takes no memory.
+/// Answers a GET without a number, of an id that the clock lacks, with the value that the device gives. The copies of it that the
+/// clock passes on are sent first. Answers whether that was so. Otherwise nothing is sent. No clock is changed by such a GET. Takes
+/// no memory.
 pub fn answer_value<T: ReplyTable + Drop, O: LongOutgoing>(
     agent: &Agent<T>,
     ingress: u16,
@@ -286,20 +289,21 @@ fn keep<T: SureTable + Drop>(agent: &mut Agent<T>, get: &Asked<'_>, octets: &[u8
     ensures clock { clock_of T.owner agent.new ≡ clock_of T.owner agent.old }
 {
     data_sets_law(agent.sets());
-    let reply = reply_given(&get.request, octets);
-    let answers = reply.answers.as_slice();
-    agent.keep_again(&get.manager, get.number, &get.request, answers);
+    let answer = PortAnswer {
+        port: None,
+        what: given(octets),
+    };
+    agent.keep_again(&get.manager, get.number, &get.request, &[answer]);
 }
 
-/// The reply to a GET with these octets: one answer, of the clock. They are refused if they are too many to be kept.
-fn reply_given(request: &Request<'_>, octets: &[u8]) -> Reply
-    ensures { result ≡ reply_given 130 request.now octets.now }
+/// What is answered with these octets. They are refused if they are too many to be kept.
+pub(crate) fn given(octets: &[u8]) -> What
+    ensures { outcome_of result ≡ given 130 octets.now }
 {
-    let mut reply = Reply::to(request);
-    if octets.len() <= MOST_KEPT {
-        reply.take_value(None, octets);
-    } else {
-        reply.take_refusal(None, ErrorId::ResponseTooBig);
+    if octets.len() > MOST_KEPT {
+        return What::Refused(ErrorId::ResponseTooBig);
     }
-    reply
+    let mut value = Value::new();
+    put(&mut value, octets);
+    What::Value(value)
 }

@@ -1,5 +1,5 @@
 -- What a journal makes of a record that is added, and of the octets of a file (this project's profile).
-use Rattle.std.specs.Prelude.{◌≡◌, ◌+◌, ◌==◌, ◌&&◌, ◌||◌, nat_le, ℕ, Bool, true, List, [], length, take, drop, codes, bytes_eq, Option, Some, None, Result, Ok, Err, if◌then◌else◌}
+use Rattle.std.specs.Prelude.{◌≡◌, ◌+◌, ◌==◌, ◌&&◌, ◌||◌, nat_le, ℕ, Bool, true, List, [], length, take, drop, codes, bytes_eq, IsSomeAnd, Option, Some, None, Result, Ok, Err, if◌then◌else◌}
 use Rattle.ptpm_codec.specs.Layout.{octet}
 use Rattle.ptpm_journal.specs.declared.error.NextError.{NextError}
 use Rattle.ptpm_journal.specs.declared.error.NextError.TheVariants as refusals
@@ -7,7 +7,7 @@ use Rattle.ptpm_journal.specs.declared.framing.Frame.TheVariants as frames
 use Rattle.ptpm_journal.specs.declared.reading.Next.{Next}
 use Rattle.ptpm_journal.specs.declared.record.Head.{Head}
 use Rattle.ptpm_journal.specs.Frames.{crc_after, frame_at}
-use Rattle.ptpm_journal.specs.Journal.{MayTake, State, has_all, taken}
+use Rattle.ptpm_journal.specs.Journal.{MayTake, State, has_all, is_step, taken}
 use Rattle.ptpm_journal.specs.Octets.{found_in}
 use Rattle.ptpm_journal.specs.Torn.{may_be_torn}
 
@@ -42,6 +42,15 @@ pub record IsRead (before : State) (crc : ℕ) (octets : List ℕ) (n : Next) (a
   pub may : MayTake before n.found.entry
   pub becomes : after ≡ taken before n.found.entry
   pub counts : later ≡ crc_after crc (counted_in n octets)
+
+-- the next record is whole, and a run may make it; it is a step, for which memory may be refused
+pub record IsAtStep (s : State) (crc : ℕ) (octets : List ℕ) : Type 0 where
+  pub lead : ℕ
+  pub size : ℕ
+  pub is_lead : lead_in s.head octets ≡ Ok lead
+  pub frame : frame_at crc (drop lead octets) ≡ frames.Whole size
+  pub step : IsSomeAnd (found_in (drop 2 (take (size + 2) (drop lead octets))))
+      (λ f. MayTake s f.entry × (is_step f.entry ≡ true))
 
 -- no further record was written whole, and the head and all steps are there
 pub record IsAtEnd (s : State) (crc : ℕ) (octets : List ℕ) : Type 0 where

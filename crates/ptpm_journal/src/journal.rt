@@ -33,7 +33,7 @@ pub struct Journal {
 }
 
 impl Journal {
-    ghost use Rattle.std.specs.Prelude.{◌≢◌, ◌≤◌, ◌<◌, ◌+◌, ◌++◌, ◌∷◌, [], ℕ, Err, IfNone, IfOk, IfSome, IsErr, IsTrue, None, Ok, OnErr, OnOk, Some, drop, false, slice_get, true};
+    ghost use Rattle.std.specs.Prelude.{◌≢◌, ◌≤◌, ◌<◌, ◌+◌, ◌++◌, ◌∷◌, [], ℕ, Err, IfNone, IfOk, IfSome, IsErr, IsSomeAnd, IsTrue, None, Ok, OnErr, OnOk, Some, drop, false, slice_get, true};
     ghost use Rattle.ptpm_journal.specs.declared.record.Mark.{Mark};
     ghost use Rattle.ptpm_journal.specs.Order.{IsAllowedAt, MayBegin, marked};
     ghost use Rattle.ptpm_journal.specs.Journal.{MayTake, State, goes_on, has_all, is_in_one_row, is_step, lacks_step, placed, taken};
@@ -45,7 +45,7 @@ impl Journal {
     ghost use Rattle.ptpm_journal.specs.declared.reading.Next.{Next};
     ghost use Rattle.ptpm_journal.specs.Frames.{counted, crc_after, frame_at, framed};
     ghost use Rattle.ptpm_journal.specs.Octets.{body_of, found_in, is_short, kind_of};
-    ghost use Rattle.ptpm_journal.specs.Turns.{IsAtEnd, IsRead, IsStuck, lead_in, lead_of};
+    ghost use Rattle.ptpm_journal.specs.Turns.{IsAtEnd, IsAtStep, IsRead, IsStuck, lead_in, lead_of};
 
     /// Without a record. Takes no memory.
     pub fn new(alloc: Global) -> Journal
@@ -260,6 +260,7 @@ impl Journal {
             × (n.size < 65536) × (n.found.first + n.found.first_size ≤ n.size) × (n.found.second + n.found.second_size ≤ n.size))) }
         ensures refused { IsErr result → result ≢ Err NextError.OutOfMemory
             → IsStuck (state_of self.old) self.old.crc octets.now }
+        ensures memory { result ≡ Err NextError.OutOfMemory → IsAtStep (state_of self.old) self.old.crc octets.now }
         ensures unchanged { OnErr result ((state_of self.new ≡ state_of self.old) × (self.new.crc ≡ self.old.crc)) }
     {
         let lead = self.lead_in(octets)?;
@@ -298,6 +299,8 @@ impl Journal {
             × (state_of self.new ≡ taken (state_of self.old) f.entry) × (self.new.crc ≡ crc_after self.old.crc counted.now)) }
         ensures refused { (f : Found) → IsErr result → result ≢ Err NextError.OutOfMemory
             → found_in (drop 2 counted.now) ≡ Some f → MayTake (state_of self.old) f.entry → ⊥ }
+        ensures memory { result ≡ Err NextError.OutOfMemory → IsSomeAnd (found_in (drop 2 counted.now))
+            (λ f. MayTake (state_of self.old) f.entry × (is_step f.entry ≡ true)) }
         ensures within { IfOk result (λ f. (f.first + f.first_size + 2 ≤ length counted.now)
             × (f.second + f.second_size + 2 ≤ length counted.now)) }
         ensures unchanged { OnErr result ((state_of self.new ≡ state_of self.old) × (self.new.crc ≡ self.old.crc)) }

@@ -8,6 +8,7 @@
 #include "notices.h"
 #include "program.h"
 #include "words.h"
+#include <ctype.h>
 #include <errno.h>
 #include <getopt.h>
 #include <inttypes.h>
@@ -366,10 +367,21 @@ static void read_every_port(struct task *task, const struct words *words) {
     task->is_survey = task->is_of_clock = true;
 }
 
+/* Whether it has the 16 digits of a clockIdentity, however they are parted. */
+static bool is_like_identity(const char *text) {
+    size_t digits = 0;
+    for (; *text != '\0'; text++) {
+        if (isxdigit((unsigned char)*text)) digits++;
+        else if (strchr(".:-", *text) == NULL) return false;
+    }
+    return digits == 16;
+}
+
 static void read_id(struct task *task, const char *text) {
     bool is_read = task->is_survey || task->action == PTPM_GET;
     long id = is_read ? read_id_named(text) : id_named(text);
-    if (id < 0) refuse("%s: it is neither a managementId of the list in ptpm-manage --help nor four hexadecimal digits", text);
+    const char *next = is_like_identity(text) ? ": --target names a clock" : "";
+    if (id < 0) refuse("%s: it is neither a managementId of the list in ptpm-manage --help nor four hexadecimal digits%s", text, next);
     task->id = (uint16_t)id;
 }
 

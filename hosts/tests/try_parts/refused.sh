@@ -26,6 +26,8 @@ $to_utc -32769 leap61 0 leap59 0 currentUtcOffsetValid 1|currentUtcOffset -32769
 -i near0 --target $to -k $work/no/folder/number set PRIORITY1 1|the request was not sent: --numbers $work/no/folder/number: No such file or directory
 -i near0 --target $to set PRIORITY1 --text 7|PRIORITY1 has no text
 -i near0 --target $to get PRIORITY|PRIORITY: it is neither a managementId
+-i near0 set $identity PRIORITY1 3|four hexadecimal digits: --target names a clock
+-i near0 get aa-bb-cc-ff-fe-dd-ee-01 PRIORITY1|four hexadecimal digits: --target names a clock
 -i near0 --target $to fetch PRIORITY1|fetch: it is not one of get, set, command, survey, collect, status, plan, apply, resume, rollback and applies
 -i near0 --target aabbcc.fffe.ddee1 get PRIORITY1|--target aabbcc.fffe.ddee1: it takes
 -i near0 --target $to-x get PRIORITY1|-x is not a port

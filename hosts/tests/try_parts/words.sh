@@ -13,7 +13,11 @@ $identity far0 a_name_of_far0__|a_name_of_far0__: it has over 15 octets: ip link
 -d 256 $identity far0|-d 256: it takes a number from 0 to 255
 -m 0011223344556677 $identity far0|-m 0011223344556677: it takes
 -m $other/65535 $identity far0|-m $other/65535: port 65535 means every port
+ffffffffffffffff far0|ffffffffffffffff: it means every clock: a clock's own is, for example, the MAC of an interface
+0000000000000000 far0|0000000000000000: it means no clock: a clock's own is, for example, the MAC of an interface
 -m ffffffffffffffff/1 $identity far0|-m ffffffffffffffff/1: it means every clock
+-m $other/1 -m $other/2 -m $other-1 $identity far0|-m $other/1: the manager is named twice: once is enough
+$(printf -- "-m $other/%s " {1..65}) $identity far0|-m $other/65: 64 managers at most
 -m $other/1 -m $identity/2 $identity far0|-m $identity/2: it has the identity of the clock, which hears no such manager
 -u $work/socket -o $work/nothing $identity|$work/nothing: No such file or directory
 -u $work/socket -o $work $identity|$work: it is neither a file nor a pipe
@@ -21,8 +25,11 @@ $identity far0 a_name_of_far0__|a_name_of_far0__: it has over 15 octets: ip link
 -u $work/socket --ask $work/nothing $identity|$work/nothing: No such file or directory
 -u $work/socket --ask-time 0 $identity|--ask-time 0: it takes a number from 1 to 3600
 -u $work/socket --ask-time 5 $identity|--ask-time: its program is missing: --ask PROGRAM
+-u $work/socket --ask-time 10 $identity|--ask-time: its program is missing: --ask PROGRAM
+--diverted 10320 $identity far0|--diverted: --ptp4l PATH is missing
+--diverted 10320 --ptp4l $work/socket -2 $identity far0|--diverted and -2 exclude each other
 -f $identity far0|-f: its Unix socket is missing: -u PATH
---unix-mode 666 $identity far0|--unix-mode: its Unix socket is missing: -u PATH
+--unix-mode 660 $identity far0|--unix-mode: its Unix socket is missing: -u PATH
 --unix-group root $identity far0|--unix-group: its Unix socket is missing: -u PATH
 END
 check "clock --version" "$(./clock --version | grep -q '^ptpm-clock [0-9]' && echo yes)"

@@ -1,7 +1,7 @@
-use Rattle.std.proofs.Common.{◌≡◌, ◌∙◌, List, None, ap, map, true, sym, subst}
+use Rattle.std.proofs.Common.{◌≡◌, [], ◌∷◌, None, ap, true, sym, subst}
 use Rattle.ptpm_codec.specs.Message.{IsDataField}
 use Rattle.ptpm_data.specs.ManagementId.{row_of}
-use Rattle.ptpm_data.specs.Reply.{Answer, ReplyValue, answer_of}
+use Rattle.ptpm_data.specs.Reply.{Outcome}
 use Rattle.ptpm_agent.specs.Turn.{NumberedRequest}
 use Rattle.ptpm_device.specs.Relayed.{is_change}
 use Rattle.ptpm_device.specs.Saying.{reply_relayed, said_value}
@@ -18,11 +18,10 @@ keep_again-requires-clause-fits g c =
     let q = c.change.inside.request in
     let say = said_value c.args.said in
     let made = reply_relayed c.args.refusal q say in
-    let is : map answer_of c.as_slice-answers.result.now ≡ made.answers =
-    ap (λ xs. map answer_of xs) c.as_slice-answers.ensures.value ∙ ap (λ (r : ReplyValue). r.answers) (c.reply.view_is ∙ c.reply_relayed-reply.ensures) in
     reply_relayed-fits c.args.refusal q say _
     (subst (λ (r : NumberedRequest). is_change r.request.action ≡ true) (sym c.change.view_is) c.requires.change)
     (subst (λ (r : NumberedRequest). row_of r.request.id ≡ None) (sym c.change.view_is) c.requires.lacked)
     (subst (λ (r : NumberedRequest). IsDataField r.request.octets) (sym c.change.view_is) c.requires.request)
     (say_given c.args.said c.requires.given)
-    (ap (λ (xs : List Answer). record { action = made.action; id = made.id; answers = xs }) is)
+    (ap (λ (o : Outcome). record { action = made.action; id = made.id; answers = record { port = None; outcome = o } ∷ [] })
+    c.relayed_outcome.ensures)

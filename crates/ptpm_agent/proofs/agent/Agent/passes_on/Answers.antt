@@ -1,4 +1,4 @@
-use Rattle.std.proofs.Common.{◌≡◌, ◌∙◌, ap, sym}
+use Rattle.std.proofs.Common.{◌∙◌, ap, sym}
 use Rattle.std.specs.Prelude.{◌&&◌, nat_lt, not}
 use Rattle.ptpm_codec.specs.Identity.{same_clock}
 use Rattle.ptpm_data.specs.Members.{may_forward}
