@@ -1,5 +1,5 @@
 -- The table of a device's own ids, judged id by id.
-use Rattle.std.proofs.Common.{arith, ◌≡◌, ℕ, ◌+◌, ◌<◌, ◌≤◌, List, [], ◌∷◌, Option, Some, None, Result, Ok, Err, drop, length, get_or, drop-cons, add-one, refl, ap, sym, subst, IsErrAnd, MatchResult, ◌∙◌}
+use Rattle.std.proofs.Common.{◌≡◌, ℕ, ◌+◌, ◌<◌, ◌≤◌, List, Option, Some, None, Result, Ok, Err, drop, length, get_or, drop-cons, add-one, refl, ap, sym, subst, IsErrAnd, MatchResult, ◌∙◌}
 use Rattle.std.proofs.Math.ListN.{drop_of_length-le}
 use Rattle.std.specs.Option.{option_or}
 use Rattle.ptpm_data.specs.Start.{unless}

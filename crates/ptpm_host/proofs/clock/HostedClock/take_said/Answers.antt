@@ -1,5 +1,5 @@
 -- A reply that is kept is sent by the clock's own turn. A datagram of none of the device's ids is as at a clock without such ids.
-use Rattle.std.proofs.Common.{[], ◌≡◌, ◌∙◌, ◌≤◌, List, ℕ, ap, arith, length, refl, subst, sym, take}
+use Rattle.std.proofs.Common.{[], ◌∙◌, ◌≤◌, List, ℕ, ap, arith, length, refl, subst, sym, take}
 use Rattle.ptpm_agent.specs.Agent.{IsTurned}
 use Rattle.ptpm_agent.specs.Turn.{Turned, outbox_of, turn}
 use Rattle.ptpm_data.specs.Changed.{changed}
