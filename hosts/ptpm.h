@@ -16,7 +16,7 @@
      handle points to. There is one live copy of a handle. The host may move it, and neither reads nor writes anything inside it.
    - malloc, realloc and free come from one allocator. malloc aligns each block to the greatest power of two up to 16 that divides
      its size. No call is made from a signal handler, or in a forked child of a process with threads.
-   - A call has the stack that it needs. As the library is built for x86-64 and aarch64, most calls take 600 octets. The call
+   - The stack has room for the call. As the library is built for x86-64 and aarch64, most calls take 600 octets. The call
      ptpm_clock_take takes 10,200, ptpm_clock_decide 8,800, and the restore of a clock 8,300. The calls ptpm_clock_set and
      ptpm_clock_saving take 7,700, ptpm_clock_image_of 6,600, and a start of a clock 5,200. The call ptpm_rollout_turn takes
      5,200, ptpm_journal_add 4,800, and the restore of an asker 4,600. The call ptpm_clock_image takes 2,800,
@@ -1205,7 +1205,7 @@ uint16_t ptpm_limits_say(const struct ptpm_limit *limits, size_t limit_count, co
 
 /* Carries out a SET or a COMMAND of the device's owner, as one of a manager with every right. This call is for a command line of
    the device, or for another protocol of management. What is kept of each manager stays: a copy of its latest request gets the
-   cached answer. The host asks its hardware before: the device has no say here.
+   cached answer. The host asks its hardware first: in this call the device can't object.
    Takes:   the action, the id and the port of the target, counted from 1, or 0xFFFF for every port; size octets, the dataField.
    Returns: PTPM_SET_HERE; or why not, and then nothing changes.
    Writes:  *changed: the members that have another value after the call than before it; all zeros if the call is refused. *error:
