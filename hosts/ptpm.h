@@ -1104,8 +1104,8 @@ enum ptpm_handled ptpm_clock_handle_shared(struct ptpm_clock *clock, uint16_t po
                                            struct ptpm_answer *answers, size_t room, struct ptpm_shared *shared);
 
 /* Gives a clock a table of the ids that its device has and the clock lacks, instead of an earlier table. From then on a SET or COMMAND
-   of these ids reaches the device, like those of the clock's own 21 ids (ptpm_clock_ask). But first the clock checks the request, in
-   this order, and answers the first of these errors that applies. That answer is kept:
+   of these ids reaches the device, like those of the clock's own 21 ids (ptpm_clock_ask). But first the clock checks the request. If
+   one of these errors applies, the first in this order is the answer, and is kept:
    - NOT_SETABLE for a SET, or NOT_SUPPORTED for a COMMAND, that is not among the id's actions;
    - NOT_SUPPORTED for a manager without the id's right;
    - WRONG_LENGTH for a dataField of fewer octets than least, or of more than most;
@@ -1143,8 +1143,8 @@ enum ptpm_asking ptpm_clock_ask(const struct ptpm_clock *clock, uint16_t port, c
    Returns: what became of the datagram; or why it was not judged, the first of these: PTPM_NO_CLOCK, PTPM_NO_PORT, PTPM_NO_ROOM,
             PTPM_BAD_SAY, PTPM_UNDER_WAY (ptpm_clock_undertake) and PTPM_UNSAVED. A datagram that is not judged counts as lost.
    Writes:  all of *taken: zeros if the datagram was not judged. And the first taken->count places of sent, as ptpm_clock_handle
-            does. If messages wait, taken->count is 0, and the first taken->waiting places of sent have zeros. No member changed
-            unless the answer is PTPM_ANSWERED_NEW, nor after a GET or a request that was refused.
+            does. If messages wait, taken->count is 0, and the first taken->waiting places of sent have zeros. Members change
+            only with PTPM_ANSWERED_NEW, and only if that request was carried out and is not a GET.
    Caller:  sends these messages in their order, each at its port, and then acts on each change. A clock that does not save is
             first saved, as after ptpm_clock_handle. If taken->waiting is not 0, the caller acts on the change once these messages
             are given out. If the caller has written to its hardware and the answer is not PTPM_ANSWERED_NEW, it undoes the write:
@@ -1233,19 +1233,19 @@ enum ptpm_observed ptpm_clock_observe(struct ptpm_clock *clock, const struct ptp
 enum ptpm_read ptpm_clock_read(const struct ptpm_clock *clock, uint16_t id, uint16_t port, uint8_t *octets, size_t room,
                                size_t *size);
 
-/* Makes the clock's image: what a host saves before it sends the messages of an answer PTPM_ANSWERED_NEW. From it the clock
-   continues after a restart. It has the clock's data sets, the latest request of each manager and the reply to it. It has the change
-   that is under way (ptpm_clock_undertake). The managers and what each of them may change are not in it.
+/* Makes the clock's image: what a host saves after PTPM_ANSWERED_NEW, before it sends the messages. From it the clock continues after
+   a restart. It has the clock's data sets, the latest request of each manager with the reply to it, and the change that is under way
+   (ptpm_clock_undertake). It lacks the managers and their rights.
    Takes:   room octets; PTPM_CLOCK_IMAGE_BOUND of its ports and managers are enough.
    Returns: PTPM_SAVED, or why not.
    Writes:  *size, and that number of octets from octets on: the image. If the call is refused, *size is 0 and no octet is written. */
 enum ptpm_saved ptpm_clock_image(const struct ptpm_clock *clock, uint8_t *octets, size_t room, size_t *size);
 
 /* Writes the copies that a boundary clock forwards of a management message that this library does not read. Such a message is
-   refused only for its actionField, its TLV or its displayData: PTPM_BAD_ACTION to PTPM_BAD_TEXT. It is forwarded like any other
-   message of sdoId 0 and the clock's domain. That is only if it has a hop left and is not for exactly this clock, and only between
-   ports that may forward. Each copy has octet 45, boundaryHops, decremented. Every other octet is as it came. Nothing is answered,
-   and nothing changes. A host that wants such messages to pass calls ptpm_clock_transit after ptpm_clock_take.
+   refused only for its actionField, its TLV or its displayData: PTPM_BAD_ACTION to PTPM_BAD_TEXT. The rules are those of any other
+   message. It needs sdoId 0, the clock's domain and a hop left, and must not be for exactly this clock. It passes only between ports
+   that may forward. Each copy has octet 45, boundaryHops, decremented. Every other octet is as it came. Nothing is answered, and
+   nothing changes. A host that wants such messages to pass calls ptpm_clock_transit after ptpm_clock_take.
    Takes:   the port it came in at, and the datagram, of size octets; and room places, as many as the clock has ports, or more.
    Returns: how many copies there are: 0 for any other datagram, without a clock, for a port that it lacks, and for fewer places.
    Writes:  that many places of sent, each with its port. */
@@ -1589,13 +1589,13 @@ enum ptpm_asked ptpm_asker_wake(struct ptpm_asker *asker, uint64_t now, struct p
    Writes:  all of *handed. */
 enum ptpm_asked ptpm_asker_unsent(struct ptpm_asker *asker, struct ptpm_handed *handed);
 
-/* Says that the session is in its file, on the disk, after PTPM_SAVE_IT.
+/* Confirms, after PTPM_SAVE_IT, that the session is in its file on the disk.
    Takes:   the time.
    Returns: PTPM_ASKED.
    Writes:  all of *handed. */
 enum ptpm_asked ptpm_asker_saved(struct ptpm_asker *asker, uint64_t now, struct ptpm_handed *handed);
 
-/* Says that what was handed out to be noted is noted, after PTPM_NOTE_BEGUN and PTPM_NOTE_ANSWER.
+/* Confirms, after PTPM_NOTE_BEGUN and PTPM_NOTE_ANSWER, that the note is made.
    Returns: PTPM_ASKED; or PTPM_COUNT_AT_MAXIMUM or PTPM_NO_MEMORY, and then nothing changes.
    Writes:  all of *handed.
    Memory:  a copy of the dataField of the request, until it is answered. */
@@ -1748,10 +1748,10 @@ static inline size_t ptpm_newest_image(const uint8_t *octets, size_t place, size
 
 /* Says whether a message is to be forwarded, and if so, records it. It is not to be forwarded if it is recorded already, or there is
    no place for it. Two messages count as the same if their sourcePortIdentity, sequenceId, targetPortIdentity, actionField and
-   managementId are the same. So a message that circulates is forwarded once, and one that keeps coming once per time of a record.
+   managementId are the same. So a message that circulates is forwarded once, and one that keeps coming once per `time`.
    Takes:   the message, of size octets; now, in a unit of the host's choice; and time, in that unit: how long a record lasts.
-   Returns: whether it is to be forwarded; false too for what is not a management message. One that the library does not
-            read counts as one (ptpm_clock_transit).
+   Returns: whether it is to be forwarded; false too for what is not a management message. A message for ptpm_clock_transit counts
+            as a management message.
    Writes:  one of the places of *table, if it returns true. */
 bool ptpm_passed_on_is_first(struct ptpm_passed_on *table, const uint8_t *message, size_t size, uint64_t now, uint64_t time);
 
