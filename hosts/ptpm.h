@@ -238,7 +238,7 @@ struct ptpm_shared {
     uint64_t count;                     /* how many answers were written */
 };
 
-/* Which members have another value after a datagram than before it: of the clock, and of port 1, port 2 and so on. */
+/* Which members a datagram changed: of the clock, and of port 1, port 2 and so on. */
 struct ptpm_changed {
     uint32_t clock;                     /* PTPM_CHANGED_IDENTITY to PTPM_CHANGED_TIME_SOURCE, summed up */
     uint8_t ports[64];                  /* PTPM_CHANGED_PORT_STATE to PTPM_CHANGED_PORT_LOG_MIN_PDELAY, summed up */
@@ -275,7 +275,7 @@ enum {
 struct ptpm_taken {
     PTPM_AT_EIGHT uint64_t count;       /* how many messages were written */
     uint64_t waiting;                   /* how many more wait until the clock is saved (ptpm_clock_next) */
-    struct ptpm_changed changed;        /* the members that have a different value than before */
+    struct ptpm_changed changed;        /* the members that the datagram changed */
 };
 
 /* What a device is asked (ptpm_clock_ask): to carry out a SET or a COMMAND, or for the value of a GET. All zeros: nothing. */
@@ -601,9 +601,9 @@ enum { PTPM_MOST_ANSWERS = 16384, PTPM_SURVEY_PORT = 65534 };
 /* What calls return. 0 says that the call was done. 1 to 31 say what became of a datagram or of a request. From 32 on the call was
    refused (ptpm_is_refusal). 48 to 63 say why nothing starts, or an observation is refused. 64 to 101 say which member is out of
    its range. 104 to 110 say why a restore is refused. 112 says that a request can't be given up. 113 to 117 say why words are not a
-   dataField. 118 and 119 say that something is not saved. 120 says that a handle holds no asker. 121 and 122 say
-   that what a device says is not taken. 123 and 124 say that a change of the device is under way, or none. 126 to 132 say why a
-   record of a journal, or an event of a rollout, is not taken.
+   dataField. 118 and 119 say that something is not saved. 120 says that a handle holds no asker. 121 says that the library refuses
+   what a device says. 123 and 124 say that a change of the device is under way, or none. 126 to 132 say why a record of a journal, or
+   an event of a rollout, is refused, and 133 to 138 why a table of ids is.
 
    Each kind of call has a type for its answers. With -Wenum-compare gcc, g++ and clang++ warn if an answer is compared with a
    name of a different kind. A name that several kinds of calls return is a plain number, and compares with each type. Each type has
@@ -1183,7 +1183,7 @@ enum ptpm_asking ptpm_clock_under_way(const struct ptpm_clock *clock, struct ptp
             Or why not, the first of these: PTPM_NO_CLOCK (also for a clock that does not save), PTPM_NOTHING_UNDER_WAY,
             PTPM_NO_ROOM, PTPM_BAD_SAY and PTPM_UNSAVED (as ptpm_clock_take). The change then stays under way.
    Writes:  what ptpm_clock_take writes.
-   Caller:  after PTPM_UNSAVED takes the messages that were released or saves the clock, and calls again. If the device has the
+   Caller:  after PTPM_UNSAVED sends the released messages (ptpm_clock_next) or saves the clock, and calls again. If the device has the
             change and the answer is not PTPM_ANSWERED_NEW, the caller undoes the change: the clock was restored without that
             manager. */
 enum ptpm_handled ptpm_clock_decide(struct ptpm_clock *clock, const struct ptpm_say *say, struct ptpm_sent *sent, size_t room,
@@ -1208,8 +1208,8 @@ uint16_t ptpm_limits_say(const struct ptpm_limit *limits, size_t limit_count, co
    cached answer. The host asks its hardware first: in this call the device can't object.
    Takes:   the action, the id and the port of the target, counted from 1, or 0xFFFF for every port; size octets, the dataField.
    Returns: PTPM_SET_HERE; or why not, and then nothing changes.
-   Writes:  *changed: the members that have another value after the call than before it; all zeros if the call is refused. *error:
-            the managementErrorId with PTPM_SET_REFUSED, and otherwise 0.
+   Writes:  *changed: the members that the call changed; all zeros if it is refused. *error: the managementErrorId with
+            PTPM_SET_REFUSED, and otherwise 0.
    Caller:  acts on each change, and saves the clock. A clock that saves (ptpm_clock_saving) is unsaved after it, whether it was
             before or not. The caller says "done" to the owner once an image that was made later is saved. */
 enum ptpm_set_here ptpm_clock_set(struct ptpm_clock *clock, uint8_t action, uint16_t id, uint16_t port, const uint8_t *octets,
