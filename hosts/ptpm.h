@@ -603,7 +603,7 @@ enum { PTPM_MOST_ANSWERS = 16384, PTPM_SURVEY_PORT = 65534 };
    its range. 104 to 110 say why a restore is refused. 112 says that a request can't be given up. 113 to 117 say why words are not a
    dataField. 118 and 119 say that something is not saved. 120 says that a handle holds no asker. 121 says that the library refuses
    what a device says. 123 and 124 say that a change of the device is under way, or none. 126 to 132 say why a record of a journal, or
-   an event of a rollout, is refused, and 133 to 138 why a table of ids is.
+   an event of a rollout, is refused. 133 to 138 say why a table of ids is.
 
    Each kind of call has a type for its answers. With -Wenum-compare gcc, g++ and clang++ warn if an answer is compared with a
    name of a different kind. A name that several kinds of calls return is a plain number, and compares with each type. Each type has
