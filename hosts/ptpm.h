@@ -667,8 +667,8 @@ enum { PTPM_MOST_ANSWERS = 16384, PTPM_SURVEY_PORT = 65534 };
    PTPM_TOO_MANY_PORTS, PTPM_TARGET_IS_ZERO or PTPM_NO_MEMORY, in this order. A survey of every clock is refused with the first or
    the last of these. A survey of one clock is refused with any of them except the two about ports. An asker is refused as a
    session is, and with PTPM_MANAGER_TWICE before PTPM_NO_MEMORY if `nobody` is the manager's port. A clock is refused with
-   PTPM_NO_PORTS, PTPM_TOO_MANY_PORTS, PTPM_NO_MEMORY or one of the other names below. Of these PTPM_IDENTITY_IS_ZERO comes last.
-   PTPM_OTHER_SIZES comes before all of them, and only for ptpm_clock_start_sized and the like. */
+   PTPM_NO_PORTS, PTPM_TOO_MANY_PORTS, PTPM_NO_MEMORY or one of the other names below. PTPM_IDENTITY_IS_ZERO is judged last, and
+   PTPM_OTHER_SIZES before all others, but only by ptpm_clock_start_sized and the like. */
 __extension__ enum PTPM_FOUR_OCTETS(ptpm_started) {
     PTPM_STARTED = 0,
     PTPM_START_NO_MEMORY = PTPM_NO_MEMORY,
