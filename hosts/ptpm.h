@@ -146,9 +146,9 @@ struct ptpm_port_settings {
    IEEE 1588-2019). Start from all zeros, struct ptpm_observed_clock observed = { 0 }; a member without its has_ flag stays. A
    flag is set if it is not 0. A grandmaster is observed as a whole. If is_grandmaster is set, the grandmaster is the clock
    itself, and the members of a grandmaster and of the parent port do not count. Otherwise, if has_grandmaster is set, the
-   grandmaster is the one that these members name. If neither is set, the grandmaster stays; if that is the clock itself, it gets the
-   clock's observed quality. What only managers set can't be observed. Managers may also set clock_accuracy, utc_offset, the two
-   leaps and utc_valid: the later value counts. */
+   grandmaster is the one that these members name. If neither is set, the grandmaster stays. A clock that is its own grandmaster
+   then shows its observed quality as the grandmaster's. What only managers set can't be observed. Managers may also set
+   clock_accuracy, utc_offset, the two leaps and utc_valid: the later value counts. */
 struct ptpm_observed_clock {
     PTPM_AT_EIGHT int64_t offset_from_master; /* in nanoseconds times 2^16 */
     int64_t mean_path_delay;            /* in nanoseconds times 2^16 */
@@ -349,8 +349,8 @@ enum { PTPM_GET = 0, PTPM_SET = 1, PTPM_COMMAND = 3 };
 struct ptpm_survey { void *at; PTPM_TO_EIGHT bool live; bool restored; };
 
 /* One manager, and the GET that it sends to every port of every clock, or of one clock. A GET to every clock is answered whatever its
-   number is. A late answer to an earlier GET with the same number and id counts for this survey. So use a number if no message
-   with it can still be on its way. No session may have the same portIdentity. Port 0 stands for PTPM_SURVEY_PORT, which no session should
+   number is. A late answer to an earlier GET with the same number and id counts for this survey. So choose a number that no
+   message still on its way has. No session may have the same portIdentity. Port 0 stands for PTPM_SURVEY_PORT, which no session should
    have. */
 struct ptpm_survey_settings {
     uint16_t port;                      /* portNumber of the manager; 0 for PTPM_SURVEY_PORT */
@@ -1284,8 +1284,8 @@ enum ptpm_saved ptpm_clock_image_of(struct ptpm_clock *clock, uint8_t *octets, s
 
 /* The caller confirms that a restart would find the image of this token. From then on strangers are shown what the image has, and
    ptpm_clock_next gives the messages that waited when the image was made.
-   Takes:   the token of the latest ptpm_clock_image_of. It counts once. If no change waited when the image was made, it no longer
-            counts after an observation.
+   Takes:   the token of the latest ptpm_clock_image_of. It counts once. If no change waited when the image was made, it does not
+            count after a later observation.
    Returns: PTPM_SAVED. PTPM_ACT_NOW if the image has a change that is still under way, once for each change and never for one that a
             restore found. Or PTPM_NO_CLOCK (also for a clock that does not save) or PTPM_OTHER_IMAGE (for any other token), and then
             nothing changes.
@@ -1713,8 +1713,8 @@ static inline void ptpm_rollout_stop_any(struct ptpm_rollout *rollout) {
 #define ptpm_rollout_stop(rollout) ptpm_rollout_stop_any(rollout)
 
 /* Seals an image: writes after it `ptps`, the count of saves, and the CRC-32 of all octets before the CRC-32. These show damage.
-   Takes:   room octets, whose first size are the image; and the count, one more at each save. A host calls ptpm_image_seal, which
-            takes size before room.
+   Takes:   room octets, which begin with an image of size octets; and the count, one more at each save. A host calls
+            ptpm_image_seal, which takes size before room.
    Returns: PTPM_SAVED; or PTPM_NO_ROOM if room is less than size and PTPM_SEAL_OCTETS, and then no octet is written.
    Writes:  *sealed: how many octets image and seal have, 0 if the call is refused; and the PTPM_SEAL_OCTETS octets after the image. */
 enum ptpm_saved ptpm_image_seal_in(uint8_t *octets, size_t room, size_t size, uint64_t count, size_t *sealed);
