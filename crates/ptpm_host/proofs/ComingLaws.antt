@@ -239,7 +239,7 @@ module _ (c : DeviceClock) where
     new_alone v (Some reply) = refl
 
     said_at_alone : (v : Message) (w : Verdict)
-        → outbox_of (said_at w c s port datagram v say) ≡ outbox_of (said_at w c (record { sets = s.sets; entries = e }) port datagram v say)
+        → outbox_of (said_at w c.rows c.clock s port datagram v say) ≡ outbox_of (said_at w c.rows c.clock (record { sets = s.sets; entries = e }) port datagram v say)
     said_at_alone v verdicts.AnsweredNew = new_alone v (reply_said c.rows c.clock s.sets v.source (request_of v) say)
     said_at_alone v verdicts.AnsweredUnnumbered = unnumbered_alone v (reply_told (request_of v) say)
     said_at_alone v _ = own

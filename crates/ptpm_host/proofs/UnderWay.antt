@@ -1,7 +1,7 @@
 -- What a clock asks of its device may be under way.
 use Rattle.std.proofs.Common.{arith, ◌≡◌, ◌∙◌, ◌≤◌, ◌+◌, ◌&&◌, ◌∷◌, ap, refl, subst, sym, Bool, true, false, ℕ, List, [], length, Option, Some, None, Ok, Err}
-use Rattle.std.specs.Prelude.{nat_le, not, take, is_none, is_some, if◌then◌else◌}
-use Rattle.std.proofs.lemmas.Bool.{false≢true, and_from, and_parts, eq-eqb, le-leb, leb-true}
+use Rattle.std.specs.Prelude.{nat_le, take, is_none, is_some, if◌then◌else◌}
+use Rattle.std.proofs.lemmas.Bool.{false≢true, and_from, and_parts, eq-eqb, le-leb, leb-true, not-false}
 use Rattle.std.proofs.lemmas.Bool.Decides.{nat_tests}
 use Rattle.std.proofs.lemmas.List.{length-drop, length-take, take_all}
 use Rattle.ptpm_codec.specs.declared.error.ErrorId.{ErrorId}
@@ -13,8 +13,8 @@ use Rattle.ptpm_data.specs.declared.management_id.Layout.{Layout}
 use Rattle.ptpm_data.specs.declared.management_id.Layout.TheVariants as layouts
 use Rattle.ptpm_data.specs.declared.port_setting.PortSetting.TheVariants as settings
 use Rattle.ptpm_data.specs.declared.rights.Rights.{Rights}
-use Rattle.ptpm_data.specs.ManagementId.{RowValue, has_action, row_of, set_of}
-use Rattle.ptpm_data.specs.Refusals.{has_right, is_length, is_set_length, is_set_value, is_value, refusal_at, refusal_of}
+use Rattle.ptpm_data.specs.ManagementId.{RowValue, row_of, set_of}
+use Rattle.ptpm_data.specs.Refusals.{is_length, is_set_length, is_set_value, is_value, refusal_at, refusal_of}
 use Rattle.ptpm_data.specs.Request.{RequestValue}
 use Rattle.ptpm_data.specs.SetForm.{SetField, NoSet, Empty, TextUpTo, AnyOctet, from◌to◌, either◌to◌or◌, MechanismNumber, minus◌to◌, NotBothLeaps}
 use Rattle.ptpm_data.proofs.Keeping.{suits_from}
@@ -28,6 +28,7 @@ use Rattle.ptpm_codec.specs.Refusal.{refusal}
 use Rattle.ptpm_agent.proofs.Turns.{message_of-reading, reading-message_of}
 use Rattle.ptpm_codec.specs.Spelling.{Spells, SpellsBody}
 use Rattle.ptpm_codec.proofs.ReadingLaws.{message_of-spells, message_size, spells-message_of}
+use Rattle.ptpm_codec.proofs.RefusalLaws.{first_of-none}
 use Rattle.ptpm_agent.specs.Addressing.{request_of}
 use Rattle.ptpm_agent.specs.Turn.{NumberedRequest, State, numbered_from}
 use Rattle.ptpm_device.specs.declared.relayed.RelayedId.{RelayedId}
@@ -106,23 +107,18 @@ accepted_fits q rights change none = accepted_at (row_of q.id) q rights change n
 relayed_fits : (r : RelayedId) (size : ℕ) → is_relayed_length r size ≡ true → size ≤ 130
 relayed_fits r size fits = leb-true _ _ (and_parts _ _ (and_parts _ _ fits).1).1
 
+relayed_size : (r : RelayedId) (q : RequestValue) (rights : Rights)
+    → relayed_refusal r q rights ≡ None
+    → is_relayed_length r (length q.octets) ≡ true
+unfolding relayed_refusal
+relayed_size r q rights none = grind (arith, first_of-none, not-false)
+
 open_fits : (o : Option RelayedId) (q : RequestValue) (rights : Rights)
     → is_change q.action ≡ true
     → rows.refusal_at o q rights ≡ None
     → length q.octets ≤ 130
-unfolding relayed_refusal
 open_fits None q rights change none = accepted_fits q rights change none
-open_fits (Some r) q rights change none =
-    relayed_fits r (length q.octets)
-    (sized (not (has_action q.action r.actions.0)) (not (has_right r.right.0 rights)) (is_relayed_length r (length q.octets)) none)
-  where
-    sized : (a b fits : Bool) {tail : Option ErrorId} {x y z : ErrorId}
-        → (if a then Some x else if b then Some y else if not fits then Some z else tail) ≡ None
-        → fits ≡ true
-    sized true b fits none = absurd cc
-    sized false true fits none = absurd cc
-    sized false false true none = refl
-    sized false false false none = absurd cc
+open_fits (Some r) q rights change none = relayed_fits r (length q.octets) (relayed_size r q rights none)
 
 -- ---- a message alone
 

@@ -114,6 +114,7 @@ impl HostedClock {
         ensures sets { self.new.agent.sets
             ≡ changed_by (request_of message.now) all_rights self.old.agent.sets }
         ensures table { self.new.agent.table ≡ self.old.agent.table }
+        ensures relayed { self.new.relayed ≡ self.old.relayed }
         ensures verdict { result.verdict ≡ owner_verdict message.now Verdict.AnsweredNew }
         ensures count { result.count ≤ length room.new }
         ensures whole { All IsWhole (take result.count room.new) }

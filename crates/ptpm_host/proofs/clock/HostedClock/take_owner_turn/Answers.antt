@@ -27,7 +27,7 @@ use Rattle.ptpm_host.specs.Changing.{owned_at, owner_by, owner_clock, owner_turn
 use Rattle.std.proofs.lemmas.Grind.{common_steps}
 use Rattle.ptpm_data.proofs.Answering.{new_few}
 use Rattle.ptpm_data.proofs.Differing.{nothing_changed}
-use Rattle.ptpm_table.specs.Tables.{entries_of_block}
+use Rattle.ptpm_table.specs.Tables.{entries_of_block, owner_of_block}
 use Rattle.ptpm_host.specs.Clock.{clock_in, messages_in, state_in}
 use Rattle.ptpm_host.specs.OutboxLaws.{kept_by_none}
 use Rattle.ptpm_host.proofs.ComingLaws.{owner_unread}
@@ -300,6 +300,12 @@ returns-then-eq-clause-turned c =
     c.carry_out_owned.result.verdict (messages_in (take c.carry_out_owned.result.count c.carry_out_owned.new.room)) read
     (sym new ∙ c.judge_owned-verdict.ensures) c.carry_out_owned.ensures.verdict c.carry_out_owned.ensures.sent c.carry_out_owned.ensures.sets
     (ap entries_of_block c.carry_out_owned.ensures.table)
+
+pub returns-then-eq-clause-clock : goal.returns-then-eq-clause-clock
+returns-then-eq-clause-clock c = λ i. record {
+  clock = owner_of_block (c.carry_out_owned.ensures.table i);
+  rows = (c.carry_out_owned.ensures.relayed i).items;
+}
 
 pub returns-then-eq-2-clause-turned : goal.returns-then-eq-2-clause-turned
 returns-then-eq-2-clause-turned c =

@@ -2,6 +2,8 @@
 use Rattle.std.proofs.Common.{[], ◌≡◌, ◌∙◌, ◌≤◌, List, ℕ, ap, arith, length, refl, subst, sym, take}
 use Rattle.ptpm_agent.specs.Agent.{IsTurned}
 use Rattle.ptpm_agent.specs.Turn.{Turned, outbox_of, turn}
+use Rattle.ptpm_data.specs.Changed.{changed}
+use Rattle.ptpm_data.specs.Members.{DataSetsValue}
 use Rattle.ptpm_device.specs.Saying.{said_value, turn_said}
 use Rattle.ptpm_host.specs.declared.clock.HostedClock.{HostedClock}
 use Rattle.ptpm_host.specs.Clock.{clock_in, messages_in, state_in}
@@ -45,3 +47,11 @@ returns-else-keep_relayed-clause-turned c =
     (subst (λ (h : HostedClock). IsTurned (turn_said [] (clock_in h).clock (state_in h) (said_value c.args.said) c.args.port c.args.datagram.now)
     result.verdict (messages_in (take result.count c.take_unrelayed.new.room)) (state_in c.take_unrelayed.new.self)) same
     c.take_unrelayed.ensures.turned)
+
+pub returns-then-keep_relayed-clause-members : goal.returns-then-keep_relayed-clause-members
+returns-then-keep_relayed-clause-members c =
+    c.take_kept.ensures.members ∙ ap (λ (d : DataSetsValue). changed d c.take_kept.new.self.agent.sets) c.keep_relayed.ensures.sets
+
+pub returns-else-keep_relayed-clause-members : goal.returns-else-keep_relayed-clause-members
+returns-else-keep_relayed-clause-members c =
+    c.take_unrelayed.ensures.members ∙ ap (λ (d : DataSetsValue). changed d c.take_unrelayed.new.self.agent.sets) c.keep_relayed.ensures.sets
