@@ -481,7 +481,7 @@ static void read_plan(struct task *task, const struct words *words) {
     int most = task->plan.verb == RESUME ? 1 : 2, least = task->plan.verb == APPLIES ? 1 : most;
     if (words->count > most) refuse("%s: there are too many words; see ptpm-manage --help", words->at[most]);
     bool lacks_word = words->count < least || (words->count == 2 && *words->at[1] == '\0');
-    if (lacks_word) refuse("%s: it takes %s", verb, task->plan.verb >= ROLLBACK ? "the name of an apply" : "a file");
+    if (lacks_word) refuse("%s: it takes %s", verb, task->plan.verb >= ROLLBACK ? "the name of an apply: ptpm-manage applies lists them" : "a file");
     task->plan.word = words->at[1];
     if (words->domain != NULL) refuse("--domain: %s takes the domains of its file", verb);
     if (task->interface_count > 1) refuse("--interface: %s takes one", verb);
