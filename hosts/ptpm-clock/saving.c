@@ -219,7 +219,7 @@ static enum ptpm_saved fail(void) {
     saves.failed++;
     is_failing = true;
     next_save = milliseconds() + SECOND;
-    say_at_times("%s%s: no change is answered: %s", options->state, kept_fault(), strerror(errno));
+    say_at_times("%s%s: no change is answered: %s", options->state, kept_fault(), errno == ENOENT ? "its folder is missing" : strerror(errno));
     return PTPM_OTHER_IMAGE;
 }
 

@@ -59,7 +59,9 @@ $to_utc -32769 leap61 0 leap59 0 currentUtcOffsetValid 1|currentUtcOffset -32769
 -2 -i near9 --target $to get PRIORITY1|nothing was sent: near9: No such device
 -2 --udp 10.9.9.2 --target $to get PRIORITY1|--ethernet excludes --udp and --ipv6
 -u $work/nowhere --target $to set PRIORITY1 1|nothing was sent: $work/nowhere: No such file or directory
+-u $work/no/socket --target $to set PRIORITY1 1|: its folder is missing
 -i near0 --target ffffffffffffffff get PRIORITY1|nothing was asked: TARGET_IS_EVERY
+-i near0 rollback|rollback: it takes the name of an apply: ptpm-manage applies lists them
 -i near0 --give-up --target $to get PRIORITY1|--give-up: this request has no session
 -i near0 --give-up apply $work/site.toml|--give-up: of the commands for a plan only resume takes it
 -i near0 --target $to get PORT_DATA_SET|nothing was asked: NEEDS_PORT
@@ -87,5 +89,6 @@ check "what lacks a descriptor says so" "$(says 'nothing was sent: near0: Too ma
 for verb in plan apply rollback; do
     check "manage $verb of an empty word" "$(refuses "$verb: it takes " -i near0 $verb '')"
 done
+check "manage rollback of no apply" "$(refuses 'no such journal: ptpm-manage applies lists them' -i near0 rollback none)"
 check "manage --version" "$(./manage --version | grep -q '^ptpm-manage [0-9]' && echo yes)"
 check "manage --help" "$(./manage --help | grep -q 'LOG_MIN_PDELAY_REQ_INTERVAL' && echo yes)"
