@@ -28,6 +28,8 @@ $to_utc -32769 leap61 0 leap59 0 currentUtcOffsetValid 1|currentUtcOffset -32769
 -i near0 --target $to get PRIORITY|PRIORITY: it is neither a managementId
 -i near0 set $identity PRIORITY1 3|four hexadecimal digits: --target names a clock
 -i near0 get aa-bb-cc-ff-fe-dd-ee-01 PRIORITY1|four hexadecimal digits: --target names a clock
+status near0|status near0: status takes no managementId: --interface names an interface
+near0 --target $to get PRIORITY1|rollback and applies: --interface names an interface
 -i near0 --target $to fetch PRIORITY1|fetch: it is not one of get, set, command, survey, collect, status, plan, apply, resume, rollback and applies
 -i near0 --target aabbcc.fffe.ddee1 get PRIORITY1|--target aabbcc.fffe.ddee1: it takes
 -i near0 --target $to-x get PRIORITY1|-x is not a port
