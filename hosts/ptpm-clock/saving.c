@@ -219,7 +219,8 @@ static enum ptpm_saved fail(void) {
     saves.failed++;
     is_failing = true;
     next_save = milliseconds() + SECOND;
-    say_at_times("%s%s: no change is answered: %s", options->state, kept_fault(), errno == ENOENT ? "its folder is missing" : strerror(errno));
+    const char *why = errno == ENOENT ? "its folder is missing" : errno == EAGAIN ? "another clock has it" : strerror(errno);
+    say_at_times("%s%s: no change is answered: %s", options->state, kept_fault(), why);
     return PTPM_OTHER_IMAGE;
 }
 
