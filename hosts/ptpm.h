@@ -16,7 +16,7 @@
      handle points to. There is one live copy of a handle. The host may move it, and neither reads nor writes anything inside it.
    - malloc, realloc and free come from one allocator. malloc aligns each block to the greatest power of two up to 16 that divides
      its size. No call is made from a signal handler, or in a forked child of a process with threads.
-   - A call has the stack that it needs. As the library is built for x86-64 and aarch64, most calls take 600 octets. The call
+   - The stack has room for the call. As the library is built for x86-64 and aarch64, most calls take 600 octets. The call
      ptpm_clock_take takes 10,200, ptpm_clock_decide 8,800, and the restore of a clock 8,300. The calls ptpm_clock_set and
      ptpm_clock_saving take 7,700, ptpm_clock_image_of 6,600, and a start of a clock 5,200. The call ptpm_rollout_turn takes
      5,200, ptpm_journal_add 4,800, and the restore of an asker 4,600. The call ptpm_clock_image takes 2,800,
@@ -146,9 +146,9 @@ struct ptpm_port_settings {
    IEEE 1588-2019). Start from all zeros, struct ptpm_observed_clock observed = { 0 }; a member without its has_ flag stays. A
    flag is set if it is not 0. A grandmaster is observed as a whole. If is_grandmaster is set, the grandmaster is the clock
    itself, and the members of a grandmaster and of the parent port do not count. Otherwise, if has_grandmaster is set, the
-   grandmaster is the one that these members name. If neither is set, the quality of a clock that is its own grandmaster is shown as
-   its grandmaster's too. What only managers set can't be observed. Managers may also set clock_accuracy, utc_offset, the two leaps
-   and utc_valid: the later value counts. */
+   grandmaster is the one that these members name. If neither is set, the grandmaster stays. A clock that is its own grandmaster
+   then shows its observed quality as the grandmaster's. What only managers set can't be observed. Managers may also set
+   clock_accuracy, utc_offset, the two leaps and utc_valid: the later value counts. */
 struct ptpm_observed_clock {
     PTPM_AT_EIGHT int64_t offset_from_master; /* in nanoseconds times 2^16 */
     int64_t mean_path_delay;            /* in nanoseconds times 2^16 */
@@ -224,7 +224,7 @@ struct ptpm_sent {
     uint8_t octets[1472];
 };
 
-/* An answer, and the port that it is to be sent at (ptpm_clock_handle_shared). The octets past size are any. */
+/* An answer, and the port that it is to be sent at (ptpm_clock_handle_shared). The octets past size have no meaning. */
 struct ptpm_answer {
     uint16_t port;
     uint16_t size;
@@ -238,7 +238,7 @@ struct ptpm_shared {
     uint64_t count;                     /* how many answers were written */
 };
 
-/* Which members have another value after a datagram than before it: of the clock, and of port 1, port 2 and so on. */
+/* Which members a datagram changed: of the clock, and of port 1, port 2 and so on. */
 struct ptpm_changed {
     uint32_t clock;                     /* PTPM_CHANGED_IDENTITY to PTPM_CHANGED_TIME_SOURCE, summed up */
     uint8_t ports[64];                  /* PTPM_CHANGED_PORT_STATE to PTPM_CHANGED_PORT_LOG_MIN_PDELAY, summed up */
@@ -275,7 +275,7 @@ enum {
 struct ptpm_taken {
     PTPM_AT_EIGHT uint64_t count;       /* how many messages were written */
     uint64_t waiting;                   /* how many more wait until the clock is saved (ptpm_clock_next) */
-    struct ptpm_changed changed;        /* the members that have a different value than before */
+    struct ptpm_changed changed;        /* the members that the datagram changed */
 };
 
 /* What a device is asked (ptpm_clock_ask): to carry out a SET or a COMMAND, or for the value of a GET. All zeros: nothing. */
@@ -348,10 +348,10 @@ enum { PTPM_GET = 0, PTPM_SET = 1, PTPM_COMMAND = 3 };
 /* A survey of a manager: what it asks and its answers, at one pointer. All zeros hold no survey. */
 struct ptpm_survey { void *at; PTPM_TO_EIGHT bool live; bool restored; };
 
-/* One manager, and the GET that it sends to every port of every clock, or of one. A clock answers a GET for every clock, whatever
-   numbers it took from this manager before. A late answer to an earlier GET with the same number and id counts for this survey: use
-   a number with nothing in flight. No session may have the same portIdentity. Port 0 stands for PTPM_SURVEY_PORT, which no session
-   should have. */
+/* One manager, and the GET that it sends to every port of every clock, or of one clock. A GET to every clock is answered whatever its
+   number is. A late answer to an earlier GET with the same number and id counts for this survey. So choose a number that no
+   message still on its way has. No session may have the same portIdentity. Port 0 stands for PTPM_SURVEY_PORT, which no session should
+   have. */
 struct ptpm_survey_settings {
     uint16_t port;                      /* portNumber of the manager; 0 for PTPM_SURVEY_PORT */
     uint16_t number;                    /* sequenceId */
@@ -366,15 +366,15 @@ struct ptpm_asker { void *at; PTPM_TO_EIGHT bool live; bool restored; };
 
 /* The session of an asker, and how long it waits. Times are in milliseconds, from any moment on, and never go back. */
 struct ptpm_asker_settings {
-    struct ptpm_session_settings session;   /* `first` is drawn, for a session without a file. `domain` is not read */
-    uint16_t nobody;                    /* the port of its anonymous reads, at which nobody manages: from 61440 on, and not the manager's */
+    struct ptpm_session_settings session;   /* `domain` is not read. `first`, drawn at random, counts only without a file */
+    uint16_t nobody;                    /* the portNumber of its anonymous reads: one that no manager has, from 61440 on */
     uint32_t timeout;                   /* how long an answer is waited for before a request is sent again */
     uint32_t wait;                      /* how long a new session waits: longer than any copy of a message is on its way */
 };
 
 /* What an asker hands out: what its host does next, and then reports. */
 struct ptpm_handed {
-    uint64_t tag;                       /* as the host named its request: after PTPM_NOTE_BEGUN and PTPM_NOTE_ANSWER */
+    uint64_t tag;                       /* the tag that the host gave its request: after PTPM_NOTE_BEGUN and PTPM_NOTE_ANSWER */
     uint64_t time;                      /* when to wake the asker: after PTPM_SEND_IT, PTPM_SEND_READ and PTPM_WAIT */
     uint32_t what;                      /* one of the names below */
     uint16_t number;                    /* the sequenceId of the request: after PTPM_NOTE_BEGUN and PTPM_NOTE_ANSWER */
@@ -436,7 +436,7 @@ enum {
 /* The flags of a journal: the change goes on at other clocks if one fails; and each step comes after all those before it. */
 enum { PTPM_KEEPS_GOING = 1, PTPM_IN_ONE_ROW = 2 };
 
-/* What the answer to a step says. How a change ends. The number of a step if there is none. */
+/* What the answer to a step says; how a change ends; and the number that stands for no step. */
 enum { PTPM_STEP_DONE = 1, PTPM_STEP_REFUSED = 2, PTPM_STEP_ANSWERED = 3 };
 enum {
     PTPM_END_COMPLETE = 1, PTPM_END_REFUSED = 2, PTPM_END_ANSWERED = 3, PTPM_END_CHANGED = 4, PTPM_END_GIVEN_UP = 5,
@@ -487,8 +487,8 @@ struct ptpm_rollout_action {
     uint16_t lane;
     uint16_t step;                      /* PTPM_NO_STEP if there is none */
     uint8_t domain;                     /* PTPM_DO_SETTLE, PTPM_DO_READ */
-    uint8_t ending;                     /* PTPM_DO_END: how the change ended, or 0 if it is open, */
-    uint8_t why;                        /* and then why */
+    uint8_t ending;                     /* PTPM_DO_END: how the change ended, or 0 if it is open */
+    uint8_t why;                        /* PTPM_DO_END of an open change: why it is open */
     uint8_t zero;
 };
 
@@ -497,7 +497,7 @@ enum {
     PTPM_DO_SETTLE = 2,                 /* send again what an earlier run left, or, if step is PTPM_NO_STEP, what another program left */
     PTPM_DO_LET_GO = 3,                 /* give up what is under way in the session, and save that */
     PTPM_DO_READ = 4,                   /* read the member of the step in this domain, from the port `nobody` */
-    PTPM_DO_CHECK = 5,                  /* say whether the change goes on: this step is the first one at another clock */
+    PTPM_DO_CHECK = 5,                  /* say whether the change goes on: its next step is at a further clock */
     PTPM_DO_ASK = 6,                    /* ask the step */
     PTPM_DO_NOTE = 7,                   /* append the record to the journal's file, and synchronize it */
     PTPM_DO_GO_ON = 8,                  /* the note is made: call ptpm_asker_noted, and do what it hands out */
@@ -601,9 +601,9 @@ enum { PTPM_MOST_ANSWERS = 16384, PTPM_SURVEY_PORT = 65534 };
 /* What calls return. 0 says that the call was done. 1 to 31 say what became of a datagram or of a request. From 32 on the call was
    refused (ptpm_is_refusal). 48 to 63 say why nothing starts, or an observation is refused. 64 to 101 say which member is out of
    its range. 104 to 110 say why a restore is refused. 112 says that a request can't be given up. 113 to 117 say why words are not a
-   dataField. 118 and 119 say that something is not saved. 120 says that a handle holds no asker. 121 and 122 say
-   that what a device says is not taken. 123 and 124 say that a change of the device is under way, or none. 126 to 132 say why a
-   record of a journal, or an event of a rollout, is not taken.
+   dataField. 118 and 119 say that something is not saved. 120 says that a handle holds no asker. 121 says that the library refuses
+   what a device says. 123 and 124 say that a change of the device is under way, or none. 126 to 132 say why a record of a journal, or
+   an event of a rollout, is refused. 133 to 138 say why a table of ids is.
 
    Each kind of call has a type for its answers. With -Wenum-compare gcc, g++ and clang++ warn if an answer is compared with a
    name of a different kind. A name that several kinds of calls return is a plain number, and compares with each type. Each type has
@@ -655,8 +655,8 @@ enum { PTPM_MOST_ANSWERS = 16384, PTPM_SURVEY_PORT = 65534 };
 #define PTPM_BAD_LEAP59 88              /* both leaps are set */
 #define PTPM_BAD_STATE 94
 
-/* A type of answers has the four octets of the library's answers, even if -fshort-enums would give it one. In C clang takes the
-   form of C++ after __extension__. */
+/* A type of answers has four octets, as in the library, even if -fshort-enums would give it one. As C, clang accepts the form of C++
+   after __extension__. */
 #if defined(__cplusplus) || defined(__clang__)
 #define PTPM_FOUR_OCTETS(name) name : uint32_t
 #else
@@ -667,8 +667,8 @@ enum { PTPM_MOST_ANSWERS = 16384, PTPM_SURVEY_PORT = 65534 };
    PTPM_TOO_MANY_PORTS, PTPM_TARGET_IS_ZERO or PTPM_NO_MEMORY, in this order. A survey of every clock is refused with the first or
    the last of these. A survey of one clock is refused with any of them except the two about ports. An asker is refused as a
    session is, and with PTPM_MANAGER_TWICE before PTPM_NO_MEMORY if `nobody` is the manager's port. A clock is refused with
-   PTPM_NO_PORTS, PTPM_TOO_MANY_PORTS, PTPM_NO_MEMORY or one of the other names below. Of these PTPM_IDENTITY_IS_ZERO comes last.
-   PTPM_OTHER_SIZES comes before all of them, and only for ptpm_clock_start_sized and the like. */
+   PTPM_NO_PORTS, PTPM_TOO_MANY_PORTS, PTPM_NO_MEMORY or one of the other names below. PTPM_IDENTITY_IS_ZERO is judged last, and
+   PTPM_OTHER_SIZES before all others, but only by ptpm_clock_start_sized and the like. */
 __extension__ enum PTPM_FOUR_OCTETS(ptpm_started) {
     PTPM_STARTED = 0,
     PTPM_START_NO_MEMORY = PTPM_NO_MEMORY,
@@ -737,7 +737,7 @@ __extension__ enum PTPM_FOUR_OCTETS(ptpm_handled) {
     PTPM_NOTHING_UNDER_WAY = 124        /* ptpm_clock_decide */
 };
 
-/* ptpm_clock_relay. After PTPM_TOO_MANY_IDS the ids are judged one after another. */
+/* ptpm_clock_relay. The number of ids is judged first. Then each id is judged in turn, by the five refusals after PTPM_TOO_MANY_IDS. */
 __extension__ enum PTPM_FOUR_OCTETS(ptpm_relaying) {
     PTPM_RELAYING = 0,
     PTPM_RELAY_NO_CLOCK = PTPM_NO_CLOCK,
@@ -753,7 +753,7 @@ __extension__ enum PTPM_FOUR_OCTETS(ptpm_relaying) {
 /* ptpm_clock_ask, _undertake and _under_way. Only the second returns the last two. */
 __extension__ enum PTPM_FOUR_OCTETS(ptpm_asking) {
     PTPM_ASKED_NOTHING = 0,
-    PTPM_ASKED_CHANGE = 29,             /* a new SET or COMMAND of a manager that nothing refuses before */
+    PTPM_ASKED_CHANGE = 29,             /* a manager's new SET or COMMAND, which only the device may still refuse */
     PTPM_ASKED_VALUE = 30,              /* a GET that would be answered, of an id that the clock lacks */
     PTPM_ASKING_NO_CLOCK = PTPM_NO_CLOCK,
     PTPM_ASKING_NO_PORT = PTPM_NO_PORT,
@@ -912,7 +912,7 @@ __extension__ enum PTPM_FOUR_OCTETS(ptpm_restored) {
     PTPM_RESTORE_IDENTITY_IS_ZERO = PTPM_IDENTITY_IS_ZERO,
     PTPM_NOT_AN_IMAGE = 104,            /* under 12 octets, or the first four are not "ptpm" */
     PTPM_OTHER_VERSION = 105,           /* an image of another version */
-    PTPM_OTHER_KIND = 106,              /* an image of something else: of a session for a clock's, of a clock for a session's */
+    PTPM_OTHER_KIND = 106,              /* an image of something else: a session's image for a clock, or a clock's for a session */
     PTPM_DAMAGED = 107,                 /* octets are missing, further ones follow, or one has a value that no image has */
     PTPM_OTHER_CLOCK = 108,             /* of a clock of a different identity */
     PTPM_OTHER_PORTS = 109,             /* of a clock with a different number of ports */
@@ -953,11 +953,11 @@ __extension__ enum PTPM_FOUR_OCTETS(ptpm_asked) {
     PTPM_ASKED = 0,
     PTPM_ASK_NO_ROOM = PTPM_NO_ROOM,    /* room is smaller than the message or the image: ptpm_asker_message and ptpm_asker_image */
     PTPM_ASK_NO_MEMORY = PTPM_NO_MEMORY,
-    PTPM_ASK_BUSY = PTPM_BUSY,          /* the asker does not rest, or a request of an earlier run is not settled */
+    PTPM_ASK_BUSY = PTPM_BUSY,          /* the asker has something under way, or an earlier run's request is not settled */
     PTPM_ASK_NEEDS_PORT = PTPM_NEEDS_PORT,
     PTPM_ASK_NOT_PERMITTED = PTPM_NOT_PERMITTED,
     PTPM_ASK_BAD_VALUE = PTPM_BAD_VALUE,
-    PTPM_ASK_COUNT_AT_MAXIMUM = PTPM_COUNT_AT_MAXIMUM, /* the file has 1,000,000 requests, and the latest is a question */
+    PTPM_ASK_COUNT_AT_MAXIMUM = PTPM_COUNT_AT_MAXIMUM, /* the file has 1,000,000 requests, and the latest is a freshness check */
     PTPM_ASK_IDLE = PTPM_IDLE,          /* ptpm_asker_settle and ptpm_asker_let_go: an earlier run left nothing */
     PTPM_ASK_OUT_OF_REACH = PTPM_OUT_OF_REACH,  /* ptpm_asker_let_go */
     PTPM_ASK_NO_ASKER = PTPM_NO_ASKER
@@ -1103,17 +1103,17 @@ enum ptpm_handled ptpm_clock_handle(struct ptpm_clock *clock, uint16_t port, con
 enum ptpm_handled ptpm_clock_handle_shared(struct ptpm_clock *clock, uint16_t port, uint8_t *datagram, size_t size,
                                            struct ptpm_answer *answers, size_t room, struct ptpm_shared *shared);
 
-/* Gives a clock the ids that its device has and the clock lacks, instead of those that it has. A SET or COMMAND of such an id then
-   reaches the device, as one of the 21 ids does (ptpm_clock_ask). First the request is judged by these rules, in their order. If it
-   breaks one, the rule's error is the answer, and is kept:
-   - NOT_SETABLE of a SET, and NOT_SUPPORTED of a COMMAND, that is not among the actions;
-   - NOT_SUPPORTED without the right;
-   - WRONG_LENGTH outside least..most;
-   - RESPONSE_TOO_BIG for every port of an id of a port.
+/* Gives a clock a table of the ids that its device has and the clock lacks, instead of an earlier table. From then on a SET or COMMAND
+   of these ids reaches the device, like those of the clock's own 21 ids (ptpm_clock_ask). But first the clock checks the request. If
+   one of these errors applies, the first in this order is the answer, and is kept:
+   - NOT_SETABLE for a SET, or NOT_SUPPORTED for a COMMAND, that is not among the id's actions;
+   - NOT_SUPPORTED for a manager without the id's right;
+   - WRONG_LENGTH for a dataField of fewer octets than least, or of more than most;
+   - RESPONSE_TOO_BIG for a request to every port, if the id is of a port.
    If the device agrees, a COMMAND is acknowledged, and a SET is answered with its own octets. If the device gives octets, a SET is
    answered with these. The data sets stay. The answer comes from the port at which the request came in. A GET reaches the device
-   without this call. ptpm_clock_handle does not read these ids. Nor do they count for requests of the owner and of strangers.
-   Takes:   id_count ids, PTPM_MOST_IDS at most. 0 takes them away.
+   without a table. ptpm_clock_handle ignores the table, and requests of the owner and of strangers are judged without it.
+   Takes:   id_count ids, PTPM_MOST_IDS at most. 0 takes the table away.
    Returns: PTPM_RELAYING; or why not, and then nothing changes. PTPM_NO_CLOCK also for a clock that saves (ptpm_clock_saving).
    Memory:  10 octets for each id, until the clock is stopped.
    Caller:  calls it after the start or the restore, before ptpm_clock_saving and the first datagram. The ids are in no image. */
@@ -1143,8 +1143,8 @@ enum ptpm_asking ptpm_clock_ask(const struct ptpm_clock *clock, uint16_t port, c
    Returns: what became of the datagram; or why it was not judged, the first of these: PTPM_NO_CLOCK, PTPM_NO_PORT, PTPM_NO_ROOM,
             PTPM_BAD_SAY, PTPM_UNDER_WAY (ptpm_clock_undertake) and PTPM_UNSAVED. A datagram that is not judged counts as lost.
    Writes:  all of *taken: zeros if the datagram was not judged. And the first taken->count places of sent, as ptpm_clock_handle
-            does. If messages wait, taken->count is 0, and the first taken->waiting places of sent have zeros. No member changed
-            unless the answer is PTPM_ANSWERED_NEW, nor after a GET or a request that was refused.
+            does. If messages wait, taken->count is 0, and the first taken->waiting places of sent have zeros. Members change
+            only with PTPM_ANSWERED_NEW, and only if that request was carried out and is not a GET.
    Caller:  sends these messages in their order, each at its port, and then acts on each change. A clock that does not save is
             first saved, as after ptpm_clock_handle. If taken->waiting is not 0, the caller acts on the change once these messages
             are given out. If the caller has written to its hardware and the answer is not PTPM_ANSWERED_NEW, it undoes the write:
@@ -1159,13 +1159,13 @@ enum ptpm_handled ptpm_clock_take(struct ptpm_clock *clock, uint16_t port, const
    once, and the host asks its device. ptpm_clock_decide then says what the device did. After a restart the host only looks
    whether its device has the change. While the change is under way, ptpm_clock_take returns PTPM_UNDER_WAY for each request of
    the same manager that is addressed to exactly this clock. It returns PTPM_UNDER_WAY too for any datagram for which
-   ptpm_clock_ask would return PTPM_ASKED_CHANGE. Of the owner's requests only a SET of DOMAIN gets that answer, from
-   ptpm_clock_set too: in another domain the change would get no answer.
+   ptpm_clock_ask would return PTPM_ASKED_CHANGE. Of the owner's requests only a SET of DOMAIN is refused in this way, also by
+   ptpm_clock_set. Once the clock had left the domain, the change could not be answered.
    Takes:   what ptpm_clock_ask takes.
-   Returns: PTPM_ASKED_CHANGE. PTPM_ASKED_VALUE and PTPM_ASKED_NOTHING as ptpm_clock_ask does, and nothing is kept. Or why not, the
-            first of these: PTPM_NO_CLOCK, also for a clock that does not save, PTPM_NO_PORT, PTPM_UNSAVED and PTPM_UNDER_WAY. It
-            is PTPM_UNSAVED if the clock was never saved, or ptpm_clock_next has a message to give. It is PTPM_UNDER_WAY if this
-            would be a second change.
+   Returns: PTPM_ASKED_CHANGE; or PTPM_ASKED_VALUE or PTPM_ASKED_NOTHING, as ptpm_clock_ask does, and then nothing is kept. Or why
+            not, the first of these: PTPM_NO_CLOCK (also for a clock that does not save), PTPM_NO_PORT, PTPM_UNSAVED and
+            PTPM_UNDER_WAY. PTPM_UNSAVED means that the clock was never saved, or that ptpm_clock_next has a message to give.
+            PTPM_UNDER_WAY means that this would be a second change.
    Writes:  *asked, as ptpm_clock_ask does. */
 enum ptpm_asking ptpm_clock_undertake(struct ptpm_clock *clock, uint16_t port, const uint8_t *datagram, size_t size,
                                       struct ptpm_question *asked);
@@ -1180,10 +1180,10 @@ enum ptpm_asking ptpm_clock_under_way(const struct ptpm_clock *clock, struct ptp
    its messages wait for a save.
    Takes:   what the device says; and room places, as ptpm_clock_take.
    Returns: what ptpm_clock_take returns, but never PTPM_HANDLE_OTHER_DOMAIN: the clock stays in the domain of what is under way.
-            Or why not, the first of these: PTPM_NO_CLOCK, also for a clock that does not save, PTPM_NOTHING_UNDER_WAY,
-            PTPM_NO_ROOM, PTPM_BAD_SAY, and PTPM_UNSAVED as at ptpm_clock_take. The change then stays under way.
+            Or why not, the first of these: PTPM_NO_CLOCK (also for a clock that does not save), PTPM_NOTHING_UNDER_WAY,
+            PTPM_NO_ROOM, PTPM_BAD_SAY and PTPM_UNSAVED (as ptpm_clock_take). The change then stays under way.
    Writes:  what ptpm_clock_take writes.
-   Caller:  after PTPM_UNSAVED takes the messages that were released or saves the clock, and calls again. If the device has the
+   Caller:  after PTPM_UNSAVED sends the released messages (ptpm_clock_next) or saves the clock, and calls again. If the device has the
             change and the answer is not PTPM_ANSWERED_NEW, the caller undoes the change: the clock was restored without that
             manager. */
 enum ptpm_handled ptpm_clock_decide(struct ptpm_clock *clock, const struct ptpm_say *say, struct ptpm_sent *sent, size_t room,
@@ -1205,11 +1205,11 @@ uint16_t ptpm_limits_say(const struct ptpm_limit *limits, size_t limit_count, co
 
 /* Carries out a SET or a COMMAND of the device's owner, as one of a manager with every right. This call is for a command line of
    the device, or for another protocol of management. What is kept of each manager stays: a copy of its latest request gets the
-   cached answer. The host asks its hardware before: the device has no say here.
+   cached answer. The host asks its hardware first: in this call the device can't object.
    Takes:   the action, the id and the port of the target, counted from 1, or 0xFFFF for every port; size octets, the dataField.
    Returns: PTPM_SET_HERE; or why not, and then nothing changes.
-   Writes:  *changed: the members that have another value after the call than before it; all zeros if the call is refused. *error:
-            the managementErrorId with PTPM_SET_REFUSED, and otherwise 0.
+   Writes:  *changed: the members that the call changed; all zeros if it is refused. *error: the managementErrorId with
+            PTPM_SET_REFUSED, and otherwise 0.
    Caller:  acts on each change, and saves the clock. A clock that saves (ptpm_clock_saving) is unsaved after it, whether it was
             before or not. The caller says "done" to the owner once an image that was made later is saved. */
 enum ptpm_set_here ptpm_clock_set(struct ptpm_clock *clock, uint8_t action, uint16_t id, uint16_t port, const uint8_t *octets,
@@ -1233,19 +1233,19 @@ enum ptpm_observed ptpm_clock_observe(struct ptpm_clock *clock, const struct ptp
 enum ptpm_read ptpm_clock_read(const struct ptpm_clock *clock, uint16_t id, uint16_t port, uint8_t *octets, size_t room,
                                size_t *size);
 
-/* Makes the clock's image: what a host saves before it sends the messages of an answer PTPM_ANSWERED_NEW. From it the clock
-   continues after a restart. It has the clock's data sets, the latest request of each manager and the reply to it. It has the change
-   that is under way (ptpm_clock_undertake). The managers and what each of them may change are not in it.
+/* Makes the clock's image: what a host saves after PTPM_ANSWERED_NEW, before it sends the messages. From it the clock continues after
+   a restart. It has the clock's data sets, the latest request of each manager with the reply to it, and the change that is under way
+   (ptpm_clock_undertake). It lacks the managers and their rights.
    Takes:   room octets; PTPM_CLOCK_IMAGE_BOUND of its ports and managers are enough.
    Returns: PTPM_SAVED, or why not.
    Writes:  *size, and that number of octets from octets on: the image. If the call is refused, *size is 0 and no octet is written. */
 enum ptpm_saved ptpm_clock_image(const struct ptpm_clock *clock, uint8_t *octets, size_t room, size_t *size);
 
 /* Writes the copies that a boundary clock forwards of a management message that this library does not read. Such a message is
-   refused only for its actionField, its TLV or its displayData: PTPM_BAD_ACTION to PTPM_BAD_TEXT. It is forwarded like any other
-   message of sdoId 0 and the clock's domain. That is only if it has a hop left and is not for exactly this clock, and only between
-   ports that may forward. Each copy has octet 45, boundaryHops, decremented. Every other octet is as it came. Nothing is answered,
-   and nothing changes. A host that wants such messages to pass calls ptpm_clock_transit after ptpm_clock_take.
+   refused only for its actionField, its TLV or its displayData: PTPM_BAD_ACTION to PTPM_BAD_TEXT. The rules are those of any other
+   message. It needs sdoId 0, the clock's domain and a hop left, and must not be for exactly this clock. It passes only between ports
+   that may forward. Each copy has octet 45, boundaryHops, decremented. Every other octet is as it came. Nothing is answered, and
+   nothing changes. A host that wants such messages to pass calls ptpm_clock_transit after ptpm_clock_take.
    Takes:   the port it came in at, and the datagram, of size octets; and room places, as many as the clock has ports, or more.
    Returns: how many copies there are: 0 for any other datagram, without a clock, for a port that it lacks, and for fewer places.
    Writes:  that many places of sent, each with its port. */
@@ -1278,16 +1278,16 @@ enum ptpm_handled ptpm_clock_saving(struct ptpm_clock *clock, size_t places);
    Memory:  over eight ports a copy of them, 16 octets for each, and as much again until the call returns.
    Writes:  what ptpm_clock_image writes, and *token: how many images were made since ptpm_clock_saving. It is 0 if the call is
             refused.
-   Caller:  stores the image, and calls ptpm_clock_saved with the token once a restart would find it, whatever happens to the
-            power. Not before: what is sent earlier may be forgotten. */
+   Caller:  stores the image. Once a restart would find it even if power fails, the caller calls ptpm_clock_saved with the token.
+            If it called earlier, the clock might forget what was sent. */
 enum ptpm_saved ptpm_clock_image_of(struct ptpm_clock *clock, uint8_t *octets, size_t room, size_t *size, uint64_t *token);
 
-/* Takes the caller's word that a restart would find the image of this token. Strangers are shown what the image has, and
+/* The caller confirms that a restart would find the image of this token. From then on strangers are shown what the image has, and
    ptpm_clock_next gives the messages that waited when the image was made.
-   Takes:   the token of the latest ptpm_clock_image_of. It counts once. It does not count after an observation that came after
-            the image, if no change waited when the image was made.
+   Takes:   the token of the latest ptpm_clock_image_of. It counts once. If no change waited when the image was made, it does not
+            count after a later observation.
    Returns: PTPM_SAVED. PTPM_ACT_NOW if the image has a change that is still under way, once for each change and never for one that a
-            restore found. Or PTPM_NO_CLOCK, also for a clock that does not save, or PTPM_OTHER_IMAGE for any other token, and then
+            restore found. Or PTPM_NO_CLOCK (also for a clock that does not save) or PTPM_OTHER_IMAGE (for any other token), and then
             nothing changes.
    Caller:  calls ptpm_clock_next until that gives no message. After PTPM_ACT_NOW it asks its device (ptpm_clock_undertake). */
 enum ptpm_saved ptpm_clock_saved(struct ptpm_clock *clock, uint64_t token);
@@ -1308,8 +1308,8 @@ uint32_t ptpm_clock_unsaved(const struct ptpm_clock *clock);
 
 /* Puts the clock of an image in the handle, instead of what it holds, which is then freed.
    Takes:   the identity and the number of ports that the clock of the image must have; its managers, as for a start; and size octets.
-            Managers and what each of them may change are those that are given. All else comes from the image. A manager that is
-            given and has no request in the image begins afresh.
+            The managers and their rights are those that are given, and all else comes from the image. A given manager without a
+            request in the image begins afresh.
    Returns: PTPM_RESTORED; or why not, and then the handle holds what it held. The first of these that holds:
             PTPM_TOO_MANY_MANAGERS, PTPM_MANAGER_TWICE, PTPM_IDENTITY_IS_ZERO, PTPM_NOT_AN_IMAGE, PTPM_OTHER_VERSION,
             PTPM_OTHER_KIND, PTPM_DAMAGED, PTPM_OTHER_CLOCK, PTPM_OTHER_PORTS and PTPM_NO_MEMORY. A change under way at a port
@@ -1324,14 +1324,14 @@ enum ptpm_restored ptpm_clock_restore(struct ptpm_clock *clock, const uint8_t id
                                       const struct ptpm_manager_settings *managers, size_t manager_count,
                                       const uint8_t *image, size_t size, size_t *gone);
 
-/* Returns the most messages that one datagram makes at this clock. A queue of the host has to be that long. It is PTPM_MOST_SENT_OF its
-   ports: a copy for each other port, and an answer of each port. If a kept reply has more answers, it is their number, eight at most.
-   Only an image that another program has made can bring such a reply.
+/* Returns the most messages that one datagram makes at this clock, so a queue of the host has to be that long. The number is
+   PTPM_MOST_SENT_OF the clock's ports: a copy for each other port, and an answer of each port. If a kept reply has more answers, eight
+   at most, it is their number. Only an image that another program has made can bring such a reply.
    Returns: the number; 0 if the handle holds no clock. */
 size_t ptpm_clock_most_sent(const struct ptpm_clock *clock);
 
-/* Ends what the handle holds, if it holds anything. The handle then holds nothing, and may be started again. NULL is allowed, as for
-   free, and nothing happens. NULL is not allowed where the function is called through a pointer, or by another language. */
+/* Ends what the handle holds, if it holds anything. The handle then holds nothing, and may be started again. For NULL nothing happens,
+   as with free. But NULL is not allowed if the function is called through a pointer, or from another language. */
 void ptpm_clock_stop(struct ptpm_clock *clock);
 
 static inline void ptpm_clock_stop_any(struct ptpm_clock *clock) {
@@ -1381,13 +1381,13 @@ enum ptpm_begun ptpm_session_begin_at(struct ptpm_session *session, uint8_t acti
    Caller:  sends the message, and passes in what comes in. */
 enum ptpm_sending ptpm_session_send(struct ptpm_session *session, uint8_t *octets, size_t room, size_t *size);
 
-/* Gives the unanswered request this many attempts, whatever was left.
+/* Gives the unanswered request this many attempts, however many it had left.
    Returns: PTPM_RESUMED; or why not, and then nothing changes. */
 enum ptpm_resumed ptpm_session_resume(struct ptpm_session *session, uint8_t attempts);
 
-/* Gives up the unanswered request, so that the next can be begun. Its number is used for no other, and an answer to it is
-   ignored from then on. The clock may have carried it out, once, or may still: until it accepts a later request of this session.
-   So once a later one is answered, the one that was given up was carried out before it, or never will be.
+/* Gives up the unanswered request, so that the next can be begun. No other request gets its number, and an answer to it is ignored
+   from then on. The clock may have carried it out, once, or may still do so until it accepts a later request of this session. So
+   once a later request is answered, the abandoned one was carried out before it, or never will be.
    Returns: PTPM_GIVEN_UP; or PTPM_IDLE or PTPM_OUT_OF_REACH, and then nothing changes. After PTPM_OUT_OF_REACH, send the request
             until it is answered: the clock might treat a number further ahead as an old one.
    Caller:  begins the next request before it ends, or saves the session's image. Otherwise a restart continues with
@@ -1413,8 +1413,8 @@ enum ptpm_saved ptpm_session_image(const struct ptpm_session *session, uint8_t *
 
 /* Puts the session of an image in the handle, instead of what it holds, which is then freed. A request that was not answered
    stays open, with all its attempts: send it again.
-   Takes:   size octets, and the settings of the session. Its manager, managed clock, number of ports and first number must be
-            those of the image. Domain, hops and attempts are those of the image.
+   Takes:   size octets, and the settings of the session. Their manager, managed clock, number of ports and first number must be
+            those of the image. Domain, hops and attempts are taken from the image, and not from the settings.
    Returns: PTPM_RESTORED; or why not, and then the handle holds what it held. Do not start a fresh session after a refused
             restore: the clock would treat its requests as old, or as conflicts.
    Memory:  the session, until it is stopped, and a copy of the dataField of its request.
@@ -1516,11 +1516,12 @@ static inline void ptpm_survey_stop_any(struct ptpm_survey *survey) {
 
 #define ptpm_survey_stop(survey) ptpm_survey_stop_any(survey)
 
-/* Starts an asker whose session has no file yet, instead of what the handle holds, which is freed first. An asker is handed what
-   came in and what was done, and hands out what is to be done next. It sends no request before the host has saved that request, and
-   no request leaves the file before the host has noted its answer. So what an earlier run asked is completed, and no request is
+/* Starts an asker whose session has no file yet, instead of what the handle holds, which is freed first. The host hands in what came
+   in and what was done, and the asker hands out what is to be done next. It sends no request before the host has saved that request,
+   and no request leaves the file before the host has noted its answer. So what an earlier run asked is completed, and no request is
    carried out twice.
-   Takes:   26 octets that are drawn at random. They are the dataField of the question whether a number is new.
+   Takes:   26 octets that are drawn at random. They are the dataField of the freshness check: a GET that finds out whether a number
+            is new.
    Returns: PTPM_STARTED; or why not, and then the handle holds nothing.
    Memory:  the asker, until it is stopped.
    Caller:  stops the asker. */
@@ -1549,7 +1550,7 @@ enum ptpm_asker_restored ptpm_asker_restore(struct ptpm_asker *asker, const stru
             port of the managed clock, or 0. Then the dataField, of size octets, and the domain. If a port is given, the request
             names it, for an id of the clock too.
    Returns: PTPM_ASKED; or why not, and then nothing changes.
-   Writes:  all of *handed: what is handed out, and PTPM_NOTHING if the call is refused. So do the calls below.
+   Writes:  all of *handed: what is handed out; or PTPM_NOTHING if the call is refused, here and in the calls below.
    Memory:  a copy of the dataField, until the request is answered. */
 enum ptpm_asked ptpm_asker_ask(struct ptpm_asker *asker, uint64_t now, uint64_t tag, uint8_t action, uint16_t id, uint16_t port,
                                const uint8_t *octets, size_t size, uint8_t domain, struct ptpm_handed *handed);
@@ -1558,7 +1559,7 @@ enum ptpm_asked ptpm_asker_ask(struct ptpm_asker *asker, uint64_t now, uint64_t 
    which it was asked, whichever is given. A GET is sent in the domain that is given, as is a SET that moves the clock to that
    domain.
    Takes:   the time, a number by which the host names the request, and a domain.
-   Returns: PTPM_ASKED; or PTPM_IDLE if there is no such request or the asker does not rest, and then nothing changes.
+   Returns: PTPM_ASKED; or PTPM_IDLE if there is no such request or the asker has something under way, and then nothing changes.
    Writes:  all of *handed. */
 enum ptpm_asked ptpm_asker_settle(struct ptpm_asker *asker, uint64_t now, uint64_t tag, uint8_t domain, struct ptpm_handed *handed);
 
@@ -1575,11 +1576,11 @@ enum ptpm_asked ptpm_asker_let_go(struct ptpm_asker *asker, struct ptpm_handed *
    Memory:  a copy of the dataField of the answer, until the next one. */
 enum ptpm_asked ptpm_asker_hear(struct ptpm_asker *asker, const uint8_t *datagram, size_t size, struct ptpm_handed *handed);
 
-/* Says what time it is. Before the time that was handed out last, nothing is handed out.
+/* Passes in the time. Nothing is handed out before the latest time that was handed out.
    Takes:   the time.
    Returns: PTPM_ASKED; or PTPM_NO_MEMORY, and then nothing changes.
    Writes:  all of *handed.
-   Memory:  a copy of the dataField of a question, until it is answered. */
+   Memory:  a copy of the dataField of a freshness check, until it is answered. */
 enum ptpm_asked ptpm_asker_wake(struct ptpm_asker *asker, uint64_t now, struct ptpm_handed *handed);
 
 /* Says that the message of the latest PTPM_SEND_IT could not be sent. If no message of a request of this run has left, the
@@ -1588,13 +1589,13 @@ enum ptpm_asked ptpm_asker_wake(struct ptpm_asker *asker, uint64_t now, struct p
    Writes:  all of *handed. */
 enum ptpm_asked ptpm_asker_unsent(struct ptpm_asker *asker, struct ptpm_handed *handed);
 
-/* Says that the session is in its file, on the disk, after PTPM_SAVE_IT.
+/* Confirms, after PTPM_SAVE_IT, that the session is in its file on the disk.
    Takes:   the time.
    Returns: PTPM_ASKED.
    Writes:  all of *handed. */
 enum ptpm_asked ptpm_asker_saved(struct ptpm_asker *asker, uint64_t now, struct ptpm_handed *handed);
 
-/* Says that what was handed out to be noted is noted, after PTPM_NOTE_BEGUN and PTPM_NOTE_ANSWER.
+/* Confirms, after PTPM_NOTE_BEGUN and PTPM_NOTE_ANSWER, that the note is made.
    Returns: PTPM_ASKED; or PTPM_COUNT_AT_MAXIMUM or PTPM_NO_MEMORY, and then nothing changes.
    Writes:  all of *handed.
    Memory:  a copy of the dataField of the request, until it is answered. */
@@ -1614,8 +1615,8 @@ enum ptpm_asked ptpm_asker_image(const struct ptpm_asker *asker, uint8_t *octets
 
 /* Says what an earlier run left under way.
    Takes:   the domain in which this run asks.
-   Returns: PTPM_NOTHING_LEFT; PTPM_QUESTION_LEFT, which ptpm_asker_ask sends again; PTPM_GET_LEFT or PTPM_CHANGE_LEFT, which are
-            settled or given up before anything is asked. PTPM_NOTHING_LEFT too if the handle holds no asker.
+   Returns: PTPM_NOTHING_LEFT, also without an asker. PTPM_QUESTION_LEFT: a freshness check, which ptpm_asker_ask sends again. Or
+            PTPM_GET_LEFT or PTPM_CHANGE_LEFT: a request that the host settles or gives up before it asks anything.
    Writes:  *there: the domain in which a GET or a change that was left is settled (ptpm_asker_settle). If none was left, it says
             nothing. */
 uint32_t ptpm_asker_earlier(const struct ptpm_asker *asker, uint8_t domain, uint8_t *there);
@@ -1638,8 +1639,8 @@ static inline void ptpm_asker_stop_any(struct ptpm_asker *asker) {
 #define ptpm_asker_stop(asker) ptpm_asker_stop_any(asker)
 
 /* Starts a journal without a record, instead of what the handle holds, which is freed first. A journal takes only a record that a
-   run may make. A step is begun once all that have to be done before it are done. Of each clock one step at a time is begun, and
-   a step has one answer.
+   run may make there. A step is begun only after all steps that have to come before it are done. Each clock has at most one step under
+   way at a time, and a step has one answer.
    Returns: PTPM_JOURNALED or PTPM_NO_MEMORY, and then the handle holds nothing.
    Memory:  the journal, until it is stopped.
    Caller:  stops the journal. */
@@ -1647,7 +1648,7 @@ enum ptpm_journaled ptpm_journal_start(struct ptpm_journal *journal);
 
 /* Takes a record, and gives the octets that the host appends to the journal's file. The head and all steps are written whole
    before the file has its name. A record is on the disk before the host goes on with its step.
-   Takes:   the octets of the record, in the two groups that its kind has; none of a group that it lacks. PTPM_RECORD_OCTETS of room are
+   Takes:   the record, and the octets of each of its groups: none for a group that its kind lacks. PTPM_RECORD_OCTETS of room are
             always enough.
    Returns: PTPM_JOURNALED; or why not, and then nothing changes.
    Writes:  *size, and as many octets from octets on. *size is 0 if it is refused.
@@ -1657,8 +1658,7 @@ enum ptpm_journaled ptpm_journal_add(struct ptpm_journal *journal, const struct 
                                      uint8_t *octets, size_t room, size_t *size);
 
 /* Takes the next record of a journal's file. A host begins with all octets of the file, and after each call goes on *size
-   octets later, until PTPM_JOURNAL_WHOLE. It cuts off what is left then. The journal goes on from there with
-   ptpm_journal_add.
+   octets later, until PTPM_JOURNAL_WHOLE. It cuts off the octets that are left then, and ptpm_journal_add goes on from there.
    Returns: PTPM_JOURNALED; PTPM_JOURNAL_WHOLE; or why not. PTPM_JOURNAL_DAMAGED is also returned at the end of a file that lacks
             its head or a step. PTPM_JOURNAL_OTHER_VERSION comes only for the first record.
    Writes:  *record, all 0 unless one was taken. *size: how many octets it had, or 0.
@@ -1713,8 +1713,8 @@ static inline void ptpm_rollout_stop_any(struct ptpm_rollout *rollout) {
 #define ptpm_rollout_stop(rollout) ptpm_rollout_stop_any(rollout)
 
 /* Seals an image: writes after it `ptps`, the count of saves, and the CRC-32 of all octets before the CRC-32. These show damage.
-   Takes:   room octets: the image is the first size octets. And the count, one more at each save. A host calls ptpm_image_seal,
-            which takes size before room.
+   Takes:   room octets, which begin with an image of size octets; and the count, one more at each save. A host calls
+            ptpm_image_seal, which takes size before room.
    Returns: PTPM_SAVED; or PTPM_NO_ROOM if room is less than size and PTPM_SEAL_OCTETS, and then no octet is written.
    Writes:  *sealed: how many octets image and seal have, 0 if the call is refused; and the PTPM_SEAL_OCTETS octets after the image. */
 enum ptpm_saved ptpm_image_seal_in(uint8_t *octets, size_t room, size_t size, uint64_t count, size_t *sealed);
@@ -1746,12 +1746,12 @@ static inline size_t ptpm_newest_image(const uint8_t *octets, size_t place, size
     return place == 0 ? places : newest;
 }
 
-/* Says whether a message is to be forwarded, and if so, records it. It is to be forwarded if there is a place for it, and none with
-   the same sourcePortIdentity, sequenceId, targetPortIdentity, actionField and managementId is recorded. So a message that
-   circulates is forwarded once, and one that keeps coming once in the time of a record.
-   Takes:   the message, of size octets; a time; and for how long it is recorded, in the unit of that time. Both are the host's.
-   Returns: whether it is to be forwarded; false too for what is not a management message. One that the library does not
-            read counts as one (ptpm_clock_transit).
+/* Says whether a message is to be forwarded, and if so, records it. It is not to be forwarded if it is recorded already, or there is
+   no place for it. Two messages count as the same if their sourcePortIdentity, sequenceId, targetPortIdentity, actionField and
+   managementId are the same. So a message that circulates is forwarded once, and one that keeps coming once per `time`.
+   Takes:   the message, of size octets; now, in a unit of the host's choice; and time, in that unit: how long a record lasts.
+   Returns: whether it is to be forwarded; false too for what is not a management message. A message for ptpm_clock_transit counts
+            as a management message.
    Writes:  one of the places of *table, if it returns true. */
 bool ptpm_passed_on_is_first(struct ptpm_passed_on *table, const uint8_t *message, size_t size, uint64_t now, uint64_t time);
 
@@ -1801,8 +1801,8 @@ uint32_t ptpm_id_at(size_t place);
    Writes:  as many octets from text on: the name, with no zero after it. */
 size_t ptpm_id_name(uint16_t id, char *text, size_t room);
 
-/* The same three for managementIds that other clocks have and this profile lacks. ptpm_field_text writes their dataFields by their
-   members. Five are the standard's, such as CLOCK_DESCRIPTION, and five are linuxptp's, such as TIME_STATUS_NP. */
+/* The same three calls for managementIds that other clocks have and this profile lacks. ptpm_field_text writes the members of their
+   dataFields. Five are the standard's, such as CLOCK_DESCRIPTION, and five are linuxptp's, such as TIME_STATUS_NP. */
 uint32_t ptpm_other_id_named(const char *name, size_t size);
 uint32_t ptpm_other_id_at(size_t place);
 size_t ptpm_other_id_name(uint16_t id, char *text, size_t room);
@@ -1877,7 +1877,7 @@ enum ptpm_member_kind {
 
 /* Says what a member's value is. So a program that prints or stores members needs no list of their names.
    Takes:   the managementId; a dataField of size octets; and the place of the member's line in ptpm_field_text, from 0 on.
-   Returns: what its value is; or PTPM_NO_MEMBER if there is no such line, or the line has the octets and no member. */
+   Returns: what its value is; or PTPM_NO_MEMBER if there is no such line, or the line has the octets instead of a member. */
 enum ptpm_member_kind ptpm_member_kind(uint16_t id, const uint8_t *octets, size_t size, size_t place);
 
 /* Gives the dataField of a SET from what a person types: the name of each member in the standard, in either case, and its value.
@@ -1887,19 +1887,18 @@ enum ptpm_member_kind ptpm_member_kind(uint16_t id, const uint8_t *octets, size_
    hexadecimal. The clock decides whether it accepts the value.
    Takes:   the managementId; size octets of words in UTF-8, with a zero octet after each; and room octets, for which
             PTPM_MOST_READ is enough.
-   Returns: PTPM_PARSED; or the first of these in this order: PTPM_NOT_WORDS, PTPM_UNKNOWN_ID, PTPM_WORD_COUNT, the refusal of a
-            member, PTPM_NO_ROOM. The refusal of a member is PTPM_OTHER_NAME or PTPM_NO_VALUE, whichever the first refused member
-            has.
+   Returns: PTPM_PARSED; or the first of these in this order: PTPM_NOT_WORDS, PTPM_UNKNOWN_ID, PTPM_WORD_COUNT, the refusal of the
+            first refused member (PTPM_OTHER_NAME or PTPM_NO_VALUE) and PTPM_NO_ROOM.
    Writes:  *count, how many octets the dataField has, and as many octets from octets on. If it is refused, *count is 0 and no octet
-            is written. *member, the place of the member with PTPM_OTHER_NAME or PTPM_NO_VALUE, from 0 on, and else 0. */
+            is written. *member: with PTPM_OTHER_NAME or PTPM_NO_VALUE the place of the refused member, from 0 on; otherwise 0. */
 enum ptpm_parsed ptpm_field_parse(uint16_t id, const char *words, size_t size, uint8_t *octets, size_t room, size_t *count,
                                   size_t *member);
 
 /* The most octets that ptpm_field_takes writes. */
 enum { PTPM_MOST_TAKES = 69 };
 
-/* Says what ptpm_field_parse takes for a member, such as "a number from -128 to 127". That is for a person whose value was refused.
-   A member that no SET has may take "no value".
+/* Says what ptpm_field_parse takes for a member, such as "a number from -128 to 127", for a person whose value was refused. For a
+   member that no SET has, the text may be "no value".
    Takes:   the managementId; the member's place in the dataField, from 0 on, as ptpm_field_parse gives it; and room octets, for which
             PTPM_MOST_TAKES is enough.
    Returns: how many octets the text has; 0 if this profile has no such member, or room is too small for the whole text.

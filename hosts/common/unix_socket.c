@@ -91,6 +91,8 @@ static void remove_own(void) {
 /* Says why no socket can be made there, by errno. What is there already stays. */
 _Noreturn static void refuse_path(const char *path) {
     const char *what = "it is there already, and is not a socket: it stays as it is";
+    if (errno == ENOENT) end_program(path, "its folder is missing");
+    if (errno == EACCES) end_program(path, "Permission denied: it takes root, or the right to make a socket in this folder");
     if (errno != EADDRINUSE) give_up(path);
     if (is_unheard(path)) what = "the socket of a program that has ended is there, and can't be removed";
     else if (is_socket(path)) what = "another program listens there";

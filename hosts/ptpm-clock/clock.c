@@ -29,6 +29,7 @@
 #include "waking.h"
 #include <errno.h>
 #include <stdbool.h>
+#include <string.h>
 #include <sys/epoll.h>
 
 enum { SECOND = 1000 };
@@ -174,6 +175,15 @@ static enum needs needs(void) {
     return port_count == 0 ? NEEDS_NOTHING : transport == ETHERNET ? NEEDS_FRAMES : NEEDS_LOW_PORT;
 }
 
+/* What is closed to this program may be open to another user. */
+static void say_user(const char *what, const char *why) {
+    const struct privileges *privileges = &options->privileges;
+    (void)what;
+    if (privileges->user_name == NULL || strcmp(why, strerror(EACCES)) != 0) return;
+    say("running as user '%s'%s", privileges->user_name, privileges->is_by_default ? " (use --user NAME, or --user root to keep root)"
+        : ", without root's rights: files, and the folder of -s, have to be open to that user");
+}
+
 static void end_in_order(void) {
     report_stopping();
     close_device_program();
@@ -193,6 +203,7 @@ int main(int argc, char **argv) {
     open_all();
     report_twin();
     let_go_of_rights(&options->privileges, needs());
+    end_otherwise(2, say_user);
     if (options->source != NULL) source = open_source(&observations, options->source);
     start_device();
     check_device_program();

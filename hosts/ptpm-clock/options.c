@@ -168,7 +168,7 @@ static void leave_root(void) {
 
 /* UDP port 320 is for a ptp4l that ignores what comes in there. */
 static uint16_t port_diverted_to(void) {
-    long port = number("--diverted", GENERAL_PORT, UINT16_MAX);
+    long port = decimal(optarg, UINT16_MAX);
     if (port != GENERAL_PORT && port < LEAST_DIVERTED) {
         refuse_command_line("--diverted %s: it takes 320, or a number from %d to %d", optarg, LEAST_DIVERTED, UINT16_MAX);
     }

@@ -52,10 +52,9 @@ _Noreturn static void end_with(int status) {
 
 /* Why the file can't be used: what `why` says, or errno if it is NULL. */
 _Noreturn static void refuse_file(const char *why) {
-    bool is_right = why == NULL && errno == EACCES && options->privileges.is_by_default;
-    say("%s%s: %s", options->state, why != NULL ? "" : kept_fault(), why != NULL ? why : strerror(errno));
-    if (is_right) say("running as user '%s' (use --user NAME, or --user root to keep root)", options->privileges.user_name);
-    end_with(NOT_OPENED);
+    char what[PATH_MAX + sizeof ".lock"];
+    snprintf(what, sizeof what, "%s%s", options->state, why != NULL ? "" : kept_fault());
+    end_program(what, why != NULL ? why : strerror(errno));
 }
 
 /* The folder of the file is made if it is missing, and what is above it is not. */
@@ -220,7 +219,8 @@ static enum ptpm_saved fail(void) {
     saves.failed++;
     is_failing = true;
     next_save = milliseconds() + SECOND;
-    say_at_times("%s%s: no change is answered: %s", options->state, kept_fault(), strerror(errno));
+    const char *why = errno == ENOENT ? "its folder is missing" : errno == EAGAIN ? "another clock has it" : strerror(errno);
+    say_at_times("%s%s: no change is answered: %s", options->state, kept_fault(), why);
     return PTPM_OTHER_IMAGE;
 }
 

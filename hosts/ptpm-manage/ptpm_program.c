@@ -53,8 +53,8 @@ static int file_of(const struct piece *lines) {
     return opened;
 }
 
-/* What it is started with: its standard input and output, and a file beside, or -1. */
-struct ends { int from, to, beside; };
+/* What it is started with: its standard input and output, a file beside, and its standard error. Each of the last two may be -1. */
+struct ends { int from, to, beside, faults; };
 
 /* Starts it; whether it is started. */
 static bool start_program(pid_t *process, char *const *arguments, const struct ends *ends) {
@@ -68,6 +68,7 @@ static bool start_program(pid_t *process, char *const *arguments, const struct e
     errno = posix_spawn_file_actions_adddup2(&files, ends->from, STDIN_FILENO);
     if (errno == 0) errno = posix_spawn_file_actions_adddup2(&files, ends->to, STDOUT_FILENO);
     if (errno == 0 && ends->beside >= 0) errno = posix_spawn_file_actions_adddup2(&files, ends->beside, BESIDE);
+    if (errno == 0 && ends->faults >= 0) errno = posix_spawn_file_actions_adddup2(&files, ends->faults, STDERR_FILENO);
     if (errno != 0) return false;               /* and without them it would read what this program reads */
     posix_spawnattr_setsigmask(&attributes, &none);
     posix_spawnattr_setsigdefault(&attributes, &usual);
@@ -118,8 +119,9 @@ static void close_end(int *end) {
 static bool open_ends(struct ends *ends, int *output, const struct given *given) {
     int both[2];
     ends->from = file_of(given->lines);
+    ends->faults = file_of(&(struct piece){ 0 });
     if (given->beside != NULL) ends->beside = file_of(given->beside);
-    if (ends->from < 0 || (given->beside != NULL && ends->beside < 0) || pipe2(both, O_CLOEXEC)) return false;
+    if (ends->from < 0 || ends->faults < 0 || (given->beside != NULL && ends->beside < 0) || pipe2(both, O_CLOEXEC)) return false;
     *output = both[0];
     ends->to = both[1];
     return true;
@@ -133,7 +135,7 @@ static int status_at_end(pid_t process) {
 }
 
 int run_check_program(const char *path) {
-    struct ends ends = { open("/dev/null", O_RDONLY | O_CLOEXEC), STDERR_FILENO, -1 };
+    struct ends ends = { open("/dev/null", O_RDONLY | O_CLOEXEC), STDERR_FILENO, -1, -1 };
     char *arguments[] = { (char *)path, NULL };
     pid_t process;
     clear_progress();
@@ -143,8 +145,14 @@ int run_check_program(const char *path) {
     return has_started ? status_at_end(process) : FAULT;
 }
 
-int run_ptpm_program(char **arguments, const struct given *given, struct printed *printed) {
-    struct ends ends = { -1, -1, -1 };
+static void read_fault(int faults, char fault[MOST_FAULT]) {
+    ssize_t size = faults < 0 ? 0 : pread(faults, fault, MOST_FAULT - 1, 0);
+    while (size > 0 && fault[size - 1] == '\n') size--;
+    fault[size > 0 ? size : 0] = '\0';
+}
+
+int run_ptpm_program(char **arguments, const struct given *given, struct printed *printed, char fault[MOST_FAULT]) {
+    struct ends ends = { -1, -1, -1, -1 };
     int output = -1, status = FAULT;
     pid_t process;
     *printed = (struct printed){ 0 };
@@ -158,6 +166,8 @@ int run_ptpm_program(char **arguments, const struct given *given, struct printed
         while (read_printed(output, printed)) continue;
         status = status_of(process);
     }
+    read_fault(ends.faults, fault);
+    close_end(&ends.faults);
     close_end(&output);
     return status;
 }
@@ -166,7 +176,7 @@ bool start_ptpm_program(char **arguments, struct running *running) {
     int input[2] = { -1, -1 }, output[2] = { -1, -1 };
     arguments[0] = ptpm_program;
     bool has_started = pipe2(input, O_CLOEXEC) == 0 && pipe2(output, O_CLOEXEC) == 0
-                       && start_program(&running->process, arguments, &(struct ends){ input[0], output[1], -1 });
+                       && start_program(&running->process, arguments, &(struct ends){ input[0], output[1], -1, -1 });
     running->to = input[1];
     running->from = output[0];
     close_end(&input[0]);

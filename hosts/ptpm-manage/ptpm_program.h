@@ -19,8 +19,9 @@ void find_ptpm_program(void);
 struct given { const struct piece *lines, *beside; };
 
 /* Has it read this. Its words are `arguments`, whose first is left for its path, and whose last is NULL. Its status, or 1 if it did not end
-   normally, which is said. */
-int run_ptpm_program(char **arguments, const struct given *given, struct printed *printed);
+   normally, which is said. `fault` gets the beginning of what it says on standard error, without the end of a line. */
+enum { MOST_FAULT = 8192 };
+int run_ptpm_program(char **arguments, const struct given *given, struct printed *printed, char fault[MOST_FAULT]);
 
 /* Waits until a program has printed more there, and reads some of it. Whether it has, before its end, or before a signal asks this program to
    end. */

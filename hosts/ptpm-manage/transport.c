@@ -130,6 +130,17 @@ bool own_identity(size_t place, uint8_t identity[8]) {
     return place < end_count && ends[place].interface != NULL && write_own_identity(identity, ends[place].interface);
 }
 
+bool is_of_this_host(const uint8_t identity[8]) {
+    struct if_nameindex *all = if_nameindex();
+    bool is_own = false;
+    for (const struct if_nameindex *one = all; one != NULL && one->if_index != 0 && !is_own; one++) {
+        uint8_t own[8];
+        is_own = write_own_identity(own, one->if_name) && memcmp(own, identity, sizeof own) == 0;
+    }
+    if (all != NULL) if_freenameindex(all);
+    return is_own;
+}
+
 static bool is_to_group(void) {
     const struct sockaddr_in *four = (const struct sockaddr_in *)&clock_address;
     const struct sockaddr_in6 *six = (const struct sockaddr_in6 *)&clock_address;

@@ -98,3 +98,6 @@ bool came_from_asked(void);
 /* The identity that this host has at an interface by its hardware address: at the first, the second and so on. Whether there is
    one. */
 bool own_identity(size_t place, uint8_t identity[8]);
+
+/* Whether an interface of this host has the identity, which a clock of this host may have then. */
+bool is_of_this_host(const uint8_t identity[8]);

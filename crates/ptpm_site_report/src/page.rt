@@ -6,7 +6,7 @@ pub(crate) mod style;
 
 use crate::finding::phrases::clock_of;
 use crate::finding::remarks::{Remark, Weight, remarks_at};
-use crate::finding::text::Values;
+use crate::finding::text::FindingText;
 use crate::look::Look;
 use crate::not_judged::{NotJudged, limit_of};
 use crate::page::style::STYLE;
@@ -15,7 +15,6 @@ use crate::text::grandmaster_line::GrandmasterLine;
 use crate::text::ports::PortsText;
 use crate::trees::{ClockRow, Clocks, Row, Tree, notes_of, trees_of};
 use ptpm_commands::Fault;
-use ptpm_site::picture::Picture;
 use ptpm_site::reading::source::Source;
 use ptpm_text::Escaped;
 use std::alloc::{AllocError, Global};
@@ -32,26 +31,15 @@ pub(crate) fn print_page<O: Write>(
     print_findings(alloc, look, "What is wrong", look.found.as_slice(), out)?;
     let title = "What is open: it is wrong if it lasts";
     print_findings(alloc, look, title, look.open.as_slice(), out)?;
-    print_trees(alloc, look, out)?;
-    print_notes(alloc, look.picture, out)?;
-    writeln!(out, "</body>\n</html>")?;
-    Ok(())
-}
-
-fn print_trees<O: Write>(alloc: Global, look: &Look<'_, '_>, out: &mut O) -> Result<(), Fault> {
     let trees = trees_of(alloc, look)?;
     for tree in trees.as_slice() {
         print_tree(alloc, look, tree, out)?;
     }
-    Ok(())
-}
-
-/// Prints what is said of the whole.
-fn print_notes<O: Write>(alloc: Global, picture: &Picture<'_>, out: &mut O) -> Result<(), Fault> {
-    let notes = notes_of(alloc, picture)?;
+    let notes = notes_of(alloc, look.picture)?;
     for note in notes.as_slice() {
         writeln!(out, "<p>{}</p>", Escaped(note.as_str()))?;
     }
+    writeln!(out, "</body>\n</html>")?;
     Ok(())
 }
 
@@ -171,8 +159,7 @@ fn print_found_row<O: Write>(
     out: &mut O,
 ) -> Result<(), Fault> {
     let name = called(alloc, look, remark.source())?;
-    let (kind, values) = (remark.named.kind.name(), Values(remark.finding));
-    let words = format!(in alloc; "{kind}{values}")?;
+    let words = format!(in alloc; "{}", FindingText(remark))?;
     print_cells(remark, name.as_str(), words.as_str(), out)?;
     Ok(())
 }

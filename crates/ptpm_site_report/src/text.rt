@@ -14,7 +14,6 @@ use crate::text::grandmaster_line::GrandmasterLine;
 use crate::text::ports::PortsText;
 use crate::trees::{ClockRow, Row, Tree, notes_of, trees_of};
 use ptpm_commands::Fault;
-use ptpm_site::picture::Picture;
 use std::alloc::Global;
 use std::io;
 use std::io::Write;
@@ -26,26 +25,10 @@ pub(crate) fn print_text<O: Write>(
     out: &mut O,
 ) -> Result<Vec<FoundLine>, Fault> {
     writeln!(out, "{}", look.asked_text())?;
-    print_trees(alloc, look, out)?;
-    let lines = print_findings(alloc, look, out)?;
-    print_notes(alloc, look.picture, out)?;
-    Ok(lines)
-}
-
-fn print_trees<O: Write>(alloc: Global, look: &Look<'_, '_>, out: &mut O) -> Result<(), Fault> {
     let trees = trees_of(alloc, look)?;
     for tree in trees.as_slice() {
         print_tree(tree, look, out)?;
     }
-    Ok(())
-}
-
-/// Prints the findings and what is open. Answers the lines of the findings.
-fn print_findings<O: Write>(
-    alloc: Global,
-    look: &Look<'_, '_>,
-    out: &mut O,
-) -> Result<Vec<FoundLine>, Fault> {
     let report = FindingReport::of(alloc, look)?;
     if !look.picture.site.is_empty() || !look.found.is_empty() {
         writeln!(out, "{}", report.sum)?;
@@ -53,19 +36,14 @@ fn print_findings<O: Write>(
     let lines = report.print(alloc, look, out)?;
     print_momentary(look, out)?;
     report.print_open(alloc, look, out)?;
-    Ok(lines)
-}
-
-/// Prints what is said of the whole, and what is not judged.
-fn print_notes<O: Write>(alloc: Global, picture: &Picture<'_>, out: &mut O) -> Result<(), Fault> {
-    let notes = notes_of(alloc, picture)?;
+    let notes = notes_of(alloc, look.picture)?;
     for note in notes.as_slice() {
         writeln!(out, "{note}")?;
     }
-    for lack in picture.lacks.as_slice() {
+    for lack in look.picture.lacks.as_slice() {
         writeln!(out, "{}", NotJudged(*lack))?;
     }
-    Ok(())
+    Ok(lines)
 }
 
 /// Prints how many findings are left out, since the look before lacks them.

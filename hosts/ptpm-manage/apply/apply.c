@@ -140,7 +140,8 @@ static int apply(const struct task *task) {
     limit_plan(&plan, &task->plan);
     if (status == NOT_ANSWERED && may_skip(task, &plan)) status = ANSWERED;
     if (stopped && status == ANSWERED) status = BY_SIGNAL + stopped;
-    if (stopped || status == REFUSED || status == NOT_ANSWERED) complain("nothing was sent");
+    const char *next = status == NOT_ANSWERED && is_reached_in_part(&plan) ? ": --skip-unreached leaves out what is not reached" : "";
+    if (stopped || status == REFUSED || status == NOT_ANSWERED) complain("nothing was sent%s", next);
     if (status == ANSWERED && task->plan.is_probed && is_expected(task, &plan)) status = probe_steps(&plan, task);
     if (status == ANSWERED) status = apply_plan(task, &plan);
     leave_plan(&plan);

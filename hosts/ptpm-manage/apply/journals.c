@@ -85,7 +85,7 @@ static void refuse_copy(const struct journal *journal, const char *path) {
 static void read_it(struct journal *journal, const char *path) {
     switch (read_journal(journal, path)) {
     case FOUND_JOURNAL: refuse_copy(journal, path); return;
-    case NO_JOURNAL: refuse_usage("nothing was sent: %s: there is no such journal", path);
+    case NO_JOURNAL: refuse_usage("nothing was sent: %s: there is no such journal: ptpm-manage applies lists them", path);
     case DAMAGED_JOURNAL:
         refuse_storage("nothing was sent: DAMAGED: %s: octets of the journal were lost or changed; without it no apply is open", path);
     case OTHER_JOURNAL: refuse_storage("nothing was sent: OTHER_VERSION: %s: another version of this program wrote it, and only that version goes on with it", path);

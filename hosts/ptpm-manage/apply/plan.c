@@ -40,12 +40,24 @@ static void read_pipe(const char *path) {
     if (ferror(from)) refuse_usage("%s: %s", path, strerror(errno));
 }
 
+/* Says why it did not plan. A file beside has the name of the pipe that it was read from. */
+static void say_fault(const struct task *task, const char *fault, int status) {
+    bool is_beside = strncmp(fault, FILE_BESIDE, strlen(FILE_BESIDE)) == 0;
+    const char *name = is_beside ? task->plan.word : "", *rest = is_beside ? fault + strlen(FILE_BESIDE) : fault;
+    if (status == NOT_ASKED) refuse_usage("%s%s", name, rest);
+    complain("%s%s", name, rest);
+}
+
 /* Runs `ptpm plan` over these lines; its status. */
 static int run_plan(const struct task *task, const char *form, const struct piece *lines, struct printed *printed) {
     static const struct piece none;
     const char *path = piped.at != NULL ? FILE_BESIDE : task->plan.word;
     char *arguments[MOST_ARGUMENTS] = { NULL, (char *)"plan", (char *)form, (char *)path, NULL };
-    return run_ptpm_program(arguments, &(struct given){ lines != NULL ? lines : &none, piped.at != NULL ? &piped : NULL }, printed);
+    struct given given = { lines != NULL ? lines : &none, piped.at != NULL ? &piped : NULL };
+    char fault[MOST_FAULT];
+    int status = run_ptpm_program(arguments, &given, printed, fault);
+    if (*fault != '\0') say_fault(task, fault, status);
+    return status;
 }
 
 /* ---- what is asked */

@@ -76,6 +76,10 @@ void advise_on_every(const struct task *task) {
 static void advise(const struct task *task, enum unanswered what) {
     const char *end = what == EARLIER_REQUEST || what == EARLIER_ELSEWHERE ? "" : "; --domain names another";
     unsigned hops = task->settings.hops;
+    if (task->path == NULL && is_of_this_host(task->settings.target)) {
+        complain("a clock on this machine has that identity, and is asked on its Unix socket: --unix PATH, such as /var/run/ptp4l");
+        return;
+    }
     if (task->port > 1) complain("numberPorts of get DEFAULT_DATA_SET shows whether the clock has a port %u", task->port);
     if (hops < SITE_HOPS) complain("a clock past more than %u boundary clock%s was not asked: --hops %d asks as far as status does",
                                    hops, hops == 1 ? "" : "s", SITE_HOPS);

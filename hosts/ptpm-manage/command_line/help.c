@@ -31,7 +31,7 @@ static const char help_text[] =
     "set UTC_PROPERTIES currentUtcOffset 37 leap61 false leap59 false currentUtcOffsetValid true.\n"
     "\n"
     "collect asks every clock of a site, and prints the answers in hexadecimal.\n"
-    "By ptpm site, status shows who is grandmaster, who follows whom, and what is wrong.\n"
+    "status shows who is grandmaster, who follows whom, and what is wrong. It needs the program ptpm.\n"
     "\n"
     "plan shows what FILE would change at several clocks, and in which order. It only reads. apply also\n"
     "sends the SETs, one after another. A kill or missing answer leaves an apply open, and resume\n"

@@ -339,6 +339,22 @@ static enum plan_verb verb_of_plan(const char *verb) {
     return NO_PLAN;
 }
 
+/* Whether it has the 16 digits of a clockIdentity, however they are parted. */
+static bool is_like_identity(const char *text) {
+    size_t digits = 0;
+    for (; *text != '\0'; text++) {
+        if (isxdigit((unsigned char)*text)) digits++;
+        else if (strchr(".:-", *text) == NULL) return false;
+    }
+    return digits == 16;
+}
+
+/* Which option a word may lack before it. */
+static const char *missing_option(const char *text) {
+    if (is_like_identity(text)) return ": --target names a clock";
+    return if_nametoindex(text) > 0 ? ": --interface names an interface" : "";
+}
+
 static void read_verb(struct task *task, const char *verb) {
     task->plan.verb = verb_of_plan(verb);
     if (task->plan.verb != NO_PLAN) {
@@ -353,7 +369,9 @@ static void read_verb(struct task *task, const char *verb) {
         task->action = actions[i].action;
         return;
     }
-    if (!task->is_survey) refuse("%s: it is not one of get, set, command, survey, collect, status, plan, apply, resume, rollback and applies", verb);
+    if (!task->is_survey) {
+        refuse("%s: it is not one of get, set, command, survey, collect, status, plan, apply, resume, rollback and applies%s", verb, missing_option(verb));
+    }
 }
 
 /* A get of every port is a survey of one clock. It asks as nobody, since a clock numbers the requests that its managers send only
@@ -367,21 +385,12 @@ static void read_every_port(struct task *task, const struct words *words) {
     task->is_survey = task->is_of_clock = true;
 }
 
-/* Whether it has the 16 digits of a clockIdentity, however they are parted. */
-static bool is_like_identity(const char *text) {
-    size_t digits = 0;
-    for (; *text != '\0'; text++) {
-        if (isxdigit((unsigned char)*text)) digits++;
-        else if (strchr(".:-", *text) == NULL) return false;
-    }
-    return digits == 16;
-}
-
 static void read_id(struct task *task, const char *text) {
     bool is_read = task->is_survey || task->action == PTPM_GET;
     long id = is_read ? read_id_named(text) : id_named(text);
-    const char *next = is_like_identity(text) ? ": --target names a clock" : "";
-    if (id < 0) refuse("%s: it is neither a managementId of the list in ptpm-manage --help nor four hexadecimal digits%s", text, next);
+    if (id < 0) {
+        refuse("%s: it is neither a managementId of the list in ptpm-manage --help nor four hexadecimal digits%s", text, missing_option(text));
+    }
     task->id = (uint16_t)id;
 }
 
@@ -481,7 +490,7 @@ static void read_plan(struct task *task, const struct words *words) {
     int most = task->plan.verb == RESUME ? 1 : 2, least = task->plan.verb == APPLIES ? 1 : most;
     if (words->count > most) refuse("%s: there are too many words; see ptpm-manage --help", words->at[most]);
     bool lacks_word = words->count < least || (words->count == 2 && *words->at[1] == '\0');
-    if (lacks_word) refuse("%s: it takes %s", verb, task->plan.verb >= ROLLBACK ? "the name of an apply" : "a file");
+    if (lacks_word) refuse("%s: it takes %s", verb, task->plan.verb >= ROLLBACK ? "the name of an apply: ptpm-manage applies lists them" : "a file");
     task->plan.word = words->at[1];
     if (words->domain != NULL) refuse("--domain: %s takes the domains of its file", verb);
     if (task->interface_count > 1) refuse("--interface: %s takes one", verb);
@@ -498,7 +507,7 @@ static void read_asked(struct task *task, const struct words *words) {
         return;
     }
     if (task->site.is_collected) {
-        if (words->count > 1) refuse("%s %s: %s takes no managementId", verb, words->at[1], verb);
+        if (words->count > 1) refuse("%s %s: %s takes no managementId%s", verb, words->at[1], verb, missing_option(words->at[1]));
         if (task->has_manager) refuse("--manager: %s asks anonymously", verb);
         if (words->port >= 0 || words->is_text || task->is_in_octets || task->numbers != NULL) {
             refuse("%s takes none of --port, --text, --hexadecimal and --numbers", verb);

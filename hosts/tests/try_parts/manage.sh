@@ -69,6 +69,8 @@ check "it then says what is known of ports" "$(ended 3 && says 'no answer at nea
     says 'a clock past more than 1 boundary clock was not asked: --hops 7 asks as far as status does$' && echo yes)"
 check "it says nothing of clocks further away if it asks as far as status does" "$(asks '' -i near0 -a 2 -b 7 -p 2 get PORT_DATA_SET > /dev/null &&
     ! says 'a clock past more than ' && echo yes)"
+check "manage of a clock of its own machine" "$(to=020000fffe000010 asks '' -i near0 -a 2 get DOMAIN > /dev/null; ended 3 &&
+    says 'a clock on this machine has that identity, and is asked on its Unix socket: ' && echo yes)"
 check "manage at two interfaces" "$(refuses '--interface lo: --interface near0 is there already' -i near0 -i lo get DOMAIN --target $to)"
 check "manage of its own clock" "$(refuses 'nothing was asked: SAME_CLOCK' -i near0 get DOMAIN --target 000000fffe000010)"
 check "manage survey PRIORITY2" "$(surveys 'priority2 128' priority2)"

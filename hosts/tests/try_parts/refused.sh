@@ -28,6 +28,8 @@ $to_utc -32769 leap61 0 leap59 0 currentUtcOffsetValid 1|currentUtcOffset -32769
 -i near0 --target $to get PRIORITY|PRIORITY: it is neither a managementId
 -i near0 set $identity PRIORITY1 3|four hexadecimal digits: --target names a clock
 -i near0 get aa-bb-cc-ff-fe-dd-ee-01 PRIORITY1|four hexadecimal digits: --target names a clock
+status near0|status near0: status takes no managementId: --interface names an interface
+near0 --target $to get PRIORITY1|rollback and applies: --interface names an interface
 -i near0 --target $to fetch PRIORITY1|fetch: it is not one of get, set, command, survey, collect, status, plan, apply, resume, rollback and applies
 -i near0 --target aabbcc.fffe.ddee1 get PRIORITY1|--target aabbcc.fffe.ddee1: it takes
 -i near0 --target $to-x get PRIORITY1|-x is not a port
@@ -59,7 +61,9 @@ $to_utc -32769 leap61 0 leap59 0 currentUtcOffsetValid 1|currentUtcOffset -32769
 -2 -i near9 --target $to get PRIORITY1|nothing was sent: near9: No such device
 -2 --udp 10.9.9.2 --target $to get PRIORITY1|--ethernet excludes --udp and --ipv6
 -u $work/nowhere --target $to set PRIORITY1 1|nothing was sent: $work/nowhere: No such file or directory
+-u $work/no/socket --target $to set PRIORITY1 1|: its folder is missing
 -i near0 --target ffffffffffffffff get PRIORITY1|nothing was asked: TARGET_IS_EVERY
+-i near0 rollback|rollback: it takes the name of an apply: ptpm-manage applies lists them
 -i near0 --give-up --target $to get PRIORITY1|--give-up: this request has no session
 -i near0 --give-up apply $work/site.toml|--give-up: of the commands for a plan only resume takes it
 -i near0 --target $to get PORT_DATA_SET|nothing was asked: NEEDS_PORT
@@ -87,5 +91,6 @@ check "what lacks a descriptor says so" "$(says 'nothing was sent: near0: Too ma
 for verb in plan apply rollback; do
     check "manage $verb of an empty word" "$(refuses "$verb: it takes " -i near0 $verb '')"
 done
+check "manage rollback of no apply" "$(refuses 'no such journal: ptpm-manage applies lists them' -i near0 rollback none)"
 check "manage --version" "$(./manage --version | grep -q '^ptpm-manage [0-9]' && echo yes)"
 check "manage --help" "$(./manage --help | grep -q 'LOG_MIN_PDELAY_REQ_INTERVAL' && echo yes)"

@@ -31,6 +31,17 @@ check "a copy of the second is answered as before, and saves nothing" "$(grep -q
 check "the manager goes on" "$(asks 'priority1 60' $kept set PRIORITY1 60)"
 stop
 check "it counts its saves" "$(holds grep -q '^saved: 3$' "$work/ran")"
+start -s "$work/folder/clock" -m 000000fffe000010/1 $identity far0
+rm -r "$work/folder"
+check "a clock whose folder is gone answers no change" "$(asks '' $kept -a 3 set PRIORITY1 61)"
+check "it says so" "$(holds grep -q 'clock.new: no change is answered: its folder is missing$' "$work/ran")"
+mkdir "$work/folder"
+check "it goes on in a new folder" "$(asks 'priority1 62' $kept -a 60 set PRIORITY1 62)"
+check "no second clock saves there" "$(./clock --user root -s "$work/folder/clock" $identity far0 2>&1 | grep -q ': another clock, process .* has it$' && echo yes)"
+stop
+start -s "$work/folder/clock" -u "$work/socket" -m 000000fffe000010/1 $identity far0
+check "it has what was saved there" "$(asks 'priority1 62' -u "$work/socket" get PRIORITY1)"
+stop
 start -u "$work/socket" -m 000000fffe000010/1 $identity far0
 copy_of 101 100
 check "without a file a copy is new" "$(asks 'priority1 100' -u "$work/socket" get PRIORITY1)"

@@ -21,15 +21,19 @@ $(printf -- "-m $other/%s " {1..65}) $identity far0|-m $other/65: 64 managers at
 -m $other/1 -m $identity/2 $identity far0|-m $identity/2: it has the identity of the clock, which hears no such manager
 -u $work/socket -o $work/nothing $identity|$work/nothing: No such file or directory
 -u $work/socket -o $work $identity|$work: it is neither a file nor a pipe
+-u $work/no/socket $identity|$work/no/socket: its folder is missing
+-u $work/socket --user nobody -o $work/names $identity|running as user 'nobody', without root's rights
 -u $work/socket --limits $work/nothing $identity|$work/nothing: No such file or directory
 -u $work/socket --ask $work/nothing $identity|$work/nothing: No such file or directory
 -u $work/socket --ask-time 0 $identity|--ask-time 0: it takes a number from 1 to 3600
 -u $work/socket --ask-time 5 $identity|--ask-time: its program is missing: --ask PROGRAM
 -u $work/socket --ask-time 10 $identity|--ask-time: its program is missing: --ask PROGRAM
+--diverted 80 --ptp4l $work/socket $identity far0|--diverted 80: it takes 320, or a number from 1024 to 65535
 --diverted 10320 $identity far0|--diverted: --ptp4l PATH is missing
 --diverted 10320 --ptp4l $work/socket -2 $identity far0|--diverted and -2 exclude each other
 -f $identity far0|-f: its Unix socket is missing: -u PATH
 --unix-mode 660 $identity far0|--unix-mode: its Unix socket is missing: -u PATH
 --unix-group root $identity far0|--unix-group: its Unix socket is missing: -u PATH
 END
+check "examples/lab lose, without a number" "$([[ $(../examples/lab lose 2>&1) == "sudo examples/lab up | "* ]] && echo yes)"
 check "clock --version" "$(./clock --version | grep -q '^ptpm-clock [0-9]' && echo yes)"

@@ -2,7 +2,7 @@
 
 use crate::finding::followers::{Follower, Followers, Head, add_under};
 use crate::finding::remarks::Remark;
-use crate::finding::text::Values;
+use crate::finding::text::FindingText;
 use crate::look::Look;
 use ptpm_causes::Kind;
 use ptpm_site::reading::source::Source;
@@ -127,7 +127,7 @@ pub(crate) fn alike_together(
             together.push(*line)?;
             continue;
         };
-        let words = words_of(alloc, remark)?;
+        let words = format!(in alloc; "{} {}", remark.source().domain, FindingText(remark))?;
         let repeat = count_one(&mut said, words, together.len())?;
         put_line(&mut together, *line, repeat)?;
         add_of_many(&mut of_many, line, remark, repeat, followers)?;
@@ -138,15 +138,8 @@ pub(crate) fn alike_together(
     })
 }
 
-/// What a finding says, without its clock.
-fn words_of(alloc: Global, remark: &Remark<'_>) -> Result<String, AllocError> {
-    let (domain, name) = (remark.source().domain, remark.named.kind.name());
-    let values = Values(remark.finding);
-    format!(in alloc; "{domain} {name}{values}")
-}
-
 /// The finding of a line that has one alone.
-fn remark_of<'a, 'b>(remarks: &'a [Remark<'b>], line: &FindingLine) -> Option<&'a Remark<'b>> {
+fn remark_of<'a>(remarks: &'a [Remark<'a>], line: &FindingLine) -> Option<&'a Remark<'a>> {
     match line {
         FindingLine::One { place, .. } => remarks.get(*place),
         _ => None,

@@ -5,10 +5,11 @@ ghost use Rattle.std.specs.List.{list_any};
 ghost use Rattle.ptpm_site_report.specs.Reporting.{counts, is_critical};
 
 use crate::finding::phrases::clock_of_cause;
-use crate::finding::text::Values;
+use crate::finding::text::FindingText;
 use ptpm_causes::{Cause, Kind, Severity, named};
 use ptpm_site::judging::finding::Finding;
 use ptpm_site::picture::Picture;
+use ptpm_site::reading::site::Site;
 use ptpm_site::reading::source::Source;
 use std::alloc::{AllocError, Global};
 use std::fmt;
@@ -130,8 +131,7 @@ impl Remark<'_> {
 /// The name and the values, and from what it follows, with the clock of that if it is another.
 impl fmt::Display for Remark<'_> {
     fn fmt<W: fmt::Write>(&self, f: &mut fmt::Formatter<W>) -> fmt::Result {
-        let (name, values) = (self.named.kind.name(), Values(self.finding));
-        write!(f, "{name}{values}")?;
+        write!(f, "{}", FindingText(self))?;
         let Some(cause) = self.cause else {
             return Ok(());
         };
@@ -160,8 +160,22 @@ pub(crate) fn any_critical(remarks: &[Remark<'_>]) -> bool
 }
 
 /// Those of a clock. They are in the order of their clocks.
-pub(crate) fn remarks_at<'a, 'b>(remarks: &'a [Remark<'b>], source: Source) -> &'a [Remark<'b>] {
+pub(crate) fn remarks_at<'a>(remarks: &'a [Remark<'a>], source: Source) -> &'a [Remark<'a>] {
     let from = remarks.partition_point(|remark| remark.source() < source);
     let to = remarks.partition_point(|remark| remark.source() <= source);
     remarks.get(from..to).unwrap_or(&[])
+}
+
+/// Adds those of clocks that are not seen and of whole domains.
+pub(crate) fn add_unseen<'a>(
+    site: &Site,
+    remarks: &[Remark<'a>],
+    all: &mut Vec<Remark<'a>>,
+) -> Result<(), AllocError> {
+    for remark in remarks {
+        if !site.is_seen(remark.source()) {
+            all.push(*remark)?;
+        }
+    }
+    Ok(())
 }

@@ -7,7 +7,7 @@ use crate::finding::found_line::FoundLine;
 use crate::finding::lines::{FindingLine, FindingLines, alike_together, each_line, open_lines};
 use crate::finding::phrases::clock_of;
 use crate::finding::remarks::Remark;
-use crate::finding::text::Values;
+use crate::finding::text::{FindingText, Words};
 use crate::look::Look;
 use crate::not_judged::limit_of;
 use crate::trees::Clocks;
@@ -140,16 +140,13 @@ impl FindingReport {
         is_first: bool,
     ) -> Result<FoundLine, AllocError> {
         let so_too = self.so_too(look, is_first, Head::of(remark.named));
-        let (values, name) = (Values(remark.finding), look.name_at(remark.finding));
-        let key = key_of(alloc, remark)?;
-        let words = format!(in alloc; "{key}{values}")?;
-        let whole = format!(in alloc; "{words}{so_too}{name}")?;
+        let (words, name) = (Words(remark), look.name_at(remark.finding));
         Ok(FoundLine {
             domain: remark.source().domain,
             kind: remark.named.kind,
-            key,
-            words,
-            whole,
+            key: key_of(alloc, remark)?,
+            words: format!(in alloc; "{words}")?,
+            whole: format!(in alloc; "{words}{so_too}{name}")?,
             follows: false,
         })
     }
@@ -213,15 +210,18 @@ fn many_line(
     more: usize,
     so_too: SoToo<'_>,
 ) -> Result<FoundLine, AllocError> {
-    let (domain, name) = (remark.source().domain, remark.named.kind.name());
-    let (values, clocks) = (Values(remark.finding), Clocks(more));
-    let key = format!(in alloc; "{domain} - {name}")?;
-    let words = format!(in alloc; "{key}{values} of {clocks} more")?;
+    let (domain, kind, said) = (
+        remark.source().domain,
+        remark.named.kind,
+        FindingText(remark),
+    );
+    let (name, clocks) = (kind.name(), Clocks(more));
+    let words = format!(in alloc; "{domain} - {said} of {clocks} more")?;
     let whole = format!(in alloc; "{words}{so_too}")?;
     Ok(FoundLine {
         domain,
-        kind: remark.named.kind,
-        key,
+        kind,
+        key: format!(in alloc; "{domain} - {name}")?,
         words,
         whole,
         follows: false,

@@ -1,11 +1,11 @@
-//! The values of a finding as a text.
+//! A finding as a line of text.
 
-use crate::finding::phrases::{Phrase, Shown};
+use crate::finding::phrases::{Phrase, Shown, clock_of};
+use crate::finding::remarks::Remark;
 use crate::finding::values::{FindingValue, FindingValues, TakeValues, hand_values};
 use crate::intervals::{Exact, Seconds, Whole};
 use crate::monitoring::seconds::NanosecondSeconds;
 use crate::printable::Printable;
-use ptpm_site::judging::finding::Finding;
 use ptpm_site::judging::twice::OtherMember;
 use ptpm_site::judging::two_addresses::TwoAddresses;
 use ptpm_site::judging::two_offsets::TwoOffsets;
@@ -13,13 +13,28 @@ use ptpm_site::reading::asked::Asked;
 use ptpm_site::reading::origin::{Origin, TimeError};
 use std::fmt;
 
-/// The values of a finding, with the words round them. They come after its name.
+/// A finding in words: the domain, the clock, and what is wrong.
 #[derive(Clone, Copy)]
-pub(crate) struct Values<'a>(pub(crate) &'a Finding<'a>);
+pub(crate) struct Words<'a>(pub(crate) &'a Remark<'a>);
 
-impl fmt::Display for Values<'_> {
+impl fmt::Display for Words<'_> {
     fn fmt<W: fmt::Write>(&self, f: &mut fmt::Formatter<W>) -> fmt::Result {
-        hand_values(&self.0.what, f)
+        let (domain, text) = (self.0.source().domain, FindingText(self.0));
+        match clock_of(self.0.finding) {
+            Some(clock) => write!(f, "{domain} {clock} {text}"),
+            None => write!(f, "{domain} - {text}"),
+        }
+    }
+}
+
+/// What is wrong: the finding's name, and the values.
+#[derive(Clone, Copy)]
+pub(crate) struct FindingText<'a>(pub(crate) &'a Remark<'a>);
+
+impl fmt::Display for FindingText<'_> {
+    fn fmt<W: fmt::Write>(&self, f: &mut fmt::Formatter<W>) -> fmt::Result {
+        f.write_str(self.0.named.kind.name())?;
+        hand_values(&self.0.finding.what, f)
     }
 }
 

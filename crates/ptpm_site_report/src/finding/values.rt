@@ -77,30 +77,32 @@ const NONE: NamedValue<'static> = ("", Null(""));
 /// The values of a finding, after the words that have them. A value past the last place is for scripts alone.
 pub(crate) type FindingValues<'a> = [NamedValue<'a>; 8];
 
-/// Words, and the values that they have: seven at most.
-fn say<'a>(words: &'static str, values: &[NamedValue<'a>]) -> FindingValues<'a> {
-    say_both(words, values, &[])
+fn template(words: &'static str) -> NamedValue<'static> {
+    ("", FindingValue::Template(words))
 }
 
-/// One value alone.
-fn just<'a>(name: &'static str, value: FindingValue<'a>) -> FindingValues<'a> {
-    say(" {}", &[(name, value)])
+fn none(words: &'static str) -> FindingValues<'static> {
+    [template(words), NONE, NONE, NONE, NONE, NONE, NONE, NONE]
 }
 
-/// Words, the values that they have, and more.
-fn say_both<'a>(
-    words: &'static str,
-    values: &[NamedValue<'a>],
-    more: &[NamedValue<'a>],
-) -> FindingValues<'a> {
-    let mut all = [NONE; 8];
-    all[0] = ("", FindingValue::Template(words));
-    for (before, value) in values.iter().chain(more.iter()).enumerate() {
-        if let Some(place) = all.get_mut(before.saturating_add(1)) {
-            *place = *value;
-        }
-    }
-    all
+fn one<'a>(words: &'static str, value: NamedValue<'a>) -> FindingValues<'a> {
+    [template(words), value, NONE, NONE, NONE, NONE, NONE, NONE]
+}
+
+fn two<'a>(words: &'static str, [a, b]: [NamedValue<'a>; 2]) -> FindingValues<'a> {
+    [template(words), a, b, NONE, NONE, NONE, NONE, NONE]
+}
+
+fn three<'a>(words: &'static str, [a, b, c]: [NamedValue<'a>; 3]) -> FindingValues<'a> {
+    [template(words), a, b, c, NONE, NONE, NONE, NONE]
+}
+
+fn four<'a>(words: &'static str, [a, b, c, d]: [NamedValue<'a>; 4]) -> FindingValues<'a> {
+    [template(words), a, b, c, d, NONE, NONE, NONE]
+}
+
+fn five<'a>(words: &'static str, [a, b, c, d, e]: [NamedValue<'a>; 5]) -> FindingValues<'a> {
+    [template(words), a, b, c, d, e, NONE, NONE]
 }
 
 /// What takes the values of a finding.
@@ -113,34 +115,55 @@ pub(crate) trait TakeValues {
 /// Hands over what a finding says.
 pub(crate) fn hand_values<T: TakeValues>(what: &What<'_>, to: &mut T) -> Result<(), T::Error> {
     match what {
-        What::Unexpected | What::TwoGrandmasters | What::Absent(None) => to.take(&say("", &[])),
-        What::Absent(Some(description)) => to.take(&just("", Of(Text(description.as_bytes())))),
+        What::Unexpected | What::TwoGrandmasters | What::Absent(None) => to.take(&none("")),
+        What::Absent(Some(description)) => to.take(&one(
+            " {}",
+            ("", Of(Text(description.as_bytes()))),
+        )),
         What::NotAsExpected(unmet) => to.take(&of_unmet(unmet)),
         What::OtherLeaders(other) => to.take(&of_other_leaders(other)),
         What::Profile(outside) => to.take(&of_outside(outside)),
-        What::Gone => to.take(&say(" answers no more", &[])),
+        What::Gone => to.take(&none(" answers no more")),
         What::NotTaken(not_taken) => to.take(&of_not_taken(not_taken)),
         What::Unseen(unseen) => to.take(&of_unseen(*unseen)),
         What::NotAsked(clocks) => to.take(&of_not_asked(*clocks)),
         What::NoMaster(why) => to.take(&of_masterless(why)),
-        What::GrandmasterNotSeen(clock) => to.take(&just("grandmasterIdentity", Of(Clock(*clock)))),
-        What::ParentNotSeen(parent) => to.take(&just("parentPortIdentity", Of(Port(*parent)))),
+        What::GrandmasterNotSeen(clock) => to.take(&one(
+            " {}",
+            ("grandmasterIdentity", Of(Clock(*clock))),
+        )),
+        What::ParentNotSeen(parent) => to.take(&one(
+            " {}",
+            ("parentPortIdentity", Of(Port(*parent))),
+        )),
         What::ParentNotMaster(parent, why) => to.take(&of_not_master(*parent, why)),
         What::Steps(steps) => to.take(&of_steps(steps)),
         What::GrandmasterDiffers(differs) | What::Utc(differs) => to.take(&of_differs(differs)),
-        What::Loop(clocks) => to.take(&just("clocks", FindingValue::Clocks(clocks.as_slice()))),
+        What::Loop(clocks) => to.take(&one(
+            " {}",
+            ("clocks", FindingValue::Clocks(clocks.as_slice())),
+        )),
         What::PortState(port, stay) => to.take(&of_state(*port, stay)),
         What::NotLocked(port, unlocked) => to.take(&of_unlocked(*port, unlocked)),
         What::OffsetFrozen(frozen) => to.take(&of_frozen(frozen)),
         What::GrandmasterTime(error) => to.take(&of_time_error(error)),
         What::OffByUtc(how) => to.take(&of_off_by_utc(how)),
         What::Offset(offset) => to.take(&of_offset(offset)),
-        What::Delay(delay) => to.take(&say(" meanDelay {} ns", &[("meanDelay", Exact(*delay))])),
-        What::LinkDelay(port, delay) => to.take(&of_link_delay(*port, *delay)),
+        What::Delay(delay) => to.take(&one(" meanDelay {} ns", ("meanDelay", Exact(*delay)))),
+        What::LinkDelay(port, delay) => to.take(&two(
+            " port {} meanLinkDelay {} ns",
+            [
+                ("portNumber", number(*port)),
+                ("meanLinkDelay", Exact(*delay)),
+            ],
+        )),
         What::Intervals(port, seldom) => to.take(&of_seldom(*port, seldom)),
         What::DelayMechanism(port, other) => to.take(&of_mechanism(*port, other)),
         What::GrandmasterDoubtful(doubtful) => to.take(&of_doubtful(doubtful)),
-        What::Degraded(degraded) => to.take(&just("clockQuality", Of(Quality(degraded.quality)))),
+        What::Degraded(degraded) => to.take(&one(
+            " {}",
+            ("clockQuality", Of(Quality(degraded.quality))),
+        )),
         What::NotTraceable(untraceable) => to.take(&of_untraceable(untraceable)),
         What::UtcInvalid(offset) => to.take(&of_utc_invalid(*offset)),
         What::UtcOffset(offset) => to.take(&of_utc_offset(offset)),
@@ -150,19 +173,9 @@ pub(crate) fn hand_values<T: TakeValues>(what: &What<'_>, to: &mut T) -> Result<
         What::Incomplete(missing) => to.take(&of_missing(missing)),
         What::OutOfReach(hops) => to.take(&of_reach(*hops)),
         What::GrandmasterChanged(change) => to.take(&of_grandmaster_change(change)),
-        What::Changed(port, change) => {
-            to.take(&say("{} {} {}, then {}", &of_change(*port, change)))
-        }
+        What::Changed(port, change) => to.take(&of_change(*port, change, "{} {} {}, then {}")),
         What::IdentityTwice(twice) => to.take(&of_twice(twice)),
     }
-}
-
-fn of_link_delay(port: u16, delay: i64) -> FindingValues<'static> {
-    let values = [
-        ("portNumber", number(port)),
-        ("meanLinkDelay", Exact(delay)),
-    ];
-    say(" port {} meanLinkDelay {} ns", &values)
 }
 
 fn of_unmet<'a>(unmet: &Unmet<'a>) -> FindingValues<'a> {
@@ -176,7 +189,7 @@ fn of_unmet<'a>(unmet: &Unmet<'a>) -> FindingValues<'a> {
         ("value", value),
         ("expected", Words(Phrase::Wanted(wanted))),
     ];
-    say(" {} {}, not {}", &values)
+    three(" {} {}, not {}", values)
 }
 
 /// The clocks that lead, if there are any, and those that are wanted.
@@ -192,7 +205,7 @@ fn of_other_leaders<'a>(other: &'a OtherLeaders<'a>) -> FindingValues<'a> {
         ("value", value),
         ("expected", wanted),
     ];
-    say(" {} {}, not {}", &values)
+    three(" {} {}, not {}", values)
 }
 
 fn of_outside(outside: &Outside) -> FindingValues<'static> {
@@ -202,49 +215,49 @@ fn of_outside(outside: &Outside) -> FindingValues<'static> {
         ("value", Of(outside.value)),
         ("expected", Words(Phrase::Allowed(outside.allowed))),
     ];
-    say("{} {} {}, not {}", &values)
+    four("{} {} {}, not {}", values)
 }
 
 /// Why the answers of a clock were not taken, by one of them.
 fn of_not_taken<'a>(not_taken: &NotTaken<'a>) -> FindingValues<'a> {
     let address = match not_taken.from {
-        Some(from) => Name(from),
-        None => Null("an address"),
+        Some(from) => ("address", Name(from)),
+        None => ("address", Null("an address")),
     };
     let milliseconds = match not_taken.after {
-        Some(after) => Of(Unsigned(after / 1_000_000)),
-        None => Null(""),
+        Some(after) => ("milliseconds", Of(Unsigned(after / 1_000_000))),
+        None => ("milliseconds", Null("")),
     };
-    let words = match not_taken.why {
-        Untaken::OffLink => " answers from {}, which is not on the link: --any-source takes it",
-        Untaken::Late if not_taken.after.is_some() => {
-            " answers {} s after it is asked: --timeout waits longer"
-        }
-        Untaken::Late => " answers too late: --timeout waits longer",
-        Untaken::Unreadable => " answers, and it can't be read",
-    };
-    let in_words = match not_taken.why {
-        Untaken::OffLink => address,
-        _ => FindingValue::Tenths(not_taken.after.unwrap_or(0) / 100_000_000),
-    };
-    let values = [
-        ("", in_words),
-        ("address", address),
-        ("milliseconds", milliseconds),
-        ("reason", Name(not_taken.why.word())),
-    ];
-    say(words, &values)
+    let tenths = FindingValue::Tenths(not_taken.after.unwrap_or(0) / 100_000_000);
+    let reason = ("reason", Name(not_taken.why.word()));
+    match not_taken.why {
+        Untaken::OffLink => three(
+            " answers from {}, which is not on the link: --any-source takes it",
+            [address, milliseconds, reason],
+        ),
+        Untaken::Late if not_taken.after.is_some() => four(
+            " answers {} s after it is asked: --timeout waits longer",
+            [("", tenths), address, milliseconds, reason],
+        ),
+        Untaken::Late => three(
+            " answers too late: --timeout waits longer",
+            [address, milliseconds, reason],
+        ),
+        Untaken::Unreadable => three(
+            " answers, and it can't be read",
+            [address, milliseconds, reason],
+        ),
+    }
 }
 
 fn of_unseen(unseen: Absence) -> FindingValues<'static> {
     match unseen {
-        Absence::OwnHost => say(
+        Absence::OwnHost => none(
             " is the host that asks: at an interface it does not hear itself; ask its Unix socket too",
-            &[],
         ),
         Absence::Mute(kind) => {
             let message = ("message", Name(kind_name(kind)));
-            say(" sends {}, and answers no management message", &[message])
+            one(" sends {}, and answers no management message", message)
         }
     }
 }
@@ -255,22 +268,22 @@ fn of_not_asked(clocks: usize) -> FindingValues<'static> {
     } else {
         " {} clocks send here"
     };
-    say(words, &[("clocks", Of(Unsigned(clocks as u64)))])
+    one(words, ("clocks", Of(Unsigned(clocks as u64))))
 }
 
 fn of_masterless(why: &Masterless) -> FindingValues<'static> {
     match why {
-        Masterless::SlaveOnly => say(
+        Masterless::SlaveOnly => one(
             " {}, and its own grandmaster",
-            &[("reason", Name("slaveOnly"))],
+            ("reason", Name("slaveOnly")),
         ),
-        Masterless::Silent => say(
+        Masterless::Silent => one(
             " its own grandmaster, with no port in MASTER, PRE_MASTER or PASSIVE",
-            &[("reason", Name("ownGrandmaster"))],
+            ("reason", Name("ownGrandmaster")),
         ),
-        Masterless::Lost(grandmaster) => say(
+        Masterless::Lost(grandmaster) => two(
             " names {}, with no port in SLAVE or UNCALIBRATED",
-            &[
+            [
                 ("grandmasterIdentity", Of(Clock(*grandmaster))),
                 ("reason", Name("lost")),
             ],
@@ -281,13 +294,13 @@ fn of_masterless(why: &Masterless) -> FindingValues<'static> {
 fn of_not_master(parent: PortIdentity, why: &NoMaster) -> FindingValues<'static> {
     let parent = ("parentPortIdentity", Of(Port(parent)));
     match why {
-        NoMaster::NoPort => say(
+        NoMaster::NoPort => two(
             " {}, which that clock lacks",
-            &[parent, ("portState", Null(""))],
+            [parent, ("portState", Null(""))],
         ),
         NoMaster::InState(state) => {
             let state = MemberValue::Named(Enumeration::PortState, *state);
-            say(" {}, which is in {}", &[parent, ("portState", Of(state))])
+            two(" {}, which is in {}", [parent, ("portState", Of(state))])
         }
     }
 }
@@ -295,13 +308,13 @@ fn of_not_master(parent: PortIdentity, why: &NoMaster) -> FindingValues<'static>
 fn of_steps(steps: &Steps) -> FindingValues<'static> {
     let own = ("stepsRemoved", number(steps.steps));
     match steps.parent {
-        Some(parent) => say(
+        Some(parent) => two(
             " stepsRemoved {}, and its parent has {}",
-            &[own, ("parentStepsRemoved", number(parent))],
+            [own, ("parentStepsRemoved", number(parent))],
         ),
-        None => say(
+        None => two(
             " stepsRemoved {} at a grandmaster",
-            &[own, ("parentStepsRemoved", Null(""))],
+            [own, ("parentStepsRemoved", Null(""))],
         ),
     }
 }
@@ -317,17 +330,18 @@ fn of_differs(differs: &Differs) -> FindingValues<'static> {
         ("value", Of(differs.own)),
         ("expected", Of(differs.other)),
     ];
-    say(" {} {}, not {}", &values)
+    three(" {} {}, not {}", values)
 }
 
 /// The member, the value of the earlier answer, and that of the later.
-fn of_change<'a>(port: Option<u16>, change: &Change<'a>) -> [NamedValue<'a>; 4] {
-    [
+fn of_change<'a>(port: Option<u16>, change: &Change<'a>, words: &'static str) -> FindingValues<'a> {
+    let values = [
         (if port.is_some() { "portNumber" } else { "" }, AtPort(port)),
         ("member", Name(change.member.name())),
         ("before", Of(change.before)),
         ("after", Of(change.after)),
-    ]
+    ];
+    four(words, values)
 }
 
 /// The state of a port, and for how many whole seconds it is known to be in it or in another on its way.
@@ -338,9 +352,9 @@ fn of_state(port: u16, stay: &Stay) -> FindingValues<'static> {
     } else {
         " port {} {}"
     };
-    say(
+    three(
         words,
-        &[
+        [
             ("portNumber", number(port)),
             state,
             ("seconds", seconds(stay.time)),
@@ -372,7 +386,7 @@ fn of_unlocked(port: u16, unlocked: &Unlocked) -> FindingValues<'static> {
         ("seconds", seconds(unlocked.time)),
         ("offsetFromMaster", offset),
     ];
-    say(words, &values)
+    four(words, values)
 }
 
 fn of_frozen(frozen: &FrozenOffset) -> FindingValues<'static> {
@@ -382,7 +396,7 @@ fn of_frozen(frozen: &FrozenOffset) -> FindingValues<'static> {
         ("seconds", Of(Unsigned(frozen.seconds))),
     ];
     let words = " offset {} ns in each of {} answers, for {} s: no Sync counts there";
-    say(words, &values)
+    three(words, values)
 }
 
 /// How far the time of a grandmaster is from TAI: in tenths of a second, rounded, or from a day on in whole days.
@@ -398,15 +412,16 @@ fn of_time_error(error: &TimeError) -> FindingValues<'_> {
     } else {
         "ahead of"
     };
-    let values = [
+    [
+        template(words),
         ("", amount),
         ("", Name(unit)),
         ("", Name(side)),
         ("origin", FindingValue::Origin(&error.origin)),
         ("at", FindingValue::Time(error.origin.at)),
         ("seconds", FindingValue::Error(error)),
-    ];
-    say(words, &values)
+        NONE,
+    ]
 }
 
 fn amount_of(error: &TimeError) -> (FindingValue<'static>, &'static str) {
@@ -422,16 +437,16 @@ fn amount_of(error: &TimeError) -> (FindingValue<'static>, &'static str) {
 /// The clock's own offset, or those of all clocks that follow it.
 fn of_offset(offset: &TooFarOff) -> FindingValues<'static> {
     match offset {
-        TooFarOff::Own(offset) => say(
+        TooFarOff::Own(offset) => two(
             " offsetFromMaster {} ns",
-            &[
+            [
                 ("offsetFromMaster", Exact(*offset)),
                 ("reason", Name("offset")),
             ],
         ),
-        TooFarOff::Followers(shared) => say(
+        TooFarOff::Followers(shared) => four(
             " each of the {} clocks that follow it is as much off: {} ns to {} ns",
-            &[
+            [
                 ("clocks", Of(Unsigned(shared.clocks as u64))),
                 ("least", Exact(shared.least)),
                 ("most", Exact(shared.most)),
@@ -443,16 +458,16 @@ fn of_offset(offset: &TooFarOff) -> FindingValues<'static> {
 
 fn of_off_by_utc(how: &OffByUtc) -> FindingValues<'_> {
     match how {
-        OffByUtc::Offset(offset) => say(
+        OffByUtc::Offset(offset) => two(
             " {} ns: TAI and UTC are taken for each other",
-            &[
+            [
                 ("offsetFromMaster", Exact(*offset)),
                 ("reason", Name("offset")),
             ],
         ),
-        OffByUtc::Followers(count) => say(
+        OffByUtc::Followers(count) => two(
             " each of the {} clocks that follow it says so",
-            &[
+            [
                 ("clocks", Of(Unsigned(*count as u64))),
                 ("reason", Name("followers")),
             ],
@@ -467,9 +482,9 @@ fn of_origin(origin: &Origin) -> FindingValues<'_> {
         ("at", FindingValue::Time(origin.at)),
         ("reason", Name("origin")),
     ];
-    say(
+    three(
         " its time is UTC by the clock of this host, and it says ptpTimescale true",
-        &values,
+        values,
     )
 }
 
@@ -490,7 +505,7 @@ fn of_seldom(port: u16, seldom: &Seldom) -> FindingValues<'static> {
     ];
     let words =
         " port {} logAnnounceInterval {} and announceReceiptTimeout {}, and {} announces each {} s";
-    say(words, &values)
+    five(words, values)
 }
 
 /// How a port measures the delay, and how the port that it follows does.
@@ -501,7 +516,7 @@ fn of_mechanism(port: u16, other: &OtherMechanism) -> FindingValues<'static> {
         ("parentPortIdentity", Of(Port(other.parent))),
         ("expected", Of(other.expected)),
     ];
-    say(" port {} {}, and {} has {}", &values)
+    four(" port {} {}, and {} has {}", values)
 }
 
 fn of_doubtful(doubtful: &Doubtful) -> FindingValues<'static> {
@@ -513,7 +528,7 @@ fn of_doubtful(doubtful: &Doubtful) -> FindingValues<'static> {
         ("timeSource", Of(source)),
         ("clockQuality", Of(Quality(quality))),
     ];
-    say(" class {}, accuracy {}, {}", &values)
+    four(" class {}, accuracy {}, {}", values)
 }
 
 fn of_untraceable(untraceable: &Untraceable) -> FindingValues<'static> {
@@ -522,24 +537,21 @@ fn of_untraceable(untraceable: &Untraceable) -> FindingValues<'static> {
         ("timeTraceable", Of(Flag(untraceable.time))),
         ("frequencyTraceable", Of(Flag(untraceable.frequency))),
     ];
-    say(
-        " class {}, timeTraceable {}, frequencyTraceable {}",
-        &values,
-    )
+    three(" class {}, timeTraceable {}, frequencyTraceable {}", values)
 }
 
 fn of_utc_invalid(offset: i16) -> FindingValues<'static> {
     let offset = ("currentUtcOffset", Of(Signed(offset as i64)));
     let valid = ("currentUtcOffsetValid", Of(Flag(false)));
-    say(" currentUtcOffset {} is not valid", &[offset, valid])
+    two(" currentUtcOffset {} is not valid", [offset, valid])
 }
 
 fn of_utc_offset(offset: &WrongOffset) -> FindingValues<'static> {
     let said = ("currentUtcOffset", Of(Signed(offset.said as i64)));
     let is = ("expected", Of(Signed(offset.is as i64)));
-    say(
+    two(
         " currentUtcOffset {}, and TAI is {} s ahead of UTC",
-        &[said, is],
+        [said, is],
     )
 }
 
@@ -555,7 +567,7 @@ fn of_leap(leap: &Leap) -> FindingValues<'static> {
         ("leap61", Of(Flag(leap.leap61))),
         ("leap59", Of(Flag(leap.leap59))),
     ];
-    say(words, &values)
+    three(words, values)
 }
 
 /// The leap second that is announced, and the day, unless both are.
@@ -577,7 +589,7 @@ fn of_false_leap(leap: &FalseLeap) -> FindingValues<'static> {
         ("leap61", Of(Flag(leap.leap61))),
         ("leap59", Of(Flag(leap.leap59))),
     ];
-    say(words, &values)
+    four(words, values)
 }
 
 /// The clock of a better class, with what it says of itself.
@@ -590,19 +602,19 @@ fn of_better(better: &Better) -> FindingValues<'static> {
         ("clockQuality", Of(Quality(better.quality))),
     ];
     let words = " class {} leads, and {} of class {} and priority1 {} stands by";
-    say(words, &values)
+    five(words, values)
 }
 
 /// The ids that were neither answered nor refused, and the ports that lack.
 fn of_missing(missing: &Missing) -> FindingValues<'_> {
     let ids = FindingValue::Ids(missing.asked.as_slice());
     let ports = FindingValue::Ports(missing.ports.as_slice());
-    say("{}{}", &[("managementIds", ids), ("portNumbers", ports)])
+    two("{}{}", [("managementIds", ids), ("portNumbers", ports)])
 }
 
 fn of_reach(hops: u8) -> FindingValues<'static> {
     let words = " the last of {} boundary hops: clocks behind it are not asked";
-    say(words, &[("boundaryHops", number(hops as u16))])
+    one(words, ("boundaryHops", number(hops as u16)))
 }
 
 fn of_grandmaster_change(change: &GrandmasterChange) -> FindingValues<'static> {
@@ -616,7 +628,7 @@ fn of_grandmaster_change(change: &GrandmasterChange) -> FindingValues<'static> {
         ("after", Of(Clock(change.after))),
         ("clocks", Of(Unsigned(change.clocks as u64))),
     ];
-    say(words, &values)
+    three(words, values)
 }
 
 /// Two addresses, two offsets, or members, and all that is known beside what the words begin with.
@@ -630,26 +642,54 @@ fn of_twice<'a>(twice: &'a Twice<'a>) -> FindingValues<'a> {
         None => ("offsets", Null("")),
     };
     let members = ("members", FindingValue::Members(twice.members.as_slice()));
-    let Some(first) = twice.members.first() else {
-        return match twice.addresses {
-            Some(_) => say(" answers come from {}", &[addresses, offsets, members]),
-            None => say(
-                " two offsets in one look: {}",
-                &[offsets, addresses, members],
-            ),
-        };
-    };
-    let change = of_change(first.port, &first.change);
-    if twice.addresses.is_some() {
-        let words = " answers come from {}, and differ in {}";
-        say_both(words, &[addresses, members, offsets], &change)
-    } else if twice.offsets.is_some() {
-        let words = " two offsets in one look: {}, and differ in {}";
-        say_both(words, &[offsets, members, addresses], &change)
-    } else if twice.members.len() == 1 {
-        say_both("{} {} {}, and {}", &change, &[members, addresses, offsets])
-    } else {
-        let words = " answers differ in {}";
-        say_both(words, &[members, addresses, offsets], &change)
+    match (twice.members.first(), &twice.addresses, &twice.offsets) {
+        (None, Some(_), _) => three(" answers come from {}", [addresses, offsets, members]),
+        (None, None, _) => three(
+            " two offsets in one look: {}",
+            [offsets, addresses, members],
+        ),
+        (Some(first), Some(_), _) => beside_first(
+            " answers come from {}, and differ in {}",
+            [addresses, members, offsets],
+            first,
+        ),
+        (Some(first), None, Some(_)) => beside_first(
+            " two offsets in one look: {}, and differ in {}",
+            [offsets, members, addresses],
+            first,
+        ),
+        (Some(first), None, None) if twice.members.len() == 1 => {
+            let mut values = of_change(first.port, &first.change, "{} {} {}, and {}");
+            values[5] = members;
+            values[6] = addresses;
+            values[7] = offsets;
+            values
+        }
+        (Some(first), None, None) => {
+            beside_first(
+                " answers differ in {}",
+                [members, addresses, offsets],
+                first,
+            )
+        }
     }
+}
+
+/// Values, and those of the first member that differs.
+fn beside_first<'a>(
+    words: &'static str,
+    [a, b, c]: [NamedValue<'a>; 3],
+    first: &OtherMember<'a>,
+) -> FindingValues<'a> {
+    let of_first = of_change(first.port, &first.change, words);
+    [
+        of_first[0],
+        a,
+        b,
+        c,
+        of_first[1],
+        of_first[2],
+        of_first[3],
+        of_first[4],
+    ]
 }

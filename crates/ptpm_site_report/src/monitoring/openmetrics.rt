@@ -187,7 +187,7 @@ fn clocks_in(picture: &Picture<'_>, domain: Domain) -> usize {
 }
 
 /// Those of a domain. They are in the order of their domains.
-fn found_in<'a, 'b>(remarks: &'a [Remark<'b>], domain: Domain) -> &'a [Remark<'b>] {
+fn found_in<'a>(remarks: &'a [Remark<'a>], domain: Domain) -> &'a [Remark<'a>] {
     let from = remarks.partition_point(|remark| remark.source().domain < domain);
     let to = remarks.partition_point(|remark| remark.source().domain <= domain);
     remarks.get(from..to).unwrap_or(&[])

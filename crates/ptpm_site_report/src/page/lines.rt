@@ -1,7 +1,7 @@
 //! What a drawing of a site has in its rows.
 
 use crate::finding::phrases::clock_of;
-use crate::finding::remarks::{Remark, Weight, remarks_at};
+use crate::finding::remarks::{Remark, Weight, add_unseen, remarks_at};
 use crate::look::Look;
 use crate::names::Quoted;
 use crate::text::ports::PortsText;
@@ -48,8 +48,12 @@ pub(crate) struct DrawnRemark {
 pub(crate) fn lines_of(alloc: Global, look: &Look<'_, '_>) -> Result<Vec<Line>, AllocError> {
     let mut lines = Vec::new(alloc);
     add_trees(alloc, look, &mut lines)?;
-    add_unseen(alloc, look, look.found.as_slice(), &mut lines)?;
-    add_unseen(alloc, look, look.open.as_slice(), &mut lines)?;
+    let mut unseen = Vec::new(alloc);
+    add_unseen(look.picture.site, look.found.as_slice(), &mut unseen)?;
+    add_unseen(look.picture.site, look.open.as_slice(), &mut unseen)?;
+    for remark in unseen.as_slice() {
+        lines.push(unseen_line(alloc, look, remark)?)?;
+    }
     for note in notes_of(alloc, look.picture)? {
         lines.push(said(alloc, note))?;
     }
@@ -62,33 +66,17 @@ fn add_trees(alloc: Global, look: &Look<'_, '_>, lines: &mut Vec<Line>) -> Resul
     for tree in trees.as_slice() {
         lines.push(said(alloc, format!(in alloc; "{tree}")?))?;
         for row in tree.rows.as_slice() {
-            lines.push(row_line(alloc, look, row)?)?;
-        }
-    }
-    Ok(())
-}
-
-fn row_line(alloc: Global, look: &Look<'_, '_>, row: &Row<'_>) -> Result<Line, AllocError> {
-    match row {
-        Row::Clock(row) => clock_line(alloc, look, row),
-        Row::NotSeen(parent) => {
-            let name = look.beside.names.quoted(parent.clock);
-            let name = format!(in alloc; "not seen: {parent}{name}")?;
-            Ok(line_of(alloc, Frame::Dashed, name))
-        }
-    }
-}
-
-/// Adds the rows of clocks that are not seen and of whole domains.
-fn add_unseen(
-    alloc: Global,
-    look: &Look<'_, '_>,
-    remarks: &[Remark<'_>],
-    lines: &mut Vec<Line>,
-) -> Result<(), AllocError> {
-    for remark in remarks {
-        if !look.picture.site.is_seen(remark.source()) {
-            lines.push(unseen_line(alloc, look, remark)?)?;
+            lines.push(match row {
+                Row::Clock(row) => clock_line(alloc, look, row)?,
+                Row::NotSeen(parent) => {
+                    let name = look.beside.names.quoted(parent.clock);
+                    line_of(
+                        alloc,
+                        Frame::Dashed,
+                        format!(in alloc; "not seen: {parent}{name}")?,
+                    )
+                }
+            })?;
         }
     }
     Ok(())
