@@ -217,7 +217,8 @@ impl HostedClock {
         ensures clock { clock_in self.new ≡ clock_in self.old }
         ensures under_way { self.new.under_way ≡ self.old.under_way }
     {
-        keep_relayed(&mut self.agent, self.relayed.as_slice(), datagram, said)
+        let rows = self.relayed.as_slice();
+        !rows.is_empty() && keep_relayed(&mut self.agent, rows, datagram, said)
     }
 
     /// The clock's own turn on a datagram whose reply is kept already. It was a new one.
