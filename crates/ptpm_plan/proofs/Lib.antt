@@ -1,6 +1,7 @@
 pub mod Gathering
 pub mod Keys
 pub mod Once
+pub mod PlanObjects
 pub mod PlannedIds
 pub mod Printing
 pub mod Ranks

@@ -16,5 +16,6 @@ pub mod Asks
 pub mod Planned
 pub mod Digest
 pub mod Outcome
+pub mod PlanObject
 pub mod Printed
 pub mod Warnings

@@ -1,5 +1,5 @@
 -- What `ptpm plan` prints and how it ends, by what it reads (this project's profile).
-use Rattle.std.specs.Prelude.{◌≡◌, ℕ, ◌+◌, ◌==◌, Bool, true, false, codes, decimal, List, [], ◌∷◌, ◌++◌, map, Option, Some, None, IfSome, Result, Ok, Err}
+use Rattle.std.specs.Prelude.{◌≡◌, ℕ, ◌+◌, ◌==◌, Bool, true, false, if◌then◌else◌, codes, decimal, length, List, [], ◌∷◌, ◌++◌, map, Option, Some, None, IfSome, Result, Ok, Err}
 use Rattle.std.specs.List.{filter_map, list_any}
 use Rattle.std.specs.List.Sorted.{IsSortedByKey}
 use Rattle.std.specs.Int.{to_be_bytes, w16}
@@ -13,9 +13,10 @@ use Rattle.ptpm_text.specs.Lines.{whole_lines}
 use Rattle.ptpm_plan.specs.Answers.{answer_in}
 use Rattle.ptpm_plan.specs.BestClock.{best_clocks, ranks_of, shown}
 use Rattle.ptpm_plan.specs.Digest.{digest_of}
-use Rattle.ptpm_plan.specs.FileText.{file_of, file_value}
+use Rattle.ptpm_plan.specs.FileText.{file_of, file_value, name_of}
 use Rattle.ptpm_plan.specs.Order.{group_of, order_key}
 use Rattle.ptpm_plan.specs.Outcome.{or_changes, status_of}
+use Rattle.ptpm_plan.specs.PlanObject.{IsObjectLine}
 use Rattle.ptpm_plan.specs.PlannedId.{number_of}
 use Rattle.ptpm_plan.specs.Planned.{IsPlanOf, change_of}
 use Rattle.ptpm_plan.specs.Warnings.{AreWarnings}
@@ -63,10 +64,10 @@ pub record Begins (First Others : List ℕ → Type 0) (text : List ℕ) : Type 
   pub is_first : First first
   pub are_others : Others others
 
--- a line for each change, in their order, numbered from this on
-abbrev pub AreSteps : Surveyed → ℕ → List Change → List ℕ → Type 0
-AreSteps s number [] text = text ≡ []
-AreSteps s number (c ∷ cs) text = Begins (IsStep s number c) (AreSteps s (number + 1) cs) text
+-- one of this kind for each change, in their order, numbered from this on
+abbrev pub AreNumbered : (ℕ → Change → List ℕ → Type 0) → ℕ → List Change → List ℕ → Type 0
+AreNumbered Is number [] text = text ≡ []
+AreNumbered Is number (c ∷ cs) text = Begins (Is number c) (AreNumbered Is (number + 1) cs) text
 
 -- what was written is of this kind
 pub record Writes (Is : List ℕ → Type 0) (old new : Option (List ℕ)) : Type 0 where
@@ -80,9 +81,42 @@ pub record Writes (Is : List ℕ → Type 0) (old new : Option (List ℕ)) : Typ
 unfoldable pub name_text : List Change → List ℕ
 name_text changes = (codes "plan " ++ encode_lower (digest_of changes)) ++ codes ":"
 
-pub record IsNamed (changes : List Change) (text : List ℕ) : Type 0 where
+-- how many changes there are, and then words for a person
+pub record IsCount (count : ℕ) (line : List ℕ) : Type 0 where
   pub words : List ℕ
-  pub is : text ≡ name_text changes ++ words
+  pub is : line ≡ codes " " ++ decimal count ++ words ++ 10 ∷ []
+  pub one : has_feed words ≡ false
+
+-- port 0 means the clock itself
+abbrev pub port_text : ℕ → List ℕ
+port_text port = if port == 0 then [] else codes "/" ++ decimal port
+
+abbrev pub domain_text : ℕ → List ℕ
+domain_text domain = if domain == 0 then [] else codes " domain " ++ decimal domain
+
+unfoldable pub row_head : ℕ → Change → List ℕ
+row_head number c = codes "  " ++ decimal number ++ codes " " ++ clock_identity_text c.clock.0 ++ port_text c.port
+
+unfoldable pub row_member : Change → List ℕ
+row_member c = domain_text c.domain ++ codes " " ++ name_of c.id ++ codes " "
+
+-- the row of a change: its number, the clock and the port, the clock's name, the domain, the id, and the values for a person
+pub record IsRow (number : ℕ) (c : Change) (line : List ℕ) : Type 0 where
+  pub name : List ℕ
+  pub values : List ℕ
+  pub is : line ≡ row_head number c ++ name ++ row_member c ++ values ++ 10 ∷ []
+  pub one_name : has_feed name ≡ false
+  pub one : has_feed values ≡ false
+
+-- the number of changes, and a row for each
+abbrev pub AreRows : List Change → List ℕ → Type 0
+AreRows changes text = Begins (IsCount (length changes)) (AreNumbered IsRow 1 changes) text
+
+pub record IsNamed (changes : List Change) (text : List ℕ) : Type 0 where
+  pub rows : List ℕ
+  pub words : List ℕ
+  pub is : text ≡ name_text changes ++ rows ++ words
+  pub are_rows : AreRows changes rows
 
 pub record ComeAfterLine (Are : List ℕ → Type 0) (text : List ℕ) : Type 0 where
   pub further : List ℕ
@@ -91,12 +125,12 @@ pub record ComeAfterLine (Are : List ℕ → Type 0) (text : List ℕ) : Type 0 
 
 -- the text, an empty line, and a line for each step of the plan
 abbrev pub IsWithSteps : Plan → List ℕ → Type 0
-IsWithSteps p text = Begins (IsNamed p.changes.items) (ComeAfterLine (AreSteps p.surveyed 1 p.changes.items)) text
+IsWithSteps p text = Begins (IsNamed p.changes.items) (ComeAfterLine (AreNumbered (IsStep p.surveyed) 1 p.changes.items)) text
 
--- what is written of a plan; of its object in JSON nothing is said here
+-- what is written of a plan
 abbrev pub IsReport : PlanForm → Plan → Option (List ℕ) → Option (List ℕ) → Type 0
 IsReport forms.Text p old new = Writes (IsNamed p.changes.items) old new
-IsReport forms.Json p old new = Unit {0}
+IsReport forms.Json p old new = Writes (IsObjectLine p.changes.items) old new
 IsReport forms.Steps p old new = Writes (IsWithSteps p) old new
 
 -- ---- the answers among lines

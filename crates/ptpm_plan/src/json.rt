@@ -1,7 +1,13 @@
 //! A plan as one JSON object, by the standard's names.
 
+ghost use Rattle.std.specs.Prelude.{◌≡◌, IfOk, OnOk, map};
+ghost use Rattle.serde_json.specs.Data.{array};
+ghost use Rattle.serde_json.specs.View.{items_of, members_view, view};
+ghost use Rattle.ptpm_message_json.specs.Values.{clock_data};
+ghost use Rattle.ptpm_plan.specs.PlanObject.{change_data, changes_data, field_data, port_data, subject_data};
+
 use crate::best_clock::BestClocks;
-use crate::change::Change;
+use crate::change::{Change, PlannedId};
 use crate::clock_time::ClockTime;
 use crate::every::FoundClocks;
 use crate::outcome::{Why, is_refused, not_reached};
@@ -19,20 +25,35 @@ use std::alloc::{AllocError, Global};
 use std::io::Write;
 
 impl Report<'_> {
+    ghost use Rattle.ptpm_plan.specs.PlanObject.{IsObject, IsObjectLine};
+    ghost use Rattle.ptpm_plan.specs.Printed.{Writes};
+
     /// Prints one object, in a line.
-    pub(crate) fn print_json<O: Write>(&self, alloc: Global, out: &mut O) -> Result<(), Fault> {
-        let text = self.value(alloc)?.to_string(alloc)?;
+    pub(crate) fn print_json<O: Write>(&self, alloc: Global, out: &mut O) -> Result<(), Fault>
+        ensures { OnOk result
+            (Writes (IsObjectLine self.now.plan.now.changes.items) (O.contents out.old) (O.contents out.new)) }
+    {
+        let value = self.value(alloc)?;
+        let text = value.to_string(alloc)?;
         writeln!(out, "{text}")?;
         Ok(())
     }
 
-    fn value(&self, alloc: Global) -> Result<Value, AllocError> {
-        let (plan, rows) = (self.plan, self.plan.rows.as_slice());
-        let changes = plan.changes.as_slice();
-        let mut map = Map::new(alloc);
+    fn value(&self, alloc: Global) -> Result<Value, AllocError>
+        ensures { IfOk result (λ v. IsObject self.now.plan.now.changes.items (view v)) }
+    {
+        let changes = self.plan.changes.as_slice();
+        let mut map = self.other_members(alloc)?;
+        put(&mut map, alloc, "changes", changes_value(alloc, changes)?)?;
         let id = id_text(alloc, changes)?;
         put(&mut map, alloc, "plan", Value::String(id))?;
-        put(&mut map, alloc, "changes", changes_value(alloc, changes)?)?;
+        Ok(Value::Object(map))
+    }
+
+    /// What it has beside its name and its changes.
+    fn other_members(&self, alloc: Global) -> Result<Map<String, Value>, AllocError> {
+        let (plan, rows) = (self.plan, self.plan.rows.as_slice());
+        let mut map = Map::new(alloc);
         put(&mut map, alloc, "stays", staying_value(alloc, rows)?)?;
         put(&mut map, alloc, "cannotBeSet", refused_value(alloc, rows)?)?;
         let lines = self.not_reached_value(alloc)?;
@@ -51,7 +72,7 @@ impl Report<'_> {
         )?;
         put(&mut map, alloc, "bestClock", self.best_value(alloc)?)?;
         put(&mut map, alloc, "warnings", self.warnings_value(alloc)?)?;
-        Ok(Value::Object(map))
+        Ok(map)
     }
 
     fn not_reached_value(&self, alloc: Global) -> Result<Value, AllocError> {
@@ -87,15 +108,28 @@ impl Report<'_> {
     }
 }
 
-fn changes_value(alloc: Global, changes: &[Change]) -> Result<Value, AllocError> {
-    let mut values = Vec::new(alloc);
-    for (place, change) in changes.iter().enumerate() {
-        values.push(change_value(alloc, place + 1, change)?)?;
-    }
-    Ok(Value::Array(values))
+fn changes_value(alloc: Global, changes: &[Change]) -> Result<Value, AllocError>
+    ensures { IfOk result (λ v. view v ≡ array (items_of (changes_data 1 changes.now))) }
+{
+    Ok(Value::Array(change_values(alloc, changes)?))
 }
 
-fn change_value(alloc: Global, number: usize, change: &Change) -> Result<Value, AllocError> {
+/// An object for each change.
+#[tactic(auto, using(crate::proofs::PlanObjects::object_added, crate::proofs::PlanObjects::all_objects))]
+fn change_values(alloc: Global, changes: &[Change]) -> Result<Vec<Value>, AllocError>
+    ensures { IfOk result (λ v. map view v.items ≡ changes_data 1 changes.now) }
+{
+    let mut values = Vec::new(alloc);
+    for place in 0..changes.len() {
+        values.push(change_value(alloc, place + 1, &changes[place])?)?;
+    }
+    Ok(values)
+}
+
+#[tactic(auto, unfolding(crate::specs::PlanObject::change_data))]
+fn change_value(alloc: Global, number: usize, change: &Change) -> Result<Value, AllocError>
+    ensures { IfOk result (λ v. view v ≡ change_data number change.now) }
+{
     let subject = Subject {
         domain: change.domain,
         clock: change.clock,
@@ -103,28 +137,43 @@ fn change_value(alloc: Global, number: usize, change: &Change) -> Result<Value, 
         id: change.id,
     };
     let mut map = subject_map(alloc, subject)?;
-    put(&mut map, alloc, "number", Value::from(number as u64))?;
-    let before = members_value(alloc, change.id.number(), change.before.as_slice())?;
+    put(&mut map, alloc, "number", Value::from(number))?;
+    let before = field_value(alloc, change.id, change.before.as_slice())?;
     put(&mut map, alloc, "before", before)?;
-    let after = members_value(alloc, change.id.number(), change.after.as_slice())?;
+    let after = field_value(alloc, change.id, change.after.as_slice())?;
     put(&mut map, alloc, "after", after)?;
     Ok(Value::Object(map))
 }
 
+/// The members of a dataField.
+fn field_value(alloc: Global, id: PlannedId, octets: &[u8]) -> Result<Value, AllocError>
+    ensures { IfOk result (λ v. view v ≡ field_data id octets.now) }
+{
+    members_value(alloc, id.number(), octets)
+}
+
 /// Which member it is. A member of the clock has no portNumber.
-fn subject_map(alloc: Global, subject: Subject) -> Result<Map<String, Value>, AllocError> {
+#[tactic(auto, unfolding(crate::specs::PlanObject::subject_data))]
+fn subject_map(alloc: Global, subject: Subject) -> Result<Map<String, Value>, AllocError>
+    ensures { IfOk result (λ m. members_view m.entries ≡ subject_data subject) }
+{
     let mut map = Map::new(alloc);
     put(&mut map, alloc, "domainNumber", Value::from(subject.domain))?;
     let clock = clock_value(alloc, subject.clock)?;
     put(&mut map, alloc, "clockIdentity", clock)?;
-    let port = match subject.port {
-        0 => Value::Null,
-        port => Value::from(port),
-    };
-    put(&mut map, alloc, "portNumber", port)?;
+    put(&mut map, alloc, "portNumber", port_value(subject.port))?;
     let id = String::from_str(alloc, subject.id.name())?;
     put(&mut map, alloc, "managementId", Value::String(id))?;
     Ok(map)
+}
+
+fn port_value(port: u16) -> Value
+    ensures { view result ≡ port_data port }
+{
+    match port {
+        0 => Value::Null,
+        port => Value::from(port),
+    }
 }
 
 fn staying_value(alloc: Global, rows: &[Row]) -> Result<Value, AllocError> {
@@ -132,7 +181,7 @@ fn staying_value(alloc: Global, rows: &[Row]) -> Result<Value, AllocError> {
     for row in rows {
         if let Verdict::Stays(field) = &row.verdict {
             let mut map = subject_map(alloc, row.subject)?;
-            let members = members_value(alloc, row.subject.id.number(), field.as_slice())?;
+            let members = field_value(alloc, row.subject.id, field.as_slice())?;
             put(&mut map, alloc, "members", members)?;
             values.push(Value::Object(map))?;
         }
@@ -225,6 +274,8 @@ fn source_value(alloc: Global, source: u8) -> Result<Value, AllocError> {
     }))
 }
 
-fn clock_value(alloc: Global, clock: ClockIdentity) -> Result<Value, AllocError> {
+fn clock_value(alloc: Global, clock: ClockIdentity) -> Result<Value, AllocError>
+    ensures { IfOk result (λ v. view v ≡ clock_data clock) }
+{
     Ok(Value::String(format!(in alloc; "{clock}")?))
 }

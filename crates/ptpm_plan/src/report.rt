@@ -1,9 +1,9 @@
 //! A plan as a text.
 
-ghost use Rattle.std.specs.Prelude.{◌≡◌, IfNone, IfOk, IfSome, OnOk, false, string_bytes};
+ghost use Rattle.std.specs.Prelude.{◌≡◌, IfNone, IfOk, IfSome, OnOk, false, length, string_bytes};
 ghost use Rattle.hex.specs.Hex.{encode_lower};
 ghost use Rattle.ptpm_plan.specs.Digest.{digest_of};
-ghost use Rattle.ptpm_plan.specs.Printed.{AreSteps, IsStep, Writes, has_feed, name_text, step_clock, step_fields, step_head, step_member};
+ghost use Rattle.ptpm_plan.specs.Printed.{AreNumbered, AreRows, IsCount, IsRow, IsStep, Writes, domain_text, has_feed, name_text, port_text, row_head, row_member, step_clock, step_fields, step_head, step_member};
 
 use crate::answers::Answers;
 use crate::change::Change;
@@ -17,7 +17,6 @@ use crate::verdict::Verdict;
 use crate::wish::PlanFile;
 use ptpm_commands::Fault;
 use std::alloc::{AllocError, Global};
-use std::fmt;
 use std::io::Write;
 
 /// A plan that is printed, with the file that asks for it and the answers of its clocks.
@@ -29,7 +28,7 @@ pub(crate) struct Report<'a> {
 }
 
 impl Report<'_> {
-    ghost use Rattle.ptpm_plan.specs.Printed.{IsNamed, IsWithSteps};
+    ghost use Rattle.ptpm_plan.specs.Printed.{AreNumbered, AreRows, IsCount, IsNamed, IsRow, IsWithSteps};
 
     /// Prints the plan, and after an empty line its steps.
     pub(crate) fn print_with_steps<O: Write>(&self, alloc: Global, out: &mut O) -> Result<(), Fault>
@@ -49,20 +48,42 @@ impl Report<'_> {
             (Writes (IsNamed self.now.plan.now.changes.items) (O.contents out.old) (O.contents out.new)) }
     {
         let name = name_text(alloc, self.plan.changes.as_slice())?;
+        let rows = self.rows_text(alloc)?;
         let mut words: Vec<u8> = Vec::new(alloc);
         match self.print_words(alloc, &mut words) {
             Ok(()) => {}
             Err(_) => return Err(Fault::OutOfMemory),
         }
         out.write_all(name.as_bytes())?;
+        out.write_all(rows.as_slice())?;
         out.write_all(words.as_slice())?;
         Ok(())
     }
 
-    /// Prints what comes after the name. In memory it is refused only memory.
+    /// How many changes there are, and a row for each.
+    #[tactic(auto, using(crate::proofs::Printing::rows_made))]
+    fn rows_text(&self, alloc: Global) -> Result<Vec<u8>, Fault>
+        ensures { IfOk result (λ t. AreRows self.now.plan.now.changes.items t.items) }
+    {
+        let mut rows: Vec<u8> = Vec::new(alloc);
+        match self.print_rows(alloc, &mut rows) {
+            Ok(()) => Ok(rows),
+            Err(_) => Err(Fault::OutOfMemory),
+        }
+    }
+
+    #[tactic(auto, using(crate::proofs::Printing::counted_rows))]
+    fn print_rows<O: Write>(&self, alloc: Global, out: &mut O) -> Result<(), Fault>
+        ensures { OnOk result
+            (Writes (AreRows self.now.plan.now.changes.items) (O.contents out.old) (O.contents out.new)) }
+    {
+        let changes = self.plan.changes.as_slice();
+        print_count(alloc, changes, out)?;
+        self.print_changes(alloc, changes, out)
+    }
+
+    /// Prints what comes after the rows of the changes. In memory it is refused only memory.
     fn print_words<O: Write>(&self, alloc: Global, out: &mut O) -> Result<(), Fault> {
-        self.print_head(out)?;
-        self.print_changes(alloc, out)?;
         self.print_staying(alloc, out)?;
         self.print_refused(out)?;
         self.print_found(out)?;
@@ -74,22 +95,38 @@ impl Report<'_> {
         Ok(())
     }
 
-    fn print_head<O: Write>(&self, out: &mut O) -> Result<(), Fault> {
-        let changes = self.plan.changes.as_slice();
-        let count = Counted(changes.len(), "change");
-        let clocks = Counted(clock_count(changes), "clock");
-        writeln!(out, " {count} at {clocks}")?;
+    /// Prints a row for each change.
+    fn print_changes<O: Write>(
+        &self,
+        alloc: Global,
+        changes: &[Change],
+        out: &mut O,
+    ) -> Result<(), Fault>
+        ensures { OnOk result
+            (Writes (AreNumbered IsRow 1 changes.now) (O.contents out.old) (O.contents out.new)) }
+    {
+        for place in 0..changes.len() {
+            self.print_change(alloc, place + 1, &changes[place], out)?;
+        }
         Ok(())
     }
 
-    fn print_changes<O: Write>(&self, alloc: Global, out: &mut O) -> Result<(), Fault> {
-        for (place, change) in self.plan.changes.as_slice().iter().enumerate() {
-            let name = self.quoted(alloc, change.domain, change.clock)?;
-            let who = Who(change.clock, change.port);
-            let domain = InDomain(change.domain);
-            let words = change_words(alloc, change)?;
-            writeln!(out, "  {} {who}{name}{domain} {words}", place + 1)?;
-        }
+    fn print_change<O: Write>(
+        &self,
+        alloc: Global,
+        number: usize,
+        change: &Change,
+        out: &mut O,
+    ) -> Result<(), Fault>
+        ensures { OnOk result (Writes (IsRow number change.now) (O.contents out.old) (O.contents out.new)) }
+    {
+        let head = row_head(alloc, number, change)?;
+        let name = self.quoted(alloc, change.domain, change.clock)?;
+        let name = format!(in alloc; "{name}")?;
+        let member = row_member(alloc, change)?;
+        let values = values_text(alloc, change)?;
+        let (name, values) = (first_line(name.as_str()), first_line(values.as_str()));
+        writeln!(out, "{}{name}{}{values}", head.as_str(), member.as_str())?;
         Ok(())
     }
 
@@ -174,7 +211,7 @@ fn print_steps<O: Write>(
     changes: &[Change],
     out: &mut O,
 ) -> Result<(), Fault>
-    ensures { OnOk result (Writes (AreSteps surveyed.now 1 changes.now) (O.contents out.old) (O.contents out.new)) }
+    ensures { OnOk result (Writes (AreNumbered (IsStep surveyed.now) 1 changes.now) (O.contents out.old) (O.contents out.new)) }
 {
     for place in 0..changes.len() {
         print_step(alloc, surveyed, place + 1, &changes[place], out)?;
@@ -192,9 +229,9 @@ fn print_step<O: Write>(
     ensures { OnOk result (Writes (IsStep surveyed.now number change.now) (O.contents out.old) (O.contents out.new)) }
 {
     let head = step_head(alloc, surveyed, number, change)?;
-    let words = change_words(alloc, change)?;
+    let values = values_text(alloc, change)?;
     let who = Who(change.clock, change.port);
-    let words = format!(in alloc; "{who} {words}")?;
+    let words = format!(in alloc; "{who} {} {}", change.id, values.as_str())?;
     writeln!(out, "{}{}", head.as_str(), first_line(words.as_str()))?;
     Ok(())
 }
@@ -276,13 +313,73 @@ fn cut(text: &str) -> Option<(&str, &str)>
     text.split_once('\n')
 }
 
-/// What a change does: its id, and its values before and after.
-fn change_words(alloc: Global, change: &Change) -> Result<String, AllocError> {
+/// The values of a change before and after.
+fn values_text(alloc: Global, change: &Change) -> Result<String, AllocError> {
     let id = change.id;
     let before = shown_of(alloc, id, change.before.as_slice())?;
     let after = shown_of(alloc, id, change.after.as_slice())?;
-    let arrow = Arrow(id, before.as_str(), after.as_str());
-    format!(in alloc; "{id} {arrow}")
+    format!(in alloc; "{}", Arrow(id, before.as_str(), after.as_str()))
+}
+
+/// Prints how many changes there are, and at how many clocks.
+fn print_count<O: Write>(alloc: Global, changes: &[Change], out: &mut O) -> Result<(), Fault>
+    ensures { OnOk result
+        (Writes (IsCount (length changes.now)) (O.contents out.old) (O.contents out.new)) }
+{
+    let count = changes.len();
+    let clocks = Counted(clock_count(changes), "clock");
+    let noun = if count == 1 { "change" } else { "changes" };
+    let words = format!(in alloc; " {noun} at {clocks}")?;
+    writeln!(out, " {count}{}", first_line(words.as_str()))?;
+    Ok(())
+}
+
+/// The number of a change, its clock and its port.
+#[tactic(auto, unfolding(crate::specs::Printed::row_head))]
+fn row_head(alloc: Global, number: usize, change: &Change) -> Result<String, AllocError>
+    ensures { IfOk result (λ t. string_bytes t ≡ row_head number change.now) }
+{
+    let mut text = String::from_str(alloc, "  ")?;
+    push_number(alloc, number, &mut text)?;
+    text.push_str(" ")?;
+    push_clock(alloc, change.clock, &mut text)?;
+    text.push_str(port_text(alloc, change.port)?.as_str())?;
+    Ok(text)
+}
+
+fn port_text(alloc: Global, port: u16) -> Result<String, AllocError>
+    ensures { IfOk result (λ t. string_bytes t ≡ port_text port) }
+{
+    let mut text = String::new(alloc);
+    if port != 0 {
+        text.push_str("/")?;
+        push_number(alloc, usize::from(port), &mut text)?;
+    }
+    Ok(text)
+}
+
+/// The domain of a change, and its id.
+#[tactic(auto, unfolding(crate::specs::Printed::row_member))]
+fn row_member(alloc: Global, change: &Change) -> Result<String, AllocError>
+    ensures { IfOk result (λ t. string_bytes t ≡ row_member change.now) }
+{
+    let mut text = domain_text(alloc, change.domain)?;
+    text.push_str(" ")?;
+    text.push_str(change.id.name())?;
+    text.push_str(" ")?;
+    Ok(text)
+}
+
+/// A domain after a space; nothing for domain 0.
+fn domain_text(alloc: Global, domain: u8) -> Result<String, AllocError>
+    ensures { IfOk result (λ t. string_bytes t ≡ domain_text domain) }
+{
+    let mut text = String::new(alloc);
+    if domain != 0 {
+        text.push_str(" domain ")?;
+        push_number(alloc, usize::from(domain), &mut text)?;
+    }
+    Ok(text)
 }
 
 /// What a plan's text begins with.
@@ -315,17 +412,4 @@ fn clock_count(changes: &[Change]) -> usize {
         }
     }
     count
-}
-
-/// A domain after a space; nothing for domain 0.
-#[derive(Clone, Copy)]
-struct InDomain(u8);
-
-impl fmt::Display for InDomain {
-    fn fmt<W: fmt::Write>(&self, f: &mut fmt::Formatter<W>) -> fmt::Result {
-        match self.0 {
-            0 => Ok(()),
-            domain => write!(f, " domain {domain}"),
-        }
-    }
 }
