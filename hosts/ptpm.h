@@ -70,8 +70,8 @@ enum {
 /* The most ports and managers that a clock has, and the most ids of its device (ptpm_clock_relay). */
 enum { PTPM_MOST_PORTS = 64, PTPM_MOST_MANAGERS = 64, PTPM_MOST_IDS = 32 };
 
-/* A clock, at one pointer: with up to eight ports 2,784 octets with one manager, and 34,944 with sixteen (ptpm_clock_start). All
-   zeros hold no clock: struct ptpm_clock clock = { 0 }; */
+/* A clock: one pointer to its memory (ptpm_clock_start). With up to eight ports that is 2,784 octets with one manager, and 34,944
+   with sixteen. All zeros hold no clock: struct ptpm_clock clock = { 0 }; */
 struct ptpm_clock { void *at; PTPM_TO_EIGHT bool live; bool restored; };
 
 /* The start values of a clock's own members: ptpm_clock_defaults writes them all, then the host writes its own over them.
@@ -207,10 +207,9 @@ struct ptpm_observed_port {
 
 enum { PTPM_CLOCK_SET = 1, PTPM_PORT_SET = 2, PTPM_PORT_COMMAND = 4 };
 
-/* Who may change the clock, and what. The library takes any value here. A manager with the identity of the clock itself is never
-   heard: what it sends is a PTPM_OWN_MESSAGE. A manager without rights may read: its requests are numbered, and saved. Other bits
-   of the rights than these three do not count. So a host whose settings come from people refuses such values itself, as ptpm-clock
-   does. */
+/* Who may change the clock, and what. A manager without rights may read: its requests are numbered, and saved. The library takes
+   any value here. But a manager with the clock's own identity is never heard: what it sends is a PTPM_OWN_MESSAGE. And bits of the
+   rights other than the three above do not count. So a host whose settings come from people refuses both, as ptpm-clock does. */
 struct ptpm_manager_settings {
     uint8_t clock[8];
     uint16_t port;
@@ -233,7 +232,7 @@ struct ptpm_answer {
 
 /* What is sent for a datagram if the datagram itself is forwarded, and not a copy of it (ptpm_clock_handle_shared). */
 struct ptpm_shared {
-    PTPM_AT_EIGHT uint64_t ports;       /* the ports at which it is forwarded: 1 for port 1, 2 for port 2, and so on, summed up */
+    PTPM_AT_EIGHT uint64_t ports;       /* the ports at which it is forwarded: bit n is port n + 1 */
     uint64_t size;                      /* how many of its octets are forwarded; 0 if none */
     uint64_t count;                     /* how many answers were written */
 };
@@ -325,7 +324,7 @@ struct ptpm_relayed_id {
     uint16_t most;                      /* and at most: 130 or fewer */
 };
 
-/* A session of a manager, about 1,600 octets at one pointer. All zeros hold no session. */
+/* A session of a manager: one pointer to its memory, about 1,600 octets. All zeros hold no session. */
 struct ptpm_session { void *at; PTPM_TO_EIGHT bool live; bool restored; };
 
 /* One manager, the clock that it manages, and how its requests are numbered and sent. A clock treats a request as new if its
@@ -345,7 +344,7 @@ struct ptpm_session_settings {
 /* What a clock may be asked for: the actionField of a request. */
 enum { PTPM_GET = 0, PTPM_SET = 1, PTPM_COMMAND = 3 };
 
-/* A survey of a manager: what it asks and its answers, at one pointer. All zeros hold no survey. */
+/* A survey of a manager: one pointer to what it asks and its answers. All zeros hold no survey. */
 struct ptpm_survey { void *at; PTPM_TO_EIGHT bool live; bool restored; };
 
 /* One manager, and the GET that it sends to every port of every clock, or of one clock. A GET to every clock is answered whatever its
@@ -361,7 +360,7 @@ struct ptpm_survey_settings {
     uint8_t hops;                       /* startingBoundaryHops */
 };
 
-/* An asker: a session, and what is to be sent, saved and noted next, about 1,900 octets at one pointer. All zeros hold no asker. */
+/* An asker: one pointer to a session and what is to be sent, saved and noted next, about 1,900 octets. All zeros hold no asker. */
 struct ptpm_asker { void *at; PTPM_TO_EIGHT bool live; bool restored; };
 
 /* The session of an asker, and how long it waits. Times are in milliseconds, from any moment on, and never go back. */
@@ -1218,8 +1217,7 @@ enum ptpm_set_here ptpm_clock_set(struct ptpm_clock *clock, uint8_t action, uint
 /* Sets exactly what the host observed about its clock and its ports. Judges the data sets as they would be afterwards.
    Takes:   port_count places, from port 1 on: as many as the clock has ports, or fewer, or none.
    Returns: PTPM_OBSERVED; or why not, and then nothing changes.
-   Writes:  *left: the disabled ports at which a state was observed, and which stay disabled. 1 is port 1, 2 is port 2, 4 is
-            port 3, and so on, summed up: bit n is port n + 1. It is 0 if the call is refused.
+   Writes:  *left: the disabled ports at which a state was observed, and which stay disabled: bit n is port n + 1. 0 if refused.
    Caller:  stops these ports. */
 enum ptpm_observed ptpm_clock_observe(struct ptpm_clock *clock, const struct ptpm_observed_clock *observed,
                                       const struct ptpm_observed_port *ports, size_t port_count, uint64_t *left);
@@ -1284,8 +1282,8 @@ enum ptpm_saved ptpm_clock_image_of(struct ptpm_clock *clock, uint8_t *octets, s
 
 /* The caller confirms that a restart would find the image of this token. From then on strangers are shown what the image has, and
    ptpm_clock_next gives the messages that waited when the image was made.
-   Takes:   the token of the latest ptpm_clock_image_of. It counts once. If no change waited when the image was made, it does not
-            count after a later observation.
+   Takes:   the token of the latest ptpm_clock_image_of. It counts once. If no change waited when the image was made, an
+            observation afterwards makes it invalid.
    Returns: PTPM_SAVED. PTPM_ACT_NOW if the image has a change that is still under way, once for each change and never for one that a
             restore found. Or PTPM_NO_CLOCK (also for a clock that does not save) or PTPM_OTHER_IMAGE (for any other token), and then
             nothing changes.
@@ -1325,8 +1323,8 @@ enum ptpm_restored ptpm_clock_restore(struct ptpm_clock *clock, const uint8_t id
                                       const uint8_t *image, size_t size, size_t *gone);
 
 /* Returns the most messages that one datagram makes at this clock, so a queue of the host has to be that long. The number is
-   PTPM_MOST_SENT_OF the clock's ports: a copy for each other port, and an answer of each port. If a kept reply has more answers, eight
-   at most, it is their number. Only an image that another program has made can bring such a reply.
+   PTPM_MOST_SENT_OF the clock's ports: a copy for each other port, and an answer of each port. A kept reply may have more answers,
+   eight at most: then the call returns their number. Only an image that another program has made can bring such a reply.
    Returns: the number; 0 if the handle holds no clock. */
 size_t ptpm_clock_most_sent(const struct ptpm_clock *clock);
 
@@ -1576,7 +1574,7 @@ enum ptpm_asked ptpm_asker_let_go(struct ptpm_asker *asker, struct ptpm_handed *
    Memory:  a copy of the dataField of the answer, until the next one. */
 enum ptpm_asked ptpm_asker_hear(struct ptpm_asker *asker, const uint8_t *datagram, size_t size, struct ptpm_handed *handed);
 
-/* Passes in the time. Nothing is handed out before the latest time that was handed out.
+/* Passes in the time. Nothing is handed out before the latest `time` of a ptpm_handed: when to wake the asker.
    Takes:   the time.
    Returns: PTPM_ASKED; or PTPM_NO_MEMORY, and then nothing changes.
    Writes:  all of *handed.

@@ -21,7 +21,8 @@ extern "C" {
 /* What a clock with this many ports, 1 to 64, and managers, 0 to 64, takes from its start or restore on. Up to eight ports take
    as much as one. PTPM_CLOCK_MEMORY is enough for any clock of up to eight ports and sixteen managers. A block that holds only
    clocks with equally many managers needs no more than the sum. Clocks of over eight ports must also have equally many ports.
-   They may start and stop in any order. A restore in a live handle has both clocks for a moment. */
+   They may start and stop in any order. A restore in a live handle has both clocks for a moment. A table of the device's own ids
+   (ptpm_clock_relay) takes PTPM_PIECE(10 * ids) more. */
 #define PTPM_CLOCK_MEMORY_OF(ports, managers) \
     ((size_t)672 + ((managers) > 0 ? PTPM_PIECE((size_t)(managers) * 2144) : 0) \
      + ((ports) > 8 ? PTPM_OF_MANY_PORTS((size_t)(ports), (size_t)(managers)) : 0))

@@ -98,6 +98,7 @@ u32 portable_ptpm_session_restore(address a0, address a1, address a2, u64 a3);
 u32 portable_ptpm_session_start(address a0, address a1);
 u32 portable_ptpm_survey_start(address a0, address a1);
 u32 portable_ptpm_survey_start_at(address a0, address a1, address a2);
+u32 portable_ptpm_clock_relay(address a0, address a1, u64 a2);
 u32 portable_ptpm_clock_observe(address a0, address a1, address a2, u64 a3, address a4);
 u32 portable_ptpm_clock_read(address a0, u16 a1, u16 a2, address a3, u64 a4, address a5);
 u64 portable_ptpm_clock_transit(address a0, u16 a1, address a2, u64 a3, address a4, u64 a5);
@@ -138,6 +139,7 @@ static void fill(void) {
 #define swap_ptpm_question(at) ((void)0)
 #define swap_ptpm_say(at) ((void)0)
 #define swap_ptpm_limit(at) ((void)0)
+#define swap_ptpm_relayed_id(at) ((void)0)
 #define swap_ptpm_session_settings(at) ((void)0)
 #define swap_ptpm_survey_settings(at) ((void)0)
 #define swap_ptpm_asker_settings(at) ((void)0)
@@ -214,6 +216,11 @@ static void swap_ptpm_say(struct ptpm_say *at) {
 static void swap_ptpm_limit(struct ptpm_limit *at) {
     at->id = (uint16_t)swap16((u16)at->id);
     at->port = (uint16_t)swap16((u16)at->port);
+}
+static void swap_ptpm_relayed_id(struct ptpm_relayed_id *at) {
+    at->id = (uint16_t)swap16((u16)at->id);
+    at->least = (uint16_t)swap16((u16)at->least);
+    at->most = (uint16_t)swap16((u16)at->most);
 }
 static void swap_ptpm_session_settings(struct ptpm_session_settings *at) {
     at->port = (uint16_t)swap16((u16)at->port);
@@ -339,6 +346,16 @@ enum ptpm_handled ptpm_clock_handle_shared(struct ptpm_clock *clock, uint16_t po
     swap_ptpm_answer(answers);
     swap_ptpm_shared(shared);
     return answer;
+}
+
+enum ptpm_relaying ptpm_clock_relay(struct ptpm_clock *clock, const struct ptpm_relayed_id *ids, size_t id_count) {
+    fill();
+#if !IS_LITTLE_ENDIAN
+    struct ptpm_relayed_id ids_in = *ids;
+    swap_ptpm_relayed_id(&ids_in);
+    ids = &ids_in;
+#endif
+    return (enum ptpm_relaying)portable_ptpm_clock_relay(ADDRESS(clock), ADDRESS(ids), id_count);
 }
 
 enum ptpm_asking ptpm_clock_ask(const struct ptpm_clock *clock, uint16_t port, const uint8_t *datagram, size_t size, struct ptpm_question *asked) {

@@ -178,763 +178,775 @@ static const union { u8 octets[9]; u64 aligned; } octets_of_c80 = { { 72,65,83,9
 #define c81 (octets_of_c81.octets)
 static const union { u8 octets[11]; u64 aligned; } octets_of_c81 = { { 79,85,84,95,79,70,95,84,85,82,78 } };
 #define c82 (octets_of_c82.octets)
-static const union { u8 octets[12]; u64 aligned; } octets_of_c82 = { { 66,65,68,95,73,68,69,78,84,73,84,89 } };
+static const union { u8 octets[12]; u64 aligned; } octets_of_c82 = { { 84,79,79,95,77,65,78,89,95,73,68,83 } };
 #define c83 (octets_of_c83.octets)
-static const union { u8 octets[10]; u64 aligned; } octets_of_c83 = { { 66,65,68,95,68,79,77,65,73,78 } };
+static const union { u8 octets[12]; u64 aligned; } octets_of_c83 = { { 67,76,79,67,75,95,72,65,83,95,73,68 } };
 #define c84 (octets_of_c84.octets)
-static const union { u8 octets[20]; u64 aligned; } octets_of_c84 = { { 66,65,68,95,85,83,69,82,95,68,69,83,67,82,73,80,84,73,79,78 } };
+static const union { u8 octets[13]; u64 aligned; } octets_of_c84 = { { 82,69,76,65,89,69,68,95,84,87,73,67,69 } };
 #define c85 (octets_of_c85.octets)
-static const union { u8 octets[12]; u64 aligned; } octets_of_c85 = { { 66,65,68,95,84,87,79,95,83,84,69,80 } };
+static const union { u8 octets[9]; u64 aligned; } octets_of_c85 = { { 66,65,68,95,83,67,79,80,69 } };
 #define c86 (octets_of_c86.octets)
-static const union { u8 octets[13]; u64 aligned; } octets_of_c86 = { { 66,65,68,95,80,82,73,79,82,73,84,89,49 } };
+static const union { u8 octets[11]; u64 aligned; } octets_of_c86 = { { 66,65,68,95,65,67,84,73,79,78,83 } };
 #define c87 (octets_of_c87.octets)
-static const union { u8 octets[15]; u64 aligned; } octets_of_c87 = { { 66,65,68,95,67,76,79,67,75,95,67,76,65,83,83 } };
+static const union { u8 octets[9]; u64 aligned; } octets_of_c87 = { { 66,65,68,95,83,73,90,69,83 } };
 #define c88 (octets_of_c88.octets)
-static const union { u8 octets[18]; u64 aligned; } octets_of_c88 = { { 66,65,68,95,67,76,79,67,75,95,65,67,67,85,82,65,67,89 } };
+static const union { u8 octets[12]; u64 aligned; } octets_of_c88 = { { 66,65,68,95,73,68,69,78,84,73,84,89 } };
 #define c89 (octets_of_c89.octets)
-static const union { u8 octets[12]; u64 aligned; } octets_of_c89 = { { 66,65,68,95,86,65,82,73,65,78,67,69 } };
+static const union { u8 octets[10]; u64 aligned; } octets_of_c89 = { { 66,65,68,95,68,79,77,65,73,78 } };
 #define c90 (octets_of_c90.octets)
-static const union { u8 octets[13]; u64 aligned; } octets_of_c90 = { { 66,65,68,95,80,82,73,79,82,73,84,89,50 } };
+static const union { u8 octets[20]; u64 aligned; } octets_of_c90 = { { 66,65,68,95,85,83,69,82,95,68,69,83,67,82,73,80,84,73,79,78 } };
 #define c91 (octets_of_c91.octets)
-static const union { u8 octets[17]; u64 aligned; } octets_of_c91 = { { 66,65,68,95,83,84,69,80,83,95,82,69,77,79,86,69,68 } };
+static const union { u8 octets[12]; u64 aligned; } octets_of_c91 = { { 66,65,68,95,84,87,79,95,83,84,69,80 } };
 #define c92 (octets_of_c92.octets)
-static const union { u8 octets[22]; u64 aligned; } octets_of_c92 = { { 66,65,68,95,79,70,70,83,69,84,95,70,82,79,77,95,77,65,83,84,69,82 } };
+static const union { u8 octets[13]; u64 aligned; } octets_of_c92 = { { 66,65,68,95,80,82,73,79,82,73,84,89,49 } };
 #define c93 (octets_of_c93.octets)
-static const union { u8 octets[19]; u64 aligned; } octets_of_c93 = { { 66,65,68,95,77,69,65,78,95,80,65,84,72,95,68,69,76,65,89 } };
+static const union { u8 octets[15]; u64 aligned; } octets_of_c93 = { { 66,65,68,95,67,76,79,67,75,95,67,76,65,83,83 } };
 #define c94 (octets_of_c94.octets)
-static const union { u8 octets[15]; u64 aligned; } octets_of_c94 = { { 66,65,68,95,80,65,82,69,78,84,95,80,79,82,84 } };
+static const union { u8 octets[18]; u64 aligned; } octets_of_c94 = { { 66,65,68,95,67,76,79,67,75,95,65,67,67,85,82,65,67,89 } };
 #define c95 (octets_of_c95.octets)
-static const union { u8 octets[16]; u64 aligned; } octets_of_c95 = { { 66,65,68,95,80,65,82,69,78,84,95,83,84,65,84,83 } };
+static const union { u8 octets[12]; u64 aligned; } octets_of_c95 = { { 66,65,68,95,86,65,82,73,65,78,67,69 } };
 #define c96 (octets_of_c96.octets)
-static const union { u8 octets[21]; u64 aligned; } octets_of_c96 = { { 66,65,68,95,79,66,83,69,82,86,69,68,95,86,65,82,73,65,78,67,69 } };
+static const union { u8 octets[13]; u64 aligned; } octets_of_c96 = { { 66,65,68,95,80,82,73,79,82,73,84,89,50 } };
 #define c97 (octets_of_c97.octets)
-static const union { u8 octets[17]; u64 aligned; } octets_of_c97 = { { 66,65,68,95,79,66,83,69,82,86,69,68,95,82,65,84,69 } };
+static const union { u8 octets[17]; u64 aligned; } octets_of_c97 = { { 66,65,68,95,83,84,69,80,83,95,82,69,77,79,86,69,68 } };
 #define c98 (octets_of_c98.octets)
-static const union { u8 octets[25]; u64 aligned; } octets_of_c98 = { { 66,65,68,95,71,82,65,78,68,77,65,83,84,69,82,95,80,82,73,79,82,73,84,89,49 } };
+static const union { u8 octets[22]; u64 aligned; } octets_of_c98 = { { 66,65,68,95,79,70,70,83,69,84,95,70,82,79,77,95,77,65,83,84,69,82 } };
 #define c99 (octets_of_c99.octets)
-static const union { u8 octets[21]; u64 aligned; } octets_of_c99 = { { 66,65,68,95,71,82,65,78,68,77,65,83,84,69,82,95,67,76,65,83,83 } };
+static const union { u8 octets[19]; u64 aligned; } octets_of_c99 = { { 66,65,68,95,77,69,65,78,95,80,65,84,72,95,68,69,76,65,89 } };
 #define c100 (octets_of_c100.octets)
-static const union { u8 octets[24]; u64 aligned; } octets_of_c100 = { { 66,65,68,95,71,82,65,78,68,77,65,83,84,69,82,95,65,67,67,85,82,65,67,89 } };
+static const union { u8 octets[15]; u64 aligned; } octets_of_c100 = { { 66,65,68,95,80,65,82,69,78,84,95,80,79,82,84 } };
 #define c101 (octets_of_c101.octets)
-static const union { u8 octets[24]; u64 aligned; } octets_of_c101 = { { 66,65,68,95,71,82,65,78,68,77,65,83,84,69,82,95,86,65,82,73,65,78,67,69 } };
+static const union { u8 octets[16]; u64 aligned; } octets_of_c101 = { { 66,65,68,95,80,65,82,69,78,84,95,83,84,65,84,83 } };
 #define c102 (octets_of_c102.octets)
-static const union { u8 octets[25]; u64 aligned; } octets_of_c102 = { { 66,65,68,95,71,82,65,78,68,77,65,83,84,69,82,95,80,82,73,79,82,73,84,89,50 } };
+static const union { u8 octets[21]; u64 aligned; } octets_of_c102 = { { 66,65,68,95,79,66,83,69,82,86,69,68,95,86,65,82,73,65,78,67,69 } };
 #define c103 (octets_of_c103.octets)
-static const union { u8 octets[15]; u64 aligned; } octets_of_c103 = { { 66,65,68,95,71,82,65,78,68,77,65,83,84,69,82 } };
+static const union { u8 octets[17]; u64 aligned; } octets_of_c103 = { { 66,65,68,95,79,66,83,69,82,86,69,68,95,82,65,84,69 } };
 #define c104 (octets_of_c104.octets)
-static const union { u8 octets[14]; u64 aligned; } octets_of_c104 = { { 66,65,68,95,85,84,67,95,79,70,70,83,69,84 } };
+static const union { u8 octets[25]; u64 aligned; } octets_of_c104 = { { 66,65,68,95,71,82,65,78,68,77,65,83,84,69,82,95,80,82,73,79,82,73,84,89,49 } };
 #define c105 (octets_of_c105.octets)
-static const union { u8 octets[10]; u64 aligned; } octets_of_c105 = { { 66,65,68,95,76,69,65,80,54,49 } };
+static const union { u8 octets[21]; u64 aligned; } octets_of_c105 = { { 66,65,68,95,71,82,65,78,68,77,65,83,84,69,82,95,67,76,65,83,83 } };
 #define c106 (octets_of_c106.octets)
-static const union { u8 octets[10]; u64 aligned; } octets_of_c106 = { { 66,65,68,95,76,69,65,80,53,57 } };
+static const union { u8 octets[24]; u64 aligned; } octets_of_c106 = { { 66,65,68,95,71,82,65,78,68,77,65,83,84,69,82,95,65,67,67,85,82,65,67,89 } };
 #define c107 (octets_of_c107.octets)
-static const union { u8 octets[13]; u64 aligned; } octets_of_c107 = { { 66,65,68,95,85,84,67,95,86,65,76,73,68 } };
+static const union { u8 octets[24]; u64 aligned; } octets_of_c107 = { { 66,65,68,95,71,82,65,78,68,77,65,83,84,69,82,95,86,65,82,73,65,78,67,69 } };
 #define c108 (octets_of_c108.octets)
-static const union { u8 octets[17]; u64 aligned; } octets_of_c108 = { { 66,65,68,95,80,84,80,95,84,73,77,69,83,67,65,76,69 } };
+static const union { u8 octets[25]; u64 aligned; } octets_of_c108 = { { 66,65,68,95,71,82,65,78,68,77,65,83,84,69,82,95,80,82,73,79,82,73,84,89,50 } };
 #define c109 (octets_of_c109.octets)
-static const union { u8 octets[18]; u64 aligned; } octets_of_c109 = { { 66,65,68,95,84,73,77,69,95,84,82,65,67,69,65,66,76,69 } };
+static const union { u8 octets[15]; u64 aligned; } octets_of_c109 = { { 66,65,68,95,71,82,65,78,68,77,65,83,84,69,82 } };
 #define c110 (octets_of_c110.octets)
-static const union { u8 octets[23]; u64 aligned; } octets_of_c110 = { { 66,65,68,95,70,82,69,81,85,69,78,67,89,95,84,82,65,67,69,65,66,76,69 } };
+static const union { u8 octets[14]; u64 aligned; } octets_of_c110 = { { 66,65,68,95,85,84,67,95,79,70,70,83,69,84 } };
 #define c111 (octets_of_c111.octets)
-static const union { u8 octets[15]; u64 aligned; } octets_of_c111 = { { 66,65,68,95,84,73,77,69,95,83,79,85,82,67,69 } };
+static const union { u8 octets[10]; u64 aligned; } octets_of_c111 = { { 66,65,68,95,76,69,65,80,54,49 } };
 #define c112 (octets_of_c112.octets)
-static const union { u8 octets[9]; u64 aligned; } octets_of_c112 = { { 66,65,68,95,83,84,65,84,69 } };
+static const union { u8 octets[10]; u64 aligned; } octets_of_c112 = { { 66,65,68,95,76,69,65,80,53,57 } };
 #define c113 (octets_of_c113.octets)
-static const union { u8 octets[21]; u64 aligned; } octets_of_c113 = { { 66,65,68,95,76,79,71,95,77,73,78,95,68,69,76,65,89,95,82,69,81 } };
+static const union { u8 octets[13]; u64 aligned; } octets_of_c113 = { { 66,65,68,95,85,84,67,95,86,65,76,73,68 } };
 #define c114 (octets_of_c114.octets)
-static const union { u8 octets[14]; u64 aligned; } octets_of_c114 = { { 66,65,68,95,80,69,69,82,95,68,69,76,65,89 } };
+static const union { u8 octets[17]; u64 aligned; } octets_of_c114 = { { 66,65,68,95,80,84,80,95,84,73,77,69,83,67,65,76,69 } };
 #define c115 (octets_of_c115.octets)
-static const union { u8 octets[16]; u64 aligned; } octets_of_c115 = { { 66,65,68,95,76,79,71,95,65,78,78,79,85,78,67,69 } };
+static const union { u8 octets[18]; u64 aligned; } octets_of_c115 = { { 66,65,68,95,84,73,77,69,95,84,82,65,67,69,65,66,76,69 } };
 #define c116 (octets_of_c116.octets)
-static const union { u8 octets[19]; u64 aligned; } octets_of_c116 = { { 66,65,68,95,82,69,67,69,73,80,84,95,84,73,77,69,79,85,84 } };
+static const union { u8 octets[23]; u64 aligned; } octets_of_c116 = { { 66,65,68,95,70,82,69,81,85,69,78,67,89,95,84,82,65,67,69,65,66,76,69 } };
 #define c117 (octets_of_c117.octets)
-static const union { u8 octets[12]; u64 aligned; } octets_of_c117 = { { 66,65,68,95,76,79,71,95,83,89,78,67 } };
+static const union { u8 octets[15]; u64 aligned; } octets_of_c117 = { { 66,65,68,95,84,73,77,69,95,83,79,85,82,67,69 } };
 #define c118 (octets_of_c118.octets)
-static const union { u8 octets[19]; u64 aligned; } octets_of_c118 = { { 66,65,68,95,68,69,76,65,89,95,77,69,67,72,65,78,73,83,77 } };
+static const union { u8 octets[9]; u64 aligned; } octets_of_c118 = { { 66,65,68,95,83,84,65,84,69 } };
 #define c119 (octets_of_c119.octets)
-static const union { u8 octets[18]; u64 aligned; } octets_of_c119 = { { 66,65,68,95,76,79,71,95,77,73,78,95,80,68,69,76,65,89 } };
+static const union { u8 octets[21]; u64 aligned; } octets_of_c119 = { { 66,65,68,95,76,79,71,95,77,73,78,95,68,69,76,65,89,95,82,69,81 } };
 #define c120 (octets_of_c120.octets)
-static const union { u8 octets[19]; u64 aligned; } octets_of_c120 = { { 78,85,76,76,95,80,84,80,95,77,65,78,65,71,69,77,69,78,84 } };
+static const union { u8 octets[14]; u64 aligned; } octets_of_c120 = { { 66,65,68,95,80,69,69,82,95,68,69,76,65,89 } };
 #define c121 (octets_of_c121.octets)
-static const union { u8 octets[16]; u64 aligned; } octets_of_c121 = { { 85,83,69,82,95,68,69,83,67,82,73,80,84,73,79,78 } };
+static const union { u8 octets[16]; u64 aligned; } octets_of_c121 = { { 66,65,68,95,76,79,71,95,65,78,78,79,85,78,67,69 } };
 #define c122 (octets_of_c122.octets)
-static const union { u8 octets[16]; u64 aligned; } octets_of_c122 = { { 68,69,70,65,85,76,84,95,68,65,84,65,95,83,69,84 } };
+static const union { u8 octets[19]; u64 aligned; } octets_of_c122 = { { 66,65,68,95,82,69,67,69,73,80,84,95,84,73,77,69,79,85,84 } };
 #define c123 (octets_of_c123.octets)
-static const union { u8 octets[16]; u64 aligned; } octets_of_c123 = { { 67,85,82,82,69,78,84,95,68,65,84,65,95,83,69,84 } };
+static const union { u8 octets[12]; u64 aligned; } octets_of_c123 = { { 66,65,68,95,76,79,71,95,83,89,78,67 } };
 #define c124 (octets_of_c124.octets)
-static const union { u8 octets[15]; u64 aligned; } octets_of_c124 = { { 80,65,82,69,78,84,95,68,65,84,65,95,83,69,84 } };
+static const union { u8 octets[19]; u64 aligned; } octets_of_c124 = { { 66,65,68,95,68,69,76,65,89,95,77,69,67,72,65,78,73,83,77 } };
 #define c125 (octets_of_c125.octets)
-static const union { u8 octets[24]; u64 aligned; } octets_of_c125 = { { 84,73,77,69,95,80,82,79,80,69,82,84,73,69,83,95,68,65,84,65,95,83,69,84 } };
+static const union { u8 octets[18]; u64 aligned; } octets_of_c125 = { { 66,65,68,95,76,79,71,95,77,73,78,95,80,68,69,76,65,89 } };
 #define c126 (octets_of_c126.octets)
-static const union { u8 octets[13]; u64 aligned; } octets_of_c126 = { { 80,79,82,84,95,68,65,84,65,95,83,69,84 } };
+static const union { u8 octets[19]; u64 aligned; } octets_of_c126 = { { 78,85,76,76,95,80,84,80,95,77,65,78,65,71,69,77,69,78,84 } };
 #define c127 (octets_of_c127.octets)
-static const union { u8 octets[9]; u64 aligned; } octets_of_c127 = { { 80,82,73,79,82,73,84,89,49 } };
+static const union { u8 octets[16]; u64 aligned; } octets_of_c127 = { { 85,83,69,82,95,68,69,83,67,82,73,80,84,73,79,78 } };
 #define c128 (octets_of_c128.octets)
-static const union { u8 octets[9]; u64 aligned; } octets_of_c128 = { { 80,82,73,79,82,73,84,89,50 } };
+static const union { u8 octets[16]; u64 aligned; } octets_of_c128 = { { 68,69,70,65,85,76,84,95,68,65,84,65,95,83,69,84 } };
 #define c129 (octets_of_c129.octets)
-static const union { u8 octets[6]; u64 aligned; } octets_of_c129 = { { 68,79,77,65,73,78 } };
+static const union { u8 octets[16]; u64 aligned; } octets_of_c129 = { { 67,85,82,82,69,78,84,95,68,65,84,65,95,83,69,84 } };
 #define c130 (octets_of_c130.octets)
-static const union { u8 octets[10]; u64 aligned; } octets_of_c130 = { { 83,76,65,86,69,95,79,78,76,89 } };
+static const union { u8 octets[15]; u64 aligned; } octets_of_c130 = { { 80,65,82,69,78,84,95,68,65,84,65,95,83,69,84 } };
 #define c131 (octets_of_c131.octets)
-static const union { u8 octets[14]; u64 aligned; } octets_of_c131 = { { 86,69,82,83,73,79,78,95,78,85,77,66,69,82 } };
+static const union { u8 octets[24]; u64 aligned; } octets_of_c131 = { { 84,73,77,69,95,80,82,79,80,69,82,84,73,69,83,95,68,65,84,65,95,83,69,84 } };
 #define c132 (octets_of_c132.octets)
-static const union { u8 octets[11]; u64 aligned; } octets_of_c132 = { { 69,78,65,66,76,69,95,80,79,82,84 } };
+static const union { u8 octets[13]; u64 aligned; } octets_of_c132 = { { 80,79,82,84,95,68,65,84,65,95,83,69,84 } };
 #define c133 (octets_of_c133.octets)
-static const union { u8 octets[12]; u64 aligned; } octets_of_c133 = { { 68,73,83,65,66,76,69,95,80,79,82,84 } };
+static const union { u8 octets[9]; u64 aligned; } octets_of_c133 = { { 80,82,73,79,82,73,84,89,49 } };
 #define c134 (octets_of_c134.octets)
-static const union { u8 octets[14]; u64 aligned; } octets_of_c134 = { { 67,76,79,67,75,95,65,67,67,85,82,65,67,89 } };
+static const union { u8 octets[9]; u64 aligned; } octets_of_c134 = { { 80,82,73,79,82,73,84,89,50 } };
 #define c135 (octets_of_c135.octets)
-static const union { u8 octets[14]; u64 aligned; } octets_of_c135 = { { 85,84,67,95,80,82,79,80,69,82,84,73,69,83 } };
+static const union { u8 octets[6]; u64 aligned; } octets_of_c135 = { { 68,79,77,65,73,78 } };
 #define c136 (octets_of_c136.octets)
-static const union { u8 octets[21]; u64 aligned; } octets_of_c136 = { { 76,79,71,95,65,78,78,79,85,78,67,69,95,73,78,84,69,82,86,65,76 } };
+static const union { u8 octets[10]; u64 aligned; } octets_of_c136 = { { 83,76,65,86,69,95,79,78,76,89 } };
 #define c137 (octets_of_c137.octets)
-static const union { u8 octets[19]; u64 aligned; } octets_of_c137 = { { 108,111,103,65,110,110,111,117,110,99,101,73,110,116,101,114,118,97,108 } };
+static const union { u8 octets[14]; u64 aligned; } octets_of_c137 = { { 86,69,82,83,73,79,78,95,78,85,77,66,69,82 } };
 #define c138 (octets_of_c138.octets)
-static const union { u8 octets[24]; u64 aligned; } octets_of_c138 = { { 65,78,78,79,85,78,67,69,95,82,69,67,69,73,80,84,95,84,73,77,69,79,85,84 } };
+static const union { u8 octets[11]; u64 aligned; } octets_of_c138 = { { 69,78,65,66,76,69,95,80,79,82,84 } };
 #define c139 (octets_of_c139.octets)
-static const union { u8 octets[22]; u64 aligned; } octets_of_c139 = { { 97,110,110,111,117,110,99,101,82,101,99,101,105,112,116,84,105,109,101,111,117,116 } };
+static const union { u8 octets[12]; u64 aligned; } octets_of_c139 = { { 68,73,83,65,66,76,69,95,80,79,82,84 } };
 #define c140 (octets_of_c140.octets)
-static const union { u8 octets[17]; u64 aligned; } octets_of_c140 = { { 76,79,71,95,83,89,78,67,95,73,78,84,69,82,86,65,76 } };
+static const union { u8 octets[14]; u64 aligned; } octets_of_c140 = { { 67,76,79,67,75,95,65,67,67,85,82,65,67,89 } };
 #define c141 (octets_of_c141.octets)
-static const union { u8 octets[15]; u64 aligned; } octets_of_c141 = { { 108,111,103,83,121,110,99,73,110,116,101,114,118,97,108 } };
+static const union { u8 octets[14]; u64 aligned; } octets_of_c141 = { { 85,84,67,95,80,82,79,80,69,82,84,73,69,83 } };
 #define c142 (octets_of_c142.octets)
-static const union { u8 octets[15]; u64 aligned; } octets_of_c142 = { { 68,69,76,65,89,95,77,69,67,72,65,78,73,83,77 } };
+static const union { u8 octets[21]; u64 aligned; } octets_of_c142 = { { 76,79,71,95,65,78,78,79,85,78,67,69,95,73,78,84,69,82,86,65,76 } };
 #define c143 (octets_of_c143.octets)
-static const union { u8 octets[14]; u64 aligned; } octets_of_c143 = { { 100,101,108,97,121,77,101,99,104,97,110,105,115,109 } };
+static const union { u8 octets[19]; u64 aligned; } octets_of_c143 = { { 108,111,103,65,110,110,111,117,110,99,101,73,110,116,101,114,118,97,108 } };
 #define c144 (octets_of_c144.octets)
-static const union { u8 octets[27]; u64 aligned; } octets_of_c144 = { { 76,79,71,95,77,73,78,95,80,68,69,76,65,89,95,82,69,81,95,73,78,84,69,82,86,65,76 } };
+static const union { u8 octets[24]; u64 aligned; } octets_of_c144 = { { 65,78,78,79,85,78,67,69,95,82,69,67,69,73,80,84,95,84,73,77,69,79,85,84 } };
 #define c145 (octets_of_c145.octets)
-static const union { u8 octets[23]; u64 aligned; } octets_of_c145 = { { 108,111,103,77,105,110,80,100,101,108,97,121,82,101,113,73,110,116,101,114,118,97,108 } };
-#if IS_LITTLE_ENDIAN
-static const struct form_of_c146 { slot slot0; u8 octets8[1472]; } octets_of_c146;
-#define c146 ((const u8 *)&octets_of_c146)
-#else
-static union form_of_c146 { u8 octets[1480]; u64 aligned; } octets_of_c146;
+static const union { u8 octets[22]; u64 aligned; } octets_of_c145 = { { 97,110,110,111,117,110,99,101,82,101,99,101,105,112,116,84,105,109,101,111,117,116 } };
 #define c146 (octets_of_c146.octets)
-#endif
+static const union { u8 octets[17]; u64 aligned; } octets_of_c146 = { { 76,79,71,95,83,89,78,67,95,73,78,84,69,82,86,65,76 } };
 #define c147 (octets_of_c147.octets)
-static const union { u8 octets[12]; u64 aligned; } octets_of_c147 = { { 0,2,0,0,0,0,0,0,0,0,0,0 } };
+static const union { u8 octets[15]; u64 aligned; } octets_of_c147 = { { 108,111,103,83,121,110,99,73,110,116,101,114,118,97,108 } };
 #define c148 (octets_of_c148.octets)
-static const union { u8 octets[1]; u64 aligned; } octets_of_c148 = { { 0 } };
+static const union { u8 octets[15]; u64 aligned; } octets_of_c148 = { { 68,69,76,65,89,95,77,69,67,72,65,78,73,83,77 } };
 #define c149 (octets_of_c149.octets)
-static const union { u8 octets[8]; u64 aligned; } octets_of_c149 = { { 112,116,112,109,2,1,0,0 } };
+static const union { u8 octets[14]; u64 aligned; } octets_of_c149 = { { 100,101,108,97,121,77,101,99,104,97,110,105,115,109 } };
 #define c150 (octets_of_c150.octets)
-static const union { u8 octets[16]; u64 aligned; } octets_of_c150 = { { 82,69,83,80,79,78,83,69,95,84,79,79,95,66,73,71 } };
+static const union { u8 octets[27]; u64 aligned; } octets_of_c150 = { { 76,79,71,95,77,73,78,95,80,68,69,76,65,89,95,82,69,81,95,73,78,84,69,82,86,65,76 } };
 #define c151 (octets_of_c151.octets)
-static const union { u8 octets[10]; u64 aligned; } octets_of_c151 = { { 78,79,95,83,85,67,72,95,73,68 } };
+static const union { u8 octets[23]; u64 aligned; } octets_of_c151 = { { 108,111,103,77,105,110,80,100,101,108,97,121,82,101,113,73,110,116,101,114,118,97,108 } };
+#if IS_LITTLE_ENDIAN
+static const struct form_of_c152 { slot slot0; u8 octets8[1472]; } octets_of_c152;
+#define c152 ((const u8 *)&octets_of_c152)
+#else
+static union form_of_c152 { u8 octets[1480]; u64 aligned; } octets_of_c152;
 #define c152 (octets_of_c152.octets)
-static const union { u8 octets[12]; u64 aligned; } octets_of_c152 = { { 87,82,79,78,71,95,76,69,78,71,84,72 } };
+#endif
 #define c153 (octets_of_c153.octets)
-static const union { u8 octets[11]; u64 aligned; } octets_of_c153 = { { 87,82,79,78,71,95,86,65,76,85,69 } };
+static const union { u8 octets[12]; u64 aligned; } octets_of_c153 = { { 0,2,0,0,0,0,0,0,0,0,0,0 } };
 #define c154 (octets_of_c154.octets)
-static const union { u8 octets[11]; u64 aligned; } octets_of_c154 = { { 78,79,84,95,83,69,84,65,66,76,69 } };
+static const union { u8 octets[8]; u64 aligned; } octets_of_c154 = { { 112,116,112,109,2,1,0,0 } };
 #define c155 (octets_of_c155.octets)
-static const union { u8 octets[13]; u64 aligned; } octets_of_c155 = { { 78,79,84,95,83,85,80,80,79,82,84,69,68 } };
+static const union { u8 octets[1]; u64 aligned; } octets_of_c155 = { { 0 } };
 #define c156 (octets_of_c156.octets)
-static const union { u8 octets[13]; u64 aligned; } octets_of_c156 = { { 71,69,78,69,82,65,76,95,69,82,82,79,82 } };
+static const union { u8 octets[16]; u64 aligned; } octets_of_c156 = { { 82,69,83,80,79,78,83,69,95,84,79,79,95,66,73,71 } };
 #define c157 (octets_of_c157.octets)
-static const union { u8 octets[6]; u64 aligned; } octets_of_c157 = { { 0,2,0,0,10,0 } };
+static const union { u8 octets[10]; u64 aligned; } octets_of_c157 = { { 78,79,95,83,85,67,72,95,73,68 } };
 #define c158 (octets_of_c158.octets)
-static const union { u8 octets[60]; u64 aligned; } octets_of_c158 = { { 0,3,0,0,3,1,2,0,0,0,3,2,1,0,0,2,0,2,0,4,0,4,0,1,0,5,0,5,0,1,0,6,0,6,1,1,0,7,0,7,1,2,0,8,0,9,0,1,0,0,0,10,7,0,0,1,0,18,0,1 } };
+static const union { u8 octets[12]; u64 aligned; } octets_of_c158 = { { 87,82,79,78,71,95,76,69,78,71,84,72 } };
 #define c159 (octets_of_c159.octets)
-static const union { u8 octets[18]; u64 aligned; } octets_of_c159 = { { 0,9,0,0,0,2,0,10,0,2,6,0,0,11,0,10,6,0 } };
+static const union { u8 octets[11]; u64 aligned; } octets_of_c159 = { { 87,82,79,78,71,95,86,65,76,85,69 } };
 #define c160 (octets_of_c160.octets)
-static const union { u8 octets[60]; u64 aligned; } octets_of_c160 = { { 0,12,0,0,8,0,0,13,0,10,3,1,0,14,0,12,1,2,0,15,0,14,2,4,0,16,0,18,0,1,0,17,0,19,0,1,0,18,0,20,1,1,0,19,0,21,1,2,0,20,0,23,0,1,0,21,0,24,7,0 } };
+static const union { u8 octets[11]; u64 aligned; } octets_of_c160 = { { 78,79,84,95,83,69,84,65,66,76,69 } };
 #define c161 (octets_of_c161.octets)
-static const union { u8 octets[48]; u64 aligned; } octets_of_c161 = { { 0,22,0,0,2,2,0,23,0,2,3,1,0,24,0,2,3,2,0,25,0,2,3,4,0,26,0,2,3,8,0,27,0,2,3,16,0,28,0,2,3,32,0,29,0,3,9,2 } };
+static const union { u8 octets[13]; u64 aligned; } octets_of_c161 = { { 78,79,84,95,83,85,80,80,79,82,84,69,68 } };
 #define c162 (octets_of_c162.octets)
-static const union { u8 octets[60]; u64 aligned; } octets_of_c162 = { { 3,0,0,0,8,0,0,30,0,10,9,0,0,31,0,11,2,1,0,32,0,12,6,0,0,33,0,20,2,1,0,33,1,21,0,1,0,33,2,22,2,1,0,33,3,23,9,1,0,33,4,24,2,1,4,0,0,25,5,0 } };
+static const union { u8 octets[13]; u64 aligned; } octets_of_c162 = { { 71,69,78,69,82,65,76,95,69,82,82,79,82 } };
 #define c163 (octets_of_c163.octets)
-static const union { u8 octets[6]; u64 aligned; } octets_of_c163 = { { 0,4,0,0,0,1 } };
+static const union { u8 octets[6]; u64 aligned; } octets_of_c163 = { { 0,2,0,0,10,0 } };
 #define c164 (octets_of_c164.octets)
-static const union { u8 octets[6]; u64 aligned; } octets_of_c164 = { { 0,8,0,0,0,1 } };
+static const union { u8 octets[60]; u64 aligned; } octets_of_c164 = { { 0,3,0,0,3,1,2,0,0,0,3,2,1,0,0,2,0,2,0,4,0,4,0,1,0,5,0,5,0,1,0,6,0,6,1,1,0,7,0,7,1,2,0,8,0,9,0,1,0,0,0,10,7,0,0,1,0,18,0,1 } };
 #define c165 (octets_of_c165.octets)
-static const union { u8 octets[6]; u64 aligned; } octets_of_c165 = { { 0,1,0,0,0,1 } };
+static const union { u8 octets[18]; u64 aligned; } octets_of_c165 = { { 0,9,0,0,0,2,0,10,0,2,6,0,0,11,0,10,6,0 } };
 #define c166 (octets_of_c166.octets)
-static const union { u8 octets[6]; u64 aligned; } octets_of_c166 = { { 2,0,0,0,4,0 } };
+static const union { u8 octets[60]; u64 aligned; } octets_of_c166 = { { 0,12,0,0,8,0,0,13,0,10,3,1,0,14,0,12,1,2,0,15,0,14,2,4,0,16,0,18,0,1,0,17,0,19,0,1,0,18,0,20,1,1,0,19,0,21,1,2,0,20,0,23,0,1,0,21,0,24,7,0 } };
 #define c167 (octets_of_c167.octets)
-static const union { u8 octets[6]; u64 aligned; } octets_of_c167 = { { 0,33,0,0,2,1 } };
+static const union { u8 octets[48]; u64 aligned; } octets_of_c167 = { { 0,22,0,0,2,2,0,23,0,2,3,1,0,24,0,2,3,2,0,25,0,2,3,4,0,26,0,2,3,8,0,27,0,2,3,16,0,28,0,2,3,32,0,29,0,3,9,2 } };
 #define c168 (octets_of_c168.octets)
-static const union { u8 octets[6]; u64 aligned; } octets_of_c168 = { { 0,33,1,0,0,1 } };
+static const union { u8 octets[60]; u64 aligned; } octets_of_c168 = { { 3,0,0,0,8,0,0,30,0,10,9,0,0,31,0,11,2,1,0,32,0,12,6,0,0,33,0,20,2,1,0,33,1,21,0,1,0,33,2,22,2,1,0,33,3,23,9,1,0,33,4,24,2,1,4,0,0,25,5,0 } };
 #define c169 (octets_of_c169.octets)
-static const union { u8 octets[6]; u64 aligned; } octets_of_c169 = { { 0,33,2,0,2,1 } };
+static const union { u8 octets[6]; u64 aligned; } octets_of_c169 = { { 0,4,0,0,0,1 } };
 #define c170 (octets_of_c170.octets)
-static const union { u8 octets[6]; u64 aligned; } octets_of_c170 = { { 0,33,3,0,9,1 } };
+static const union { u8 octets[6]; u64 aligned; } octets_of_c170 = { { 0,8,0,0,0,1 } };
 #define c171 (octets_of_c171.octets)
-static const union { u8 octets[6]; u64 aligned; } octets_of_c171 = { { 0,33,4,0,2,1 } };
+static const union { u8 octets[6]; u64 aligned; } octets_of_c171 = { { 0,1,0,0,0,1 } };
 #define c172 (octets_of_c172.octets)
-static const union { u8 octets[6]; u64 aligned; } octets_of_c172 = { { 4,0,0,0,5,0 } };
+static const union { u8 octets[6]; u64 aligned; } octets_of_c172 = { { 2,0,0,0,4,0 } };
 #define c173 (octets_of_c173.octets)
-static const union { u8 octets[6]; u64 aligned; } octets_of_c173 = { { 5,0,0,0,1,1 } };
+static const union { u8 octets[6]; u64 aligned; } octets_of_c173 = { { 0,33,0,0,2,1 } };
 #define c174 (octets_of_c174.octets)
-static const union { u8 octets[24]; u64 aligned; } octets_of_c174 = { { 0,22,0,0,2,2,0,23,0,2,3,1,0,24,0,2,3,2,0,25,0,2,3,4 } };
+static const union { u8 octets[6]; u64 aligned; } octets_of_c174 = { { 0,33,1,0,0,1 } };
 #define c175 (octets_of_c175.octets)
-static const union { u8 octets[4]; u64 aligned; } octets_of_c175 = { { 116,114,117,101 } };
+static const union { u8 octets[6]; u64 aligned; } octets_of_c175 = { { 0,33,2,0,2,1 } };
 #define c176 (octets_of_c176.octets)
-static const union { u8 octets[5]; u64 aligned; } octets_of_c176 = { { 102,97,108,115,101 } };
+static const union { u8 octets[6]; u64 aligned; } octets_of_c176 = { { 0,33,3,0,9,1 } };
 #define c177 (octets_of_c177.octets)
-static const union { u8 octets[9]; u64 aligned; } octets_of_c177 = { { 1,2,3,4,5,6,7,8,9 } };
+static const union { u8 octets[6]; u64 aligned; } octets_of_c177 = { { 0,33,4,0,2,1 } };
 #define c178 (octets_of_c178.octets)
-static const union { u8 octets[5]; u64 aligned; } octets_of_c178 = { { 1,2,3,4,254 } };
+static const union { u8 octets[6]; u64 aligned; } octets_of_c178 = { { 4,0,0,0,5,0 } };
 #define c179 (octets_of_c179.octets)
-static const union { u8 octets[9]; u64 aligned; } octets_of_c179 = { { 16,32,48,57,64,80,96,144,160 } };
+static const union { u8 octets[6]; u64 aligned; } octets_of_c179 = { { 5,0,0,0,1,1 } };
 #define c180 (octets_of_c180.octets)
-static const union { u8 octets[12]; u64 aligned; } octets_of_c180 = { { 73,78,73,84,73,65,76,73,90,73,78,71 } };
+static const union { u8 octets[24]; u64 aligned; } octets_of_c180 = { { 0,22,0,0,2,2,0,23,0,2,3,1,0,24,0,2,3,2,0,25,0,2,3,4 } };
 #define c181 (octets_of_c181.octets)
-static const union { u8 octets[6]; u64 aligned; } octets_of_c181 = { { 70,65,85,76,84,89 } };
+static const union { u8 octets[4]; u64 aligned; } octets_of_c181 = { { 116,114,117,101 } };
 #define c182 (octets_of_c182.octets)
-static const union { u8 octets[8]; u64 aligned; } octets_of_c182 = { { 68,73,83,65,66,76,69,68 } };
+static const union { u8 octets[5]; u64 aligned; } octets_of_c182 = { { 102,97,108,115,101 } };
 #define c183 (octets_of_c183.octets)
-static const union { u8 octets[9]; u64 aligned; } octets_of_c183 = { { 76,73,83,84,69,78,73,78,71 } };
+static const union { u8 octets[9]; u64 aligned; } octets_of_c183 = { { 1,2,3,4,5,6,7,8,9 } };
 #define c184 (octets_of_c184.octets)
-static const union { u8 octets[10]; u64 aligned; } octets_of_c184 = { { 80,82,69,95,77,65,83,84,69,82 } };
+static const union { u8 octets[5]; u64 aligned; } octets_of_c184 = { { 1,2,3,4,254 } };
 #define c185 (octets_of_c185.octets)
-static const union { u8 octets[6]; u64 aligned; } octets_of_c185 = { { 77,65,83,84,69,82 } };
+static const union { u8 octets[9]; u64 aligned; } octets_of_c185 = { { 16,32,48,57,64,80,96,144,160 } };
 #define c186 (octets_of_c186.octets)
-static const union { u8 octets[7]; u64 aligned; } octets_of_c186 = { { 80,65,83,83,73,86,69 } };
+static const union { u8 octets[12]; u64 aligned; } octets_of_c186 = { { 73,78,73,84,73,65,76,73,90,73,78,71 } };
 #define c187 (octets_of_c187.octets)
-static const union { u8 octets[12]; u64 aligned; } octets_of_c187 = { { 85,78,67,65,76,73,66,82,65,84,69,68 } };
+static const union { u8 octets[6]; u64 aligned; } octets_of_c187 = { { 70,65,85,76,84,89 } };
 #define c188 (octets_of_c188.octets)
-static const union { u8 octets[5]; u64 aligned; } octets_of_c188 = { { 83,76,65,86,69 } };
+static const union { u8 octets[8]; u64 aligned; } octets_of_c188 = { { 68,73,83,65,66,76,69,68 } };
 #define c189 (octets_of_c189.octets)
-static const union { u8 octets[10]; u64 aligned; } octets_of_c189 = { { 67,79,77,77,79,78,95,80,50,80 } };
+static const union { u8 octets[9]; u64 aligned; } octets_of_c189 = { { 76,73,83,84,69,78,73,78,71 } };
 #define c190 (octets_of_c190.octets)
-static const union { u8 octets[7]; u64 aligned; } octets_of_c190 = { { 83,80,69,67,73,65,76 } };
+static const union { u8 octets[10]; u64 aligned; } octets_of_c190 = { { 80,82,69,95,77,65,83,84,69,82 } };
 #define c191 (octets_of_c191.octets)
-static const union { u8 octets[3]; u64 aligned; } octets_of_c191 = { { 69,50,69 } };
+static const union { u8 octets[6]; u64 aligned; } octets_of_c191 = { { 77,65,83,84,69,82 } };
 #define c192 (octets_of_c192.octets)
-static const union { u8 octets[3]; u64 aligned; } octets_of_c192 = { { 80,50,80 } };
+static const union { u8 octets[7]; u64 aligned; } octets_of_c192 = { { 80,65,83,83,73,86,69 } };
 #define c193 (octets_of_c193.octets)
-static const union { u8 octets[12]; u64 aligned; } octets_of_c193 = { { 78,79,95,77,69,67,72,65,78,73,83,77 } };
+static const union { u8 octets[12]; u64 aligned; } octets_of_c193 = { { 85,78,67,65,76,73,66,82,65,84,69,68 } };
 #define c194 (octets_of_c194.octets)
-static const union { u8 octets[12]; u64 aligned; } octets_of_c194 = { { 65,84,79,77,73,67,95,67,76,79,67,75 } };
+static const union { u8 octets[5]; u64 aligned; } octets_of_c194 = { { 83,76,65,86,69 } };
 #define c195 (octets_of_c195.octets)
-static const union { u8 octets[4]; u64 aligned; } octets_of_c195 = { { 71,78,83,83 } };
+static const union { u8 octets[10]; u64 aligned; } octets_of_c195 = { { 67,79,77,77,79,78,95,80,50,80 } };
 #define c196 (octets_of_c196.octets)
-static const union { u8 octets[17]; u64 aligned; } octets_of_c196 = { { 84,69,82,82,69,83,84,82,73,65,76,95,82,65,68,73,79 } };
+static const union { u8 octets[7]; u64 aligned; } octets_of_c196 = { { 83,80,69,67,73,65,76 } };
 #define c197 (octets_of_c197.octets)
-static const union { u8 octets[16]; u64 aligned; } octets_of_c197 = { { 83,69,82,73,65,76,95,84,73,77,69,95,67,79,68,69 } };
+static const union { u8 octets[3]; u64 aligned; } octets_of_c197 = { { 69,50,69 } };
 #define c198 (octets_of_c198.octets)
-static const union { u8 octets[3]; u64 aligned; } octets_of_c198 = { { 80,84,80 } };
+static const union { u8 octets[3]; u64 aligned; } octets_of_c198 = { { 80,50,80 } };
 #define c199 (octets_of_c199.octets)
-static const union { u8 octets[3]; u64 aligned; } octets_of_c199 = { { 78,84,80 } };
+static const union { u8 octets[12]; u64 aligned; } octets_of_c199 = { { 78,79,95,77,69,67,72,65,78,73,83,77 } };
 #define c200 (octets_of_c200.octets)
-static const union { u8 octets[8]; u64 aligned; } octets_of_c200 = { { 72,65,78,68,95,83,69,84 } };
+static const union { u8 octets[12]; u64 aligned; } octets_of_c200 = { { 65,84,79,77,73,67,95,67,76,79,67,75 } };
 #define c201 (octets_of_c201.octets)
-static const union { u8 octets[5]; u64 aligned; } octets_of_c201 = { { 79,84,72,69,82 } };
+static const union { u8 octets[4]; u64 aligned; } octets_of_c201 = { { 71,78,83,83 } };
 #define c202 (octets_of_c202.octets)
-static const union { u8 octets[19]; u64 aligned; } octets_of_c202 = { { 73,78,84,69,82,78,65,76,95,79,83,67,73,76,76,65,84,79,82 } };
+static const union { u8 octets[17]; u64 aligned; } octets_of_c202 = { { 84,69,82,82,69,83,84,82,73,65,76,95,82,65,68,73,79 } };
 #define c203 (octets_of_c203.octets)
-static const union { u8 octets[8]; u64 aligned; } octets_of_c203 = { { 83,79,70,84,87,65,82,69 } };
+static const union { u8 octets[16]; u64 aligned; } octets_of_c203 = { { 83,69,82,73,65,76,95,84,73,77,69,95,67,79,68,69 } };
 #define c204 (octets_of_c204.octets)
-static const union { u8 octets[8]; u64 aligned; } octets_of_c204 = { { 72,65,82,68,87,65,82,69 } };
+static const union { u8 octets[3]; u64 aligned; } octets_of_c204 = { { 80,84,80 } };
 #define c205 (octets_of_c205.octets)
-static const union { u8 octets[9]; u64 aligned; } octets_of_c205 = { { 76,69,71,65,67,89,95,72,87 } };
+static const union { u8 octets[3]; u64 aligned; } octets_of_c205 = { { 78,84,80 } };
 #define c206 (octets_of_c206.octets)
-static const union { u8 octets[7]; u64 aligned; } octets_of_c206 = { { 79,78,69,83,84,69,80 } };
+static const union { u8 octets[8]; u64 aligned; } octets_of_c206 = { { 72,65,78,68,95,83,69,84 } };
 #define c207 (octets_of_c207.octets)
-static const union { u8 octets[8]; u64 aligned; } octets_of_c207 = { { 80,50,80,49,83,84,69,80 } };
+static const union { u8 octets[5]; u64 aligned; } octets_of_c207 = { { 79,84,72,69,82 } };
 #define c208 (octets_of_c208.octets)
-static const union { u8 octets[11]; u64 aligned; } octets_of_c208 = { { 110,117,109,98,101,114,80,111,114,116,115 } };
+static const union { u8 octets[19]; u64 aligned; } octets_of_c208 = { { 73,78,84,69,82,78,65,76,95,79,83,67,73,76,76,65,84,79,82 } };
 #define c209 (octets_of_c209.octets)
-static const union { u8 octets[9]; u64 aligned; } octets_of_c209 = { { 115,108,97,118,101,79,110,108,121 } };
+static const union { u8 octets[8]; u64 aligned; } octets_of_c209 = { { 83,79,70,84,87,65,82,69 } };
 #define c210 (octets_of_c210.octets)
-static const union { u8 octets[12]; u64 aligned; } octets_of_c210 = { { 112,111,114,116,73,100,101,110,116,105,116,121 } };
+static const union { u8 octets[8]; u64 aligned; } octets_of_c210 = { { 72,65,82,68,87,65,82,69 } };
 #define c211 (octets_of_c211.octets)
-static const union { u8 octets[13]; u64 aligned; } octets_of_c211 = { { 118,101,114,115,105,111,110,78,117,109,98,101,114 } };
+static const union { u8 octets[9]; u64 aligned; } octets_of_c211 = { { 76,69,71,65,67,89,95,72,87 } };
 #define c212 (octets_of_c212.octets)
-static const union { u8 octets[13]; u64 aligned; } octets_of_c212 = { { 99,108,111,99,107,65,99,99,117,114,97,99,121 } };
+static const union { u8 octets[7]; u64 aligned; } octets_of_c212 = { { 79,78,69,83,84,69,80 } };
 #define c213 (octets_of_c213.octets)
-static const union { u8 octets[12]; u64 aligned; } octets_of_c213 = { { 99,108,111,99,107,81,117,97,108,105,116,121 } };
+static const union { u8 octets[8]; u64 aligned; } octets_of_c213 = { { 80,50,80,49,83,84,69,80 } };
 #define c214 (octets_of_c214.octets)
-static const union { u8 octets[23]; u64 aligned; } octets_of_c214 = { { 103,114,97,110,100,109,97,115,116,101,114,67,108,111,99,107,81,117,97,108,105,116,121 } };
+static const union { u8 octets[11]; u64 aligned; } octets_of_c214 = { { 110,117,109,98,101,114,80,111,114,116,115 } };
 #define c215 (octets_of_c215.octets)
-static const union { u8 octets[5]; u64 aligned; } octets_of_c215 = { { 115,100,111,73,100 } };
+static const union { u8 octets[9]; u64 aligned; } octets_of_c215 = { { 115,108,97,118,101,79,110,108,121 } };
 #define c216 (octets_of_c216.octets)
-static const union { u8 octets[9]; u64 aligned; } octets_of_c216 = { { 99,108,111,99,107,84,121,112,101 } };
+static const union { u8 octets[12]; u64 aligned; } octets_of_c216 = { { 112,111,114,116,73,100,101,110,116,105,116,121 } };
 #define c217 (octets_of_c217.octets)
-static const union { u8 octets[21]; u64 aligned; } octets_of_c217 = { { 112,104,121,115,105,99,97,108,76,97,121,101,114,80,114,111,116,111,99,111,108 } };
+static const union { u8 octets[13]; u64 aligned; } octets_of_c217 = { { 118,101,114,115,105,111,110,78,117,109,98,101,114 } };
 #define c218 (octets_of_c218.octets)
-static const union { u8 octets[15]; u64 aligned; } octets_of_c218 = { { 112,104,121,115,105,99,97,108,65,100,100,114,101,115,115 } };
+static const union { u8 octets[13]; u64 aligned; } octets_of_c218 = { { 99,108,111,99,107,65,99,99,117,114,97,99,121 } };
 #define c219 (octets_of_c219.octets)
-static const union { u8 octets[15]; u64 aligned; } octets_of_c219 = { { 110,101,116,119,111,114,107,80,114,111,116,111,99,111,108 } };
+static const union { u8 octets[12]; u64 aligned; } octets_of_c219 = { { 99,108,111,99,107,81,117,97,108,105,116,121 } };
 #define c220 (octets_of_c220.octets)
-static const union { u8 octets[12]; u64 aligned; } octets_of_c220 = { { 97,100,100,114,101,115,115,70,105,101,108,100 } };
+static const union { u8 octets[23]; u64 aligned; } octets_of_c220 = { { 103,114,97,110,100,109,97,115,116,101,114,67,108,111,99,107,81,117,97,108,105,116,121 } };
 #define c221 (octets_of_c221.octets)
-static const union { u8 octets[20]; u64 aligned; } octets_of_c221 = { { 109,97,110,117,102,97,99,116,117,114,101,114,73,100,101,110,116,105,116,121 } };
+static const union { u8 octets[5]; u64 aligned; } octets_of_c221 = { { 115,100,111,73,100 } };
 #define c222 (octets_of_c222.octets)
-static const union { u8 octets[18]; u64 aligned; } octets_of_c222 = { { 112,114,111,100,117,99,116,68,101,115,99,114,105,112,116,105,111,110 } };
+static const union { u8 octets[9]; u64 aligned; } octets_of_c222 = { { 99,108,111,99,107,84,121,112,101 } };
 #define c223 (octets_of_c223.octets)
-static const union { u8 octets[12]; u64 aligned; } octets_of_c223 = { { 114,101,118,105,115,105,111,110,68,97,116,97 } };
+static const union { u8 octets[21]; u64 aligned; } octets_of_c223 = { { 112,104,121,115,105,99,97,108,76,97,121,101,114,80,114,111,116,111,99,111,108 } };
 #define c224 (octets_of_c224.octets)
-static const union { u8 octets[15]; u64 aligned; } octets_of_c224 = { { 112,114,111,102,105,108,101,73,100,101,110,116,105,116,121 } };
+static const union { u8 octets[15]; u64 aligned; } octets_of_c224 = { { 112,104,121,115,105,99,97,108,65,100,100,114,101,115,115 } };
 #define c225 (octets_of_c225.octets)
-static const union { u8 octets[12]; u64 aligned; } octets_of_c225 = { { 115,101,99,111,110,100,115,70,105,101,108,100 } };
+static const union { u8 octets[15]; u64 aligned; } octets_of_c225 = { { 110,101,116,119,111,114,107,80,114,111,116,111,99,111,108 } };
 #define c226 (octets_of_c226.octets)
-static const union { u8 octets[16]; u64 aligned; } octets_of_c226 = { { 110,97,110,111,115,101,99,111,110,100,115,70,105,101,108,100 } };
+static const union { u8 octets[12]; u64 aligned; } octets_of_c226 = { { 97,100,100,114,101,115,115,70,105,101,108,100 } };
 #define c227 (octets_of_c227.octets)
-static const union { u8 octets[12]; u64 aligned; } octets_of_c227 = { { 112,97,116,104,83,101,113,117,101,110,99,101 } };
+static const union { u8 octets[20]; u64 aligned; } octets_of_c227 = { { 109,97,110,117,102,97,99,116,117,114,101,114,73,100,101,110,116,105,116,121 } };
 #define c228 (octets_of_c228.octets)
-static const union { u8 octets[13]; u64 aligned; } octets_of_c228 = { { 109,97,115,116,101,114,95,111,102,102,115,101,116 } };
+static const union { u8 octets[18]; u64 aligned; } octets_of_c228 = { { 112,114,111,100,117,99,116,68,101,115,99,114,105,112,116,105,111,110 } };
 #define c229 (octets_of_c229.octets)
-static const union { u8 octets[12]; u64 aligned; } octets_of_c229 = { { 105,110,103,114,101,115,115,95,116,105,109,101 } };
+static const union { u8 octets[12]; u64 aligned; } octets_of_c229 = { { 114,101,118,105,115,105,111,110,68,97,116,97 } };
 #define c230 (octets_of_c230.octets)
-static const union { u8 octets[26]; u64 aligned; } octets_of_c230 = { { 99,117,109,117,108,97,116,105,118,101,83,99,97,108,101,100,82,97,116,101,79,102,102,115,101,116 } };
+static const union { u8 octets[15]; u64 aligned; } octets_of_c230 = { { 112,114,111,102,105,108,101,73,100,101,110,116,105,116,121 } };
 #define c231 (octets_of_c231.octets)
-static const union { u8 octets[23]; u64 aligned; } octets_of_c231 = { { 115,99,97,108,101,100,76,97,115,116,71,109,80,104,97,115,101,67,104,97,110,103,101 } };
+static const union { u8 octets[12]; u64 aligned; } octets_of_c231 = { { 115,101,99,111,110,100,115,70,105,101,108,100 } };
 #define c232 (octets_of_c232.octets)
-static const union { u8 octets[19]; u64 aligned; } octets_of_c232 = { { 103,109,84,105,109,101,66,97,115,101,73,110,100,105,99,97,116,111,114 } };
+static const union { u8 octets[16]; u64 aligned; } octets_of_c232 = { { 110,97,110,111,115,101,99,111,110,100,115,70,105,101,108,100 } };
 #define c233 (octets_of_c233.octets)
-static const union { u8 octets[17]; u64 aligned; } octets_of_c233 = { { 108,97,115,116,71,109,80,104,97,115,101,67,104,97,110,103,101 } };
+static const union { u8 octets[12]; u64 aligned; } octets_of_c233 = { { 112,97,116,104,83,101,113,117,101,110,99,101 } };
 #define c234 (octets_of_c234.octets)
-static const union { u8 octets[9]; u64 aligned; } octets_of_c234 = { { 103,109,80,114,101,115,101,110,116 } };
+static const union { u8 octets[13]; u64 aligned; } octets_of_c234 = { { 109,97,115,116,101,114,95,111,102,102,115,101,116 } };
 #define c235 (octets_of_c235.octets)
-static const union { u8 octets[10]; u64 aligned; } octets_of_c235 = { { 103,109,73,100,101,110,116,105,116,121 } };
+static const union { u8 octets[12]; u64 aligned; } octets_of_c235 = { { 105,110,103,114,101,115,115,95,116,105,109,101 } };
 #define c236 (octets_of_c236.octets)
-static const union { u8 octets[23]; u64 aligned; } octets_of_c236 = { { 110,101,105,103,104,98,111,114,80,114,111,112,68,101,108,97,121,84,104,114,101,115,104 } };
+static const union { u8 octets[26]; u64 aligned; } octets_of_c236 = { { 99,117,109,117,108,97,116,105,118,101,83,99,97,108,101,100,82,97,116,101,79,102,102,115,101,116 } };
 #define c237 (octets_of_c237.octets)
-static const union { u8 octets[9]; u64 aligned; } octets_of_c237 = { { 97,115,67,97,112,97,98,108,101 } };
+static const union { u8 octets[23]; u64 aligned; } octets_of_c237 = { { 115,99,97,108,101,100,76,97,115,116,71,109,80,104,97,115,101,67,104,97,110,103,101 } };
 #define c238 (octets_of_c238.octets)
-static const union { u8 octets[12]; u64 aligned; } octets_of_c238 = { { 116,105,109,101,115,116,97,109,112,105,110,103 } };
+static const union { u8 octets[19]; u64 aligned; } octets_of_c238 = { { 103,109,84,105,109,101,66,97,115,101,73,110,100,105,99,97,116,111,114 } };
 #define c239 (octets_of_c239.octets)
-static const union { u8 octets[9]; u64 aligned; } octets_of_c239 = { { 105,110,116,101,114,102,97,99,101 } };
+static const union { u8 octets[17]; u64 aligned; } octets_of_c239 = { { 108,97,115,116,71,109,80,104,97,115,101,67,104,97,110,103,101 } };
 #define c240 (octets_of_c240.octets)
-static const union { u8 octets[7]; u64 aligned; } octets_of_c240 = { { 114,120,95,83,121,110,99 } };
+static const union { u8 octets[9]; u64 aligned; } octets_of_c240 = { { 103,109,80,114,101,115,101,110,116 } };
 #define c241 (octets_of_c241.octets)
-static const union { u8 octets[12]; u64 aligned; } octets_of_c241 = { { 114,120,95,68,101,108,97,121,95,82,101,113 } };
+static const union { u8 octets[10]; u64 aligned; } octets_of_c241 = { { 103,109,73,100,101,110,116,105,116,121 } };
 #define c242 (octets_of_c242.octets)
-static const union { u8 octets[13]; u64 aligned; } octets_of_c242 = { { 114,120,95,80,100,101,108,97,121,95,82,101,113 } };
+static const union { u8 octets[23]; u64 aligned; } octets_of_c242 = { { 110,101,105,103,104,98,111,114,80,114,111,112,68,101,108,97,121,84,104,114,101,115,104 } };
 #define c243 (octets_of_c243.octets)
-static const union { u8 octets[14]; u64 aligned; } octets_of_c243 = { { 114,120,95,80,100,101,108,97,121,95,82,101,115,112 } };
+static const union { u8 octets[9]; u64 aligned; } octets_of_c243 = { { 97,115,67,97,112,97,98,108,101 } };
 #define c244 (octets_of_c244.octets)
-static const union { u8 octets[12]; u64 aligned; } octets_of_c244 = { { 114,120,95,70,111,108,108,111,119,95,85,112 } };
+static const union { u8 octets[12]; u64 aligned; } octets_of_c244 = { { 116,105,109,101,115,116,97,109,112,105,110,103 } };
 #define c245 (octets_of_c245.octets)
-static const union { u8 octets[13]; u64 aligned; } octets_of_c245 = { { 114,120,95,68,101,108,97,121,95,82,101,115,112 } };
+static const union { u8 octets[9]; u64 aligned; } octets_of_c245 = { { 105,110,116,101,114,102,97,99,101 } };
 #define c246 (octets_of_c246.octets)
-static const union { u8 octets[24]; u64 aligned; } octets_of_c246 = { { 114,120,95,80,100,101,108,97,121,95,82,101,115,112,95,70,111,108,108,111,119,95,85,112 } };
+static const union { u8 octets[7]; u64 aligned; } octets_of_c246 = { { 114,120,95,83,121,110,99 } };
 #define c247 (octets_of_c247.octets)
-static const union { u8 octets[11]; u64 aligned; } octets_of_c247 = { { 114,120,95,65,110,110,111,117,110,99,101 } };
+static const union { u8 octets[12]; u64 aligned; } octets_of_c247 = { { 114,120,95,68,101,108,97,121,95,82,101,113 } };
 #define c248 (octets_of_c248.octets)
-static const union { u8 octets[12]; u64 aligned; } octets_of_c248 = { { 114,120,95,83,105,103,110,97,108,105,110,103 } };
+static const union { u8 octets[13]; u64 aligned; } octets_of_c248 = { { 114,120,95,80,100,101,108,97,121,95,82,101,113 } };
 #define c249 (octets_of_c249.octets)
-static const union { u8 octets[13]; u64 aligned; } octets_of_c249 = { { 114,120,95,77,97,110,97,103,101,109,101,110,116 } };
+static const union { u8 octets[14]; u64 aligned; } octets_of_c249 = { { 114,120,95,80,100,101,108,97,121,95,82,101,115,112 } };
 #define c250 (octets_of_c250.octets)
-static const union { u8 octets[7]; u64 aligned; } octets_of_c250 = { { 116,120,95,83,121,110,99 } };
+static const union { u8 octets[12]; u64 aligned; } octets_of_c250 = { { 114,120,95,70,111,108,108,111,119,95,85,112 } };
 #define c251 (octets_of_c251.octets)
-static const union { u8 octets[12]; u64 aligned; } octets_of_c251 = { { 116,120,95,68,101,108,97,121,95,82,101,113 } };
+static const union { u8 octets[13]; u64 aligned; } octets_of_c251 = { { 114,120,95,68,101,108,97,121,95,82,101,115,112 } };
 #define c252 (octets_of_c252.octets)
-static const union { u8 octets[13]; u64 aligned; } octets_of_c252 = { { 116,120,95,80,100,101,108,97,121,95,82,101,113 } };
+static const union { u8 octets[24]; u64 aligned; } octets_of_c252 = { { 114,120,95,80,100,101,108,97,121,95,82,101,115,112,95,70,111,108,108,111,119,95,85,112 } };
 #define c253 (octets_of_c253.octets)
-static const union { u8 octets[14]; u64 aligned; } octets_of_c253 = { { 116,120,95,80,100,101,108,97,121,95,82,101,115,112 } };
+static const union { u8 octets[11]; u64 aligned; } octets_of_c253 = { { 114,120,95,65,110,110,111,117,110,99,101 } };
 #define c254 (octets_of_c254.octets)
-static const union { u8 octets[12]; u64 aligned; } octets_of_c254 = { { 116,120,95,70,111,108,108,111,119,95,85,112 } };
+static const union { u8 octets[12]; u64 aligned; } octets_of_c254 = { { 114,120,95,83,105,103,110,97,108,105,110,103 } };
 #define c255 (octets_of_c255.octets)
-static const union { u8 octets[13]; u64 aligned; } octets_of_c255 = { { 116,120,95,68,101,108,97,121,95,82,101,115,112 } };
+static const union { u8 octets[13]; u64 aligned; } octets_of_c255 = { { 114,120,95,77,97,110,97,103,101,109,101,110,116 } };
 #define c256 (octets_of_c256.octets)
-static const union { u8 octets[24]; u64 aligned; } octets_of_c256 = { { 116,120,95,80,100,101,108,97,121,95,82,101,115,112,95,70,111,108,108,111,119,95,85,112 } };
+static const union { u8 octets[7]; u64 aligned; } octets_of_c256 = { { 116,120,95,83,121,110,99 } };
 #define c257 (octets_of_c257.octets)
-static const union { u8 octets[11]; u64 aligned; } octets_of_c257 = { { 116,120,95,65,110,110,111,117,110,99,101 } };
+static const union { u8 octets[12]; u64 aligned; } octets_of_c257 = { { 116,120,95,68,101,108,97,121,95,82,101,113 } };
 #define c258 (octets_of_c258.octets)
-static const union { u8 octets[12]; u64 aligned; } octets_of_c258 = { { 116,120,95,83,105,103,110,97,108,105,110,103 } };
+static const union { u8 octets[13]; u64 aligned; } octets_of_c258 = { { 116,120,95,80,100,101,108,97,121,95,82,101,113 } };
 #define c259 (octets_of_c259.octets)
-static const union { u8 octets[13]; u64 aligned; } octets_of_c259 = { { 116,120,95,77,97,110,97,103,101,109,101,110,116 } };
+static const union { u8 octets[14]; u64 aligned; } octets_of_c259 = { { 116,120,95,80,100,101,108,97,121,95,82,101,115,112 } };
 #define c260 (octets_of_c260.octets)
-static const union { u8 octets[13]; u64 aligned; } octets_of_c260 = { { 99,108,111,99,107,73,100,101,110,116,105,116,121 } };
+static const union { u8 octets[12]; u64 aligned; } octets_of_c260 = { { 116,120,95,70,111,108,108,111,119,95,85,112 } };
 #define c261 (octets_of_c261.octets)
-static const union { u8 octets[12]; u64 aligned; } octets_of_c261 = { { 100,111,109,97,105,110,78,117,109,98,101,114 } };
+static const union { u8 octets[13]; u64 aligned; } octets_of_c261 = { { 116,120,95,68,101,108,97,121,95,82,101,115,112 } };
 #define c262 (octets_of_c262.octets)
-static const union { u8 octets[15]; u64 aligned; } octets_of_c262 = { { 117,115,101,114,68,101,115,99,114,105,112,116,105,111,110 } };
+static const union { u8 octets[24]; u64 aligned; } octets_of_c262 = { { 116,120,95,80,100,101,108,97,121,95,82,101,115,112,95,70,111,108,108,111,119,95,85,112 } };
 #define c263 (octets_of_c263.octets)
-static const union { u8 octets[11]; u64 aligned; } octets_of_c263 = { { 116,119,111,83,116,101,112,70,108,97,103 } };
+static const union { u8 octets[11]; u64 aligned; } octets_of_c263 = { { 116,120,95,65,110,110,111,117,110,99,101 } };
 #define c264 (octets_of_c264.octets)
-static const union { u8 octets[9]; u64 aligned; } octets_of_c264 = { { 112,114,105,111,114,105,116,121,49 } };
+static const union { u8 octets[12]; u64 aligned; } octets_of_c264 = { { 116,120,95,83,105,103,110,97,108,105,110,103 } };
 #define c265 (octets_of_c265.octets)
-static const union { u8 octets[23]; u64 aligned; } octets_of_c265 = { { 99,108,111,99,107,81,117,97,108,105,116,121,46,99,108,111,99,107,67,108,97,115,115 } };
+static const union { u8 octets[13]; u64 aligned; } octets_of_c265 = { { 116,120,95,77,97,110,97,103,101,109,101,110,116 } };
 #define c266 (octets_of_c266.octets)
-static const union { u8 octets[26]; u64 aligned; } octets_of_c266 = { { 99,108,111,99,107,81,117,97,108,105,116,121,46,99,108,111,99,107,65,99,99,117,114,97,99,121 } };
+static const union { u8 octets[13]; u64 aligned; } octets_of_c266 = { { 99,108,111,99,107,73,100,101,110,116,105,116,121 } };
 #define c267 (octets_of_c267.octets)
-static const union { u8 octets[36]; u64 aligned; } octets_of_c267 = { { 99,108,111,99,107,81,117,97,108,105,116,121,46,111,102,102,115,101,116,83,99,97,108,101,100,76,111,103,86,97,114,105,97,110,99,101 } };
+static const union { u8 octets[12]; u64 aligned; } octets_of_c267 = { { 100,111,109,97,105,110,78,117,109,98,101,114 } };
 #define c268 (octets_of_c268.octets)
-static const union { u8 octets[9]; u64 aligned; } octets_of_c268 = { { 112,114,105,111,114,105,116,121,50 } };
+static const union { u8 octets[15]; u64 aligned; } octets_of_c268 = { { 117,115,101,114,68,101,115,99,114,105,112,116,105,111,110 } };
 #define c269 (octets_of_c269.octets)
-static const union { u8 octets[12]; u64 aligned; } octets_of_c269 = { { 115,116,101,112,115,82,101,109,111,118,101,100 } };
+static const union { u8 octets[11]; u64 aligned; } octets_of_c269 = { { 116,119,111,83,116,101,112,70,108,97,103 } };
 #define c270 (octets_of_c270.octets)
-static const union { u8 octets[16]; u64 aligned; } octets_of_c270 = { { 111,102,102,115,101,116,70,114,111,109,77,97,115,116,101,114 } };
+static const union { u8 octets[9]; u64 aligned; } octets_of_c270 = { { 112,114,105,111,114,105,116,121,49 } };
 #define c271 (octets_of_c271.octets)
-static const union { u8 octets[9]; u64 aligned; } octets_of_c271 = { { 109,101,97,110,68,101,108,97,121 } };
+static const union { u8 octets[23]; u64 aligned; } octets_of_c271 = { { 99,108,111,99,107,81,117,97,108,105,116,121,46,99,108,111,99,107,67,108,97,115,115 } };
 #define c272 (octets_of_c272.octets)
-static const union { u8 octets[18]; u64 aligned; } octets_of_c272 = { { 112,97,114,101,110,116,80,111,114,116,73,100,101,110,116,105,116,121 } };
+static const union { u8 octets[26]; u64 aligned; } octets_of_c272 = { { 99,108,111,99,107,81,117,97,108,105,116,121,46,99,108,111,99,107,65,99,99,117,114,97,99,121 } };
 #define c273 (octets_of_c273.octets)
-static const union { u8 octets[11]; u64 aligned; } octets_of_c273 = { { 112,97,114,101,110,116,83,116,97,116,115 } };
+static const union { u8 octets[36]; u64 aligned; } octets_of_c273 = { { 99,108,111,99,107,81,117,97,108,105,116,121,46,111,102,102,115,101,116,83,99,97,108,101,100,76,111,103,86,97,114,105,97,110,99,101 } };
 #define c274 (octets_of_c274.octets)
-static const union { u8 octets[37]; u64 aligned; } octets_of_c274 = { { 111,98,115,101,114,118,101,100,80,97,114,101,110,116,79,102,102,115,101,116,83,99,97,108,101,100,76,111,103,86,97,114,105,97,110,99,101 } };
+static const union { u8 octets[9]; u64 aligned; } octets_of_c274 = { { 112,114,105,111,114,105,116,121,50 } };
 #define c275 (octets_of_c275.octets)
-static const union { u8 octets[34]; u64 aligned; } octets_of_c275 = { { 111,98,115,101,114,118,101,100,80,97,114,101,110,116,67,108,111,99,107,80,104,97,115,101,67,104,97,110,103,101,82,97,116,101 } };
+static const union { u8 octets[12]; u64 aligned; } octets_of_c275 = { { 115,116,101,112,115,82,101,109,111,118,101,100 } };
 #define c276 (octets_of_c276.octets)
-static const union { u8 octets[20]; u64 aligned; } octets_of_c276 = { { 103,114,97,110,100,109,97,115,116,101,114,80,114,105,111,114,105,116,121,49 } };
+static const union { u8 octets[16]; u64 aligned; } octets_of_c276 = { { 111,102,102,115,101,116,70,114,111,109,77,97,115,116,101,114 } };
 #define c277 (octets_of_c277.octets)
-static const union { u8 octets[34]; u64 aligned; } octets_of_c277 = { { 103,114,97,110,100,109,97,115,116,101,114,67,108,111,99,107,81,117,97,108,105,116,121,46,99,108,111,99,107,67,108,97,115,115 } };
+static const union { u8 octets[9]; u64 aligned; } octets_of_c277 = { { 109,101,97,110,68,101,108,97,121 } };
 #define c278 (octets_of_c278.octets)
-static const union { u8 octets[37]; u64 aligned; } octets_of_c278 = { { 103,114,97,110,100,109,97,115,116,101,114,67,108,111,99,107,81,117,97,108,105,116,121,46,99,108,111,99,107,65,99,99,117,114,97,99,121 } };
+static const union { u8 octets[18]; u64 aligned; } octets_of_c278 = { { 112,97,114,101,110,116,80,111,114,116,73,100,101,110,116,105,116,121 } };
 #define c279 (octets_of_c279.octets)
-static const union { u8 octets[47]; u64 aligned; } octets_of_c279 = { { 103,114,97,110,100,109,97,115,116,101,114,67,108,111,99,107,81,117,97,108,105,116,121,46,111,102,102,115,101,116,83,99,97,108,101,100,76,111,103,86,97,114,105,97,110,99,101 } };
+static const union { u8 octets[11]; u64 aligned; } octets_of_c279 = { { 112,97,114,101,110,116,83,116,97,116,115 } };
 #define c280 (octets_of_c280.octets)
-static const union { u8 octets[20]; u64 aligned; } octets_of_c280 = { { 103,114,97,110,100,109,97,115,116,101,114,80,114,105,111,114,105,116,121,50 } };
+static const union { u8 octets[37]; u64 aligned; } octets_of_c280 = { { 111,98,115,101,114,118,101,100,80,97,114,101,110,116,79,102,102,115,101,116,83,99,97,108,101,100,76,111,103,86,97,114,105,97,110,99,101 } };
 #define c281 (octets_of_c281.octets)
-static const union { u8 octets[19]; u64 aligned; } octets_of_c281 = { { 103,114,97,110,100,109,97,115,116,101,114,73,100,101,110,116,105,116,121 } };
+static const union { u8 octets[34]; u64 aligned; } octets_of_c281 = { { 111,98,115,101,114,118,101,100,80,97,114,101,110,116,67,108,111,99,107,80,104,97,115,101,67,104,97,110,103,101,82,97,116,101 } };
 #define c282 (octets_of_c282.octets)
-static const union { u8 octets[16]; u64 aligned; } octets_of_c282 = { { 99,117,114,114,101,110,116,85,116,99,79,102,102,115,101,116 } };
+static const union { u8 octets[20]; u64 aligned; } octets_of_c282 = { { 103,114,97,110,100,109,97,115,116,101,114,80,114,105,111,114,105,116,121,49 } };
 #define c283 (octets_of_c283.octets)
-static const union { u8 octets[6]; u64 aligned; } octets_of_c283 = { { 108,101,97,112,54,49 } };
+static const union { u8 octets[34]; u64 aligned; } octets_of_c283 = { { 103,114,97,110,100,109,97,115,116,101,114,67,108,111,99,107,81,117,97,108,105,116,121,46,99,108,111,99,107,67,108,97,115,115 } };
 #define c284 (octets_of_c284.octets)
-static const union { u8 octets[6]; u64 aligned; } octets_of_c284 = { { 108,101,97,112,53,57 } };
+static const union { u8 octets[37]; u64 aligned; } octets_of_c284 = { { 103,114,97,110,100,109,97,115,116,101,114,67,108,111,99,107,81,117,97,108,105,116,121,46,99,108,111,99,107,65,99,99,117,114,97,99,121 } };
 #define c285 (octets_of_c285.octets)
-static const union { u8 octets[21]; u64 aligned; } octets_of_c285 = { { 99,117,114,114,101,110,116,85,116,99,79,102,102,115,101,116,86,97,108,105,100 } };
+static const union { u8 octets[47]; u64 aligned; } octets_of_c285 = { { 103,114,97,110,100,109,97,115,116,101,114,67,108,111,99,107,81,117,97,108,105,116,121,46,111,102,102,115,101,116,83,99,97,108,101,100,76,111,103,86,97,114,105,97,110,99,101 } };
 #define c286 (octets_of_c286.octets)
-static const union { u8 octets[12]; u64 aligned; } octets_of_c286 = { { 112,116,112,84,105,109,101,115,99,97,108,101 } };
+static const union { u8 octets[20]; u64 aligned; } octets_of_c286 = { { 103,114,97,110,100,109,97,115,116,101,114,80,114,105,111,114,105,116,121,50 } };
 #define c287 (octets_of_c287.octets)
-static const union { u8 octets[13]; u64 aligned; } octets_of_c287 = { { 116,105,109,101,84,114,97,99,101,97,98,108,101 } };
+static const union { u8 octets[19]; u64 aligned; } octets_of_c287 = { { 103,114,97,110,100,109,97,115,116,101,114,73,100,101,110,116,105,116,121 } };
 #define c288 (octets_of_c288.octets)
-static const union { u8 octets[18]; u64 aligned; } octets_of_c288 = { { 102,114,101,113,117,101,110,99,121,84,114,97,99,101,97,98,108,101 } };
+static const union { u8 octets[16]; u64 aligned; } octets_of_c288 = { { 99,117,114,114,101,110,116,85,116,99,79,102,102,115,101,116 } };
 #define c289 (octets_of_c289.octets)
-static const union { u8 octets[10]; u64 aligned; } octets_of_c289 = { { 116,105,109,101,83,111,117,114,99,101 } };
+static const union { u8 octets[6]; u64 aligned; } octets_of_c289 = { { 108,101,97,112,54,49 } };
 #define c290 (octets_of_c290.octets)
-static const union { u8 octets[9]; u64 aligned; } octets_of_c290 = { { 112,111,114,116,83,116,97,116,101 } };
+static const union { u8 octets[6]; u64 aligned; } octets_of_c290 = { { 108,101,97,112,53,57 } };
 #define c291 (octets_of_c291.octets)
-static const union { u8 octets[22]; u64 aligned; } octets_of_c291 = { { 108,111,103,77,105,110,68,101,108,97,121,82,101,113,73,110,116,101,114,118,97,108 } };
+static const union { u8 octets[21]; u64 aligned; } octets_of_c291 = { { 99,117,114,114,101,110,116,85,116,99,79,102,102,115,101,116,86,97,108,105,100 } };
 #define c292 (octets_of_c292.octets)
-static const union { u8 octets[13]; u64 aligned; } octets_of_c292 = { { 109,101,97,110,76,105,110,107,68,101,108,97,121 } };
+static const union { u8 octets[12]; u64 aligned; } octets_of_c292 = { { 112,116,112,84,105,109,101,115,99,97,108,101 } };
 #define c293 (octets_of_c293.octets)
-static const union { u8 octets[26]; u64 aligned; } octets_of_c293 = { { 32,111,114,32,97,32,110,117,109,98,101,114,32,102,114,111,109,32,48,32,116,111,32,50,53,53 } };
+static const union { u8 octets[13]; u64 aligned; } octets_of_c293 = { { 116,105,109,101,84,114,97,99,101,97,98,108,101 } };
 #define c294 (octets_of_c294.octets)
-static const union { u8 octets[2]; u64 aligned; } octets_of_c294 = { { 48,120 } };
+static const union { u8 octets[18]; u64 aligned; } octets_of_c294 = { { 102,114,101,113,117,101,110,99,121,84,114,97,99,101,97,98,108,101 } };
 #define c295 (octets_of_c295.octets)
-static const union { u8 octets[2]; u64 aligned; } octets_of_c295 = { { 44,32 } };
+static const union { u8 octets[10]; u64 aligned; } octets_of_c295 = { { 116,105,109,101,83,111,117,114,99,101 } };
 #define c296 (octets_of_c296.octets)
-static const union { u8 octets[25]; u64 aligned; } octets_of_c296 = { { 97,32,110,117,109,98,101,114,32,102,114,111,109,32,45,49,50,56,32,116,111,32,49,50,55 } };
+static const union { u8 octets[9]; u64 aligned; } octets_of_c296 = { { 112,111,114,116,83,116,97,116,101 } };
 #define c297 (octets_of_c297.octets)
-static const union { u8 octets[29]; u64 aligned; } octets_of_c297 = { { 97,32,110,117,109,98,101,114,32,102,114,111,109,32,45,51,50,55,54,56,32,116,111,32,51,50,55,54,55 } };
+static const union { u8 octets[22]; u64 aligned; } octets_of_c297 = { { 108,111,103,77,105,110,68,101,108,97,121,82,101,113,73,110,116,101,114,118,97,108 } };
 #define c298 (octets_of_c298.octets)
-static const union { u8 octets[13]; u64 aligned; } octets_of_c298 = { { 116,114,117,101,32,111,114,32,102,97,108,115,101 } };
+static const union { u8 octets[13]; u64 aligned; } octets_of_c298 = { { 109,101,97,110,76,105,110,107,68,101,108,97,121 } };
 #define c299 (octets_of_c299.octets)
-static const union { u8 octets[55]; u64 aligned; } octets_of_c299 = { { 97,32,110,117,109,98,101,114,32,102,114,111,109,32,48,32,116,111,32,49,53,44,32,111,114,32,48,120,32,97,110,100,32,116,119,111,32,104,101,120,97,100,101,99,105,109,97,108,32,100,105,103,105,116,115 } };
+static const union { u8 octets[26]; u64 aligned; } octets_of_c299 = { { 32,111,114,32,97,32,110,117,109,98,101,114,32,102,114,111,109,32,48,32,116,111,32,50,53,53 } };
 #define c300 (octets_of_c300.octets)
-static const union { u8 octets[37]; u64 aligned; } octets_of_c300 = { { 97,32,116,101,120,116,32,111,102,32,97,116,32,109,111,115,116,32,49,50,56,32,111,99,116,101,116,115,32,105,110,32,85,84,70,45,56 } };
+static const union { u8 octets[2]; u64 aligned; } octets_of_c300 = { { 48,120 } };
 #define c301 (octets_of_c301.octets)
-static const union { u8 octets[56]; u64 aligned; } octets_of_c301 = { { 97,32,110,117,109,98,101,114,32,102,114,111,109,32,48,32,116,111,32,50,53,53,44,32,111,114,32,48,120,32,97,110,100,32,116,119,111,32,104,101,120,97,100,101,99,105,109,97,108,32,100,105,103,105,116,115 } };
+static const union { u8 octets[2]; u64 aligned; } octets_of_c301 = { { 44,32 } };
 #define c302 (octets_of_c302.octets)
-static const union { u8 octets[8]; u64 aligned; } octets_of_c302 = { { 110,111,32,118,97,108,117,101 } };
+static const union { u8 octets[25]; u64 aligned; } octets_of_c302 = { { 97,32,110,117,109,98,101,114,32,102,114,111,109,32,45,49,50,56,32,116,111,32,49,50,55 } };
 #define c303 (octets_of_c303.octets)
-static const union { u8 octets[60]; u64 aligned; } octets_of_c303 = { { 9,0,0,0,1,2,10,0,0,0,14,0,11,0,0,0,14,1,12,0,0,0,14,2,13,0,0,0,14,3,14,0,0,0,14,4,15,0,0,0,14,5,16,0,0,0,14,6,0,2,0,0,14,7,17,0,0,0,14,8 } };
+static const union { u8 octets[29]; u64 aligned; } octets_of_c303 = { { 97,32,110,117,109,98,101,114,32,102,114,111,109,32,45,51,50,55,54,56,32,116,111,32,51,50,55,54,55 } };
 #define c304 (octets_of_c304.octets)
-static const union { u8 octets[12]; u64 aligned; } octets_of_c304 = { { 18,0,0,0,0,6,19,0,0,6,0,4 } };
+static const union { u8 octets[13]; u64 aligned; } octets_of_c304 = { { 116,114,117,101,32,111,114,32,102,97,108,115,101 } };
 #define c305 (octets_of_c305.octets)
-static const union { u8 octets[12]; u64 aligned; } octets_of_c305 = { { 0,27,0,0,3,16,0,28,0,0,3,32 } };
+static const union { u8 octets[55]; u64 aligned; } octets_of_c305 = { { 97,32,110,117,109,98,101,114,32,102,114,111,109,32,48,32,116,111,32,49,53,44,32,111,114,32,48,120,32,97,110,100,32,116,119,111,32,104,101,120,97,100,101,99,105,109,97,108,32,100,105,103,105,116,115 } };
 #define c306 (octets_of_c306.octets)
-static const union { u8 octets[12]; u64 aligned; } octets_of_c306 = { { 0,26,0,0,3,8,0,29,0,1,9,2 } };
+static const union { u8 octets[37]; u64 aligned; } octets_of_c306 = { { 97,32,116,101,120,116,32,111,102,32,97,116,32,109,111,115,116,32,49,50,56,32,111,99,116,101,116,115,32,105,110,32,85,84,70,45,56 } };
 #define c307 (octets_of_c307.octets)
-static const union { u8 octets[6]; u64 aligned; } octets_of_c307 = { { 20,0,0,0,13,0 } };
+static const union { u8 octets[56]; u64 aligned; } octets_of_c307 = { { 97,32,110,117,109,98,101,114,32,102,114,111,109,32,48,32,116,111,32,50,53,53,44,32,111,114,32,48,120,32,97,110,100,32,116,119,111,32,104,101,120,97,100,101,99,105,109,97,108,32,100,105,103,105,116,115 } };
 #define c308 (octets_of_c308.octets)
-static const union { u8 octets[48]; u64 aligned; } octets_of_c308 = { { 21,0,0,0,2,8,22,0,0,8,2,8,23,0,0,16,2,4,24,0,0,20,2,4,25,0,0,24,0,2,26,0,0,26,12,12,27,0,0,41,3,1,28,0,0,42,7,0 } };
+static const union { u8 octets[8]; u64 aligned; } octets_of_c308 = { { 110,111,32,118,97,108,117,101 } };
 #define c309 (octets_of_c309.octets)
-static const union { u8 octets[66]; u64 aligned; } octets_of_c309 = { { 0,5,0,0,0,1,0,6,0,1,1,1,0,7,0,2,1,2,0,22,0,4,2,2,0,23,0,6,3,1,0,24,0,6,3,2,0,25,0,6,3,4,0,26,0,6,3,8,0,27,0,6,3,16,0,28,0,6,3,32,0,29,0,7,9,2 } };
+static const union { u8 octets[60]; u64 aligned; } octets_of_c309 = { { 9,0,0,0,1,2,10,0,0,0,14,0,11,0,0,0,14,1,12,0,0,0,14,2,13,0,0,0,14,3,14,0,0,0,14,4,15,0,0,0,14,5,16,0,0,0,14,6,0,2,0,0,14,7,17,0,0,0,14,8 } };
 #define c310 (octets_of_c310.octets)
-static const union { u8 octets[12]; u64 aligned; } octets_of_c310 = { { 29,0,0,0,0,4,30,0,0,4,2,4 } };
+static const union { u8 octets[12]; u64 aligned; } octets_of_c310 = { { 18,0,0,0,0,6,19,0,0,6,0,4 } };
 #define c311 (octets_of_c311.octets)
-static const union { u8 octets[24]; u64 aligned; } octets_of_c311 = { { 3,0,0,0,8,0,0,30,0,10,9,0,31,0,0,11,9,3,32,0,0,12,10,0 } };
+static const union { u8 octets[12]; u64 aligned; } octets_of_c311 = { { 0,27,0,0,3,16,0,28,0,0,3,32 } };
 #define c312 (octets_of_c312.octets)
-static const union { u8 octets[126]; u64 aligned; } octets_of_c312 = { { 3,0,0,0,8,0,33,0,0,10,11,8,34,0,0,18,11,8,35,0,0,26,11,8,36,0,0,34,11,8,37,0,0,74,11,8,38,0,0,82,11,8,39,0,0,90,11,8,40,0,0,98,11,8,41,0,0,106,11,8,42,0,0,114,11,8,43,0,0,138,11,8,44,0,0,146,11,8,45,0,0,154,11,8,46,0,0,162,11,8,47,0,0,202,11,8,48,0,0,210,11,8,49,0,0,218,11,8,50,0,0,226,11,8,51,0,0,234,11,8,52,0,0,242,11,8 } };
+static const union { u8 octets[12]; u64 aligned; } octets_of_c312 = { { 0,26,0,0,3,8,0,29,0,1,9,2 } };
 #define c313 (octets_of_c313.octets)
-static const union { u8 octets[6]; u64 aligned; } octets_of_c313 = { { 118,97,108,117,101,32 } };
+static const union { u8 octets[6]; u64 aligned; } octets_of_c313 = { { 20,0,0,0,13,0 } };
 #define c314 (octets_of_c314.octets)
-static const union { u8 octets[1]; u64 aligned; } octets_of_c314 = { { 10 } };
+static const union { u8 octets[48]; u64 aligned; } octets_of_c314 = { { 21,0,0,0,2,8,22,0,0,8,2,8,23,0,0,16,2,4,24,0,0,20,2,4,25,0,0,24,0,2,26,0,0,26,12,12,27,0,0,41,3,1,28,0,0,42,7,0 } };
 #define c315 (octets_of_c315.octets)
-static const union { u8 octets[1]; u64 aligned; } octets_of_c315 = { { 45 } };
+static const union { u8 octets[66]; u64 aligned; } octets_of_c315 = { { 0,5,0,0,0,1,0,6,0,1,1,1,0,7,0,2,1,2,0,22,0,4,2,2,0,23,0,6,3,1,0,24,0,6,3,2,0,25,0,6,3,4,0,26,0,6,3,8,0,27,0,6,3,16,0,28,0,6,3,32,0,29,0,7,9,2 } };
 #define c316 (octets_of_c316.octets)
-static const union { u8 octets[1]; u64 aligned; } octets_of_c316 = { { 32 } };
+static const union { u8 octets[12]; u64 aligned; } octets_of_c316 = { { 29,0,0,0,0,4,30,0,0,4,2,4 } };
 #define c317 (octets_of_c317.octets)
-static const union { u8 octets[200]; u64 aligned; } octets_of_c317 = { { 48,48,48,49,48,50,48,51,48,52,48,53,48,54,48,55,48,56,48,57,49,48,49,49,49,50,49,51,49,52,49,53,49,54,49,55,49,56,49,57,50,48,50,49,50,50,50,51,50,52,50,53,50,54,50,55,50,56,50,57,51,48,51,49,51,50,51,51,51,52,51,53,51,54,51,55,51,56,51,57,52,48,52,49,52,50,52,51,52,52,52,53,52,54,52,55,52,56,52,57,53,48,53,49,53,50,53,51,53,52,53,53,53,54,53,55,53,56,53,57,54,48,54,49,54,50,54,51,54,52,54,53,54,54,54,55,54,56,54,57,55,48,55,49,55,50,55,51,55,52,55,53,55,54,55,55,55,56,55,57,56,48,56,49,56,50,56,51,56,52,56,53,56,54,56,55,56,56,56,57,57,48,57,49,57,50,57,51,57,52,57,53,57,54,57,55,57,56,57,57 } };
+static const union { u8 octets[24]; u64 aligned; } octets_of_c317 = { { 3,0,0,0,8,0,0,30,0,10,9,0,31,0,0,11,9,3,32,0,0,12,10,0 } };
 #define c318 (octets_of_c318.octets)
-static const union { u8 octets[1]; u64 aligned; } octets_of_c318 = { { 46 } };
+static const union { u8 octets[126]; u64 aligned; } octets_of_c318 = { { 3,0,0,0,8,0,33,0,0,10,11,8,34,0,0,18,11,8,35,0,0,26,11,8,36,0,0,34,11,8,37,0,0,74,11,8,38,0,0,82,11,8,39,0,0,90,11,8,40,0,0,98,11,8,41,0,0,106,11,8,42,0,0,114,11,8,43,0,0,138,11,8,44,0,0,146,11,8,45,0,0,154,11,8,46,0,0,162,11,8,47,0,0,202,11,8,48,0,0,210,11,8,49,0,0,218,11,8,50,0,0,226,11,8,51,0,0,234,11,8,52,0,0,242,11,8 } };
 #define c319 (octets_of_c319.octets)
-static const union { u8 octets[1]; u64 aligned; } octets_of_c319 = { { 47 } };
+static const union { u8 octets[6]; u64 aligned; } octets_of_c319 = { { 118,97,108,117,101,32 } };
 #define c320 (octets_of_c320.octets)
-static const union { u8 octets[6]; u64 aligned; } octets_of_c320 = { { 99,108,97,115,115,32 } };
+static const union { u8 octets[1]; u64 aligned; } octets_of_c320 = { { 10 } };
 #define c321 (octets_of_c321.octets)
-static const union { u8 octets[12]; u64 aligned; } octets_of_c321 = { { 32,97,99,99,117,114,97,99,121,32,48,120 } };
+static const union { u8 octets[1]; u64 aligned; } octets_of_c321 = { { 45 } };
 #define c322 (octets_of_c322.octets)
-static const union { u8 octets[12]; u64 aligned; } octets_of_c322 = { { 32,118,97,114,105,97,110,99,101,32,48,120 } };
+static const union { u8 octets[1]; u64 aligned; } octets_of_c322 = { { 32 } };
 #define c323 (octets_of_c323.octets)
-static const union { u8 octets[2]; u64 aligned; } octets_of_c323 = { { 92,120 } };
+static const union { u8 octets[200]; u64 aligned; } octets_of_c323 = { { 48,48,48,49,48,50,48,51,48,52,48,53,48,54,48,55,48,56,48,57,49,48,49,49,49,50,49,51,49,52,49,53,49,54,49,55,49,56,49,57,50,48,50,49,50,50,50,51,50,52,50,53,50,54,50,55,50,56,50,57,51,48,51,49,51,50,51,51,51,52,51,53,51,54,51,55,51,56,51,57,52,48,52,49,52,50,52,51,52,52,52,53,52,54,52,55,52,56,52,57,53,48,53,49,53,50,53,51,53,52,53,53,53,54,53,55,53,56,53,57,54,48,54,49,54,50,54,51,54,52,54,53,54,54,54,55,54,56,54,57,55,48,55,49,55,50,55,51,55,52,55,53,55,54,55,55,55,56,55,57,56,48,56,49,56,50,56,51,56,52,56,53,56,54,56,55,56,56,56,57,57,48,57,49,57,50,57,51,57,52,57,53,57,54,57,55,57,56,57,57 } };
 #define c324 (octets_of_c324.octets)
-static const union { u8 octets[42]; u64 aligned; } octets_of_c324 = { { 0,0,2,0,0,32,1,32,2,32,3,32,4,32,5,32,6,32,7,32,8,32,9,32,10,32,11,32,12,32,13,32,14,32,16,32,17,32,0,96,1,96 } };
+static const union { u8 octets[1]; u64 aligned; } octets_of_c324 = { { 46 } };
 #define c325 (octets_of_c325.octets)
-static const union { u8 octets[4]; u64 aligned; } octets_of_c325 = { { 112,116,112,115 } };
+static const union { u8 octets[1]; u64 aligned; } octets_of_c325 = { { 47 } };
 #define c326 (octets_of_c326.octets)
-static const union { u8 octets[4]; u64 aligned; } octets_of_c326 = { { 112,116,112,109 } };
+static const union { u8 octets[6]; u64 aligned; } octets_of_c326 = { { 99,108,97,115,115,32 } };
 #define c327 (octets_of_c327.octets)
-static const union { u8 octets[4]; u64 aligned; } octets_of_c327 = { { 80,84,80,74 } };
+static const union { u8 octets[12]; u64 aligned; } octets_of_c327 = { { 32,97,99,99,117,114,97,99,121,32,48,120 } };
 #define c328 (octets_of_c328.octets)
-static const union { u8 octets[10]; u64 aligned; } octets_of_c328 = { { 0,1,2,3,4,5,6,7,8,9 } };
+static const union { u8 octets[12]; u64 aligned; } octets_of_c328 = { { 32,118,97,114,105,97,110,99,101,32,48,120 } };
 #define c329 (octets_of_c329.octets)
-static const union { u8 octets[17]; u64 aligned; } octets_of_c329 = { { 67,76,79,67,75,95,68,69,83,67,82,73,80,84,73,79,78 } };
+static const union { u8 octets[2]; u64 aligned; } octets_of_c329 = { { 92,120 } };
 #define c330 (octets_of_c330.octets)
-static const union { u8 octets[4]; u64 aligned; } octets_of_c330 = { { 84,73,77,69 } };
+static const union { u8 octets[42]; u64 aligned; } octets_of_c330 = { { 0,0,2,0,0,32,1,32,2,32,3,32,4,32,5,32,6,32,7,32,8,32,9,32,10,32,11,32,12,32,13,32,14,32,16,32,17,32,0,96,1,96 } };
 #define c331 (octets_of_c331.octets)
-static const union { u8 octets[23]; u64 aligned; } octets_of_c331 = { { 84,82,65,67,69,65,66,73,76,73,84,89,95,80,82,79,80,69,82,84,73,69,83 } };
+static const union { u8 octets[4]; u64 aligned; } octets_of_c331 = { { 112,116,112,115 } };
 #define c332 (octets_of_c332.octets)
-static const union { u8 octets[20]; u64 aligned; } octets_of_c332 = { { 84,73,77,69,83,67,65,76,69,95,80,82,79,80,69,82,84,73,69,83 } };
+static const union { u8 octets[4]; u64 aligned; } octets_of_c332 = { { 112,116,112,109 } };
 #define c333 (octets_of_c333.octets)
-static const union { u8 octets[15]; u64 aligned; } octets_of_c333 = { { 80,65,84,72,95,84,82,65,67,69,95,76,73,83,84 } };
+static const union { u8 octets[4]; u64 aligned; } octets_of_c333 = { { 80,84,80,74 } };
 #define c334 (octets_of_c334.octets)
-static const union { u8 octets[14]; u64 aligned; } octets_of_c334 = { { 84,73,77,69,95,83,84,65,84,85,83,95,78,80 } };
+static const union { u8 octets[10]; u64 aligned; } octets_of_c334 = { { 0,1,2,3,4,5,6,7,8,9 } };
 #define c335 (octets_of_c335.octets)
-static const union { u8 octets[23]; u64 aligned; } octets_of_c335 = { { 71,82,65,78,68,77,65,83,84,69,82,95,83,69,84,84,73,78,71,83,95,78,80 } };
+static const union { u8 octets[17]; u64 aligned; } octets_of_c335 = { { 67,76,79,67,75,95,68,69,83,67,82,73,80,84,73,79,78 } };
 #define c336 (octets_of_c336.octets)
-static const union { u8 octets[16]; u64 aligned; } octets_of_c336 = { { 80,79,82,84,95,68,65,84,65,95,83,69,84,95,78,80 } };
+static const union { u8 octets[4]; u64 aligned; } octets_of_c336 = { { 84,73,77,69 } };
 #define c337 (octets_of_c337.octets)
-static const union { u8 octets[18]; u64 aligned; } octets_of_c337 = { { 80,79,82,84,95,80,82,79,80,69,82,84,73,69,83,95,78,80 } };
+static const union { u8 octets[23]; u64 aligned; } octets_of_c337 = { { 84,82,65,67,69,65,66,73,76,73,84,89,95,80,82,79,80,69,82,84,73,69,83 } };
 #define c338 (octets_of_c338.octets)
-static const union { u8 octets[13]; u64 aligned; } octets_of_c338 = { { 80,79,82,84,95,83,84,65,84,83,95,78,80 } };
+static const union { u8 octets[20]; u64 aligned; } octets_of_c338 = { { 84,73,77,69,83,67,65,76,69,95,80,82,79,80,69,82,84,73,69,83 } };
 #define c339 (octets_of_c339.octets)
-static const union { u8 octets[4]; u64 aligned; } octets_of_c339 = { { 32,32,32,32 } };
+static const union { u8 octets[15]; u64 aligned; } octets_of_c339 = { { 80,65,84,72,95,84,82,65,67,69,95,76,73,83,84 } };
 #define c340 (octets_of_c340.octets)
-static const union { u8 octets[232]; u64 aligned; } octets_of_c340 = { { 16,0,0,0,0,0,0,0,216,0,0,0,0,0,0,0,16,0,0,0,0,0,0,0,88,0,0,0,0,0,0,0,16,0,0,0,0,0,0,0,12,0,0,0,0,0,0,0,196,5,0,0,0,0,0,0,188,0,0,0,0,0,0,0,24,0,0,0,0,0,0,0,68,0,0,0,0,0,0,0,16,0,0,0,0,0,0,0,26,0,0,0,0,0,0,0,16,0,0,0,0,0,0,0,16,0,0,0,0,0,0,0,10,0,0,0,0,0,0,0,8,0,3,0,0,0,0,0,24,0,0,0,0,0,0,0,16,0,0,0,0,0,0,0,36,0,0,0,0,0,0,0,24,0,0,0,0,0,0,0,150,0,0,0,0,0,0,0,144,5,0,0,0,0,0,0,36,0,0,0,0,0,0,0,88,0,0,0,0,0,0,0,16,0,0,0,0,0,0,0,48,0,0,0,0,0,0,0,16,0,0,0,0,0,0,0,16,0,0,0,0,0,0,0,12,0,0,0,0,0,0,0 } };
-#if IS_LITTLE_ENDIAN
-static const struct form_of_c341 { slot slot0; u8 octets8[8]; } octets_of_c341;
-#define c341 ((const u8 *)&octets_of_c341)
-#else
-static union form_of_c341 { u8 octets[16]; u64 aligned; } octets_of_c341;
+static const union { u8 octets[14]; u64 aligned; } octets_of_c340 = { { 84,73,77,69,95,83,84,65,84,85,83,95,78,80 } };
 #define c341 (octets_of_c341.octets)
-#endif
+static const union { u8 octets[23]; u64 aligned; } octets_of_c341 = { { 71,82,65,78,68,77,65,83,84,69,82,95,83,69,84,84,73,78,71,83,95,78,80 } };
 #define c342 (octets_of_c342.octets)
-static const union { u8 octets[9]; u64 aligned; } octets_of_c342 = { { 0,1,1,1,1,1,0,0,0 } };
+static const union { u8 octets[16]; u64 aligned; } octets_of_c342 = { { 80,79,82,84,95,68,65,84,65,95,83,69,84,95,78,80 } };
 #define c343 (octets_of_c343.octets)
-static const union { u8 octets[9]; u64 aligned; } octets_of_c343 = { { 1,0,0,0,0,0,1,1,1 } };
+static const union { u8 octets[18]; u64 aligned; } octets_of_c343 = { { 80,79,82,84,95,80,82,79,80,69,82,84,73,69,83,95,78,80 } };
 #define c344 (octets_of_c344.octets)
-static const union { u8 octets[9]; u64 aligned; } octets_of_c344 = { { 6,0,0,0,0,0,3,4,5 } };
-#if IS_LITTLE_ENDIAN
-static const struct form_of_c345 { slot slot0; slot slot8; slot slot16; slot slot24; slot slot32; slot slot40; slot slot48; slot slot56; slot slot64; } octets_of_c345;
-#define c345 ((const u8 *)&octets_of_c345)
-#else
-static union form_of_c345 { u8 octets[72]; u64 aligned; } octets_of_c345;
+static const union { u8 octets[13]; u64 aligned; } octets_of_c344 = { { 80,79,82,84,95,83,84,65,84,83,95,78,80 } };
 #define c345 (octets_of_c345.octets)
-#endif
+static const union { u8 octets[4]; u64 aligned; } octets_of_c345 = { { 32,32,32,32 } };
 #define c346 (octets_of_c346.octets)
-static const union { u8 octets[72]; u64 aligned; } octets_of_c346 = { { 12,0,0,0,0,0,0,0,6,0,0,0,0,0,0,0,8,0,0,0,0,0,0,0,9,0,0,0,0,0,0,0,10,0,0,0,0,0,0,0,6,0,0,0,0,0,0,0,7,0,0,0,0,0,0,0,12,0,0,0,0,0,0,0,5,0,0,0,0,0,0,0 } };
+static const union { u8 octets[240]; u64 aligned; } octets_of_c346 = { { 16,0,0,0,0,0,0,0,216,0,0,0,0,0,0,0,16,0,0,0,0,0,0,0,88,0,0,0,0,0,0,0,16,0,0,0,0,0,0,0,12,0,0,0,0,0,0,0,196,5,0,0,0,0,0,0,188,0,0,0,0,0,0,0,24,0,0,0,0,0,0,0,68,0,0,0,0,0,0,0,16,0,0,0,0,0,0,0,26,0,0,0,0,0,0,0,16,0,0,0,0,0,0,0,16,0,0,0,0,0,0,0,10,0,0,0,0,0,0,0,8,0,3,0,0,0,0,0,24,0,0,0,0,0,0,0,16,0,0,0,0,0,0,0,36,0,0,0,0,0,0,0,24,0,0,0,0,0,0,0,150,0,0,0,0,0,0,0,144,5,0,0,0,0,0,0,36,0,0,0,0,0,0,0,10,0,0,0,0,0,0,0,88,0,0,0,0,0,0,0,16,0,0,0,0,0,0,0,48,0,0,0,0,0,0,0,16,0,0,0,0,0,0,0,16,0,0,0,0,0,0,0,12,0,0,0,0,0,0,0 } };
+#if IS_LITTLE_ENDIAN
+static const struct form_of_c347 { slot slot0; u8 octets8[8]; } octets_of_c347;
+#define c347 ((const u8 *)&octets_of_c347)
+#else
+static union form_of_c347 { u8 octets[16]; u64 aligned; } octets_of_c347;
 #define c347 (octets_of_c347.octets)
-static const union { u8 octets[56]; u64 aligned; } octets_of_c347 = { { 1,0,0,0,0,0,0,0,0,0,0,0,0,0,0,0,0,0,0,0,0,0,0,0,1,0,0,0,0,0,0,0,1,0,0,0,0,0,0,0,1,0,0,0,0,0,0,0,1,0,0,0,0,0,0,0 } };
-#if IS_LITTLE_ENDIAN
-static const struct form_of_c348 { slot slot0; u8 octets8[16]; slot slot24; slot slot32; slot slot40; slot slot48; } octets_of_c348;
-#define c348 ((const u8 *)&octets_of_c348)
-#else
-static union form_of_c348 { u8 octets[56]; u64 aligned; } octets_of_c348;
+#endif
 #define c348 (octets_of_c348.octets)
-#endif
+static const union { u8 octets[9]; u64 aligned; } octets_of_c348 = { { 0,1,1,1,1,1,0,0,0 } };
 #define c349 (octets_of_c349.octets)
-static const union { u8 octets[56]; u64 aligned; } octets_of_c349 = { { 12,0,0,0,0,0,0,0,0,0,0,0,0,0,0,0,0,0,0,0,0,0,0,0,3,0,0,0,0,0,0,0,3,0,0,0,0,0,0,0,10,0,0,0,0,0,0,0,7,0,0,0,0,0,0,0 } };
-#if IS_LITTLE_ENDIAN
-static const struct form_of_c350 { slot slot0; slot slot8; slot slot16; slot slot24; slot slot32; } octets_of_c350;
-#define c350 ((const u8 *)&octets_of_c350)
-#else
-static union form_of_c350 { u8 octets[40]; u64 aligned; } octets_of_c350;
+static const union { u8 octets[9]; u64 aligned; } octets_of_c349 = { { 1,0,0,0,0,0,1,1,1 } };
 #define c350 (octets_of_c350.octets)
-#endif
-#define c351 (octets_of_c351.octets)
-static const union { u8 octets[40]; u64 aligned; } octets_of_c351 = { { 8,0,0,0,0,0,0,0,8,0,0,0,0,0,0,0,9,0,0,0,0,0,0,0,7,0,0,0,0,0,0,0,8,0,0,0,0,0,0,0 } };
-#define c352 (octets_of_c352.octets)
-static const union { u8 octets[40]; u64 aligned; } octets_of_c352 = { { 19,0,0,0,0,0,0,0,22,0,0,0,0,0,0,0,15,0,0,0,0,0,0,0,14,0,0,0,0,0,0,0,23,0,0,0,0,0,0,0 } };
+static const union { u8 octets[9]; u64 aligned; } octets_of_c350 = { { 6,0,0,0,0,0,3,4,5 } };
 #if IS_LITTLE_ENDIAN
-static const struct form_of_c353 { slot slot0; slot slot8; slot slot16; slot slot24; slot slot32; } octets_of_c353;
-#define c353 ((const u8 *)&octets_of_c353)
+static const struct form_of_c351 { slot slot0; slot slot8; slot slot16; slot slot24; slot slot32; slot slot40; slot slot48; slot slot56; slot slot64; } octets_of_c351;
+#define c351 ((const u8 *)&octets_of_c351)
 #else
-static union form_of_c353 { u8 octets[40]; u64 aligned; } octets_of_c353;
-#define c353 (octets_of_c353.octets)
+static union form_of_c351 { u8 octets[72]; u64 aligned; } octets_of_c351;
+#define c351 (octets_of_c351.octets)
 #endif
+#define c352 (octets_of_c352.octets)
+static const union { u8 octets[72]; u64 aligned; } octets_of_c352 = { { 12,0,0,0,0,0,0,0,6,0,0,0,0,0,0,0,8,0,0,0,0,0,0,0,9,0,0,0,0,0,0,0,10,0,0,0,0,0,0,0,6,0,0,0,0,0,0,0,7,0,0,0,0,0,0,0,12,0,0,0,0,0,0,0,5,0,0,0,0,0,0,0 } };
+#define c353 (octets_of_c353.octets)
+static const union { u8 octets[56]; u64 aligned; } octets_of_c353 = { { 1,0,0,0,0,0,0,0,0,0,0,0,0,0,0,0,0,0,0,0,0,0,0,0,1,0,0,0,0,0,0,0,1,0,0,0,0,0,0,0,1,0,0,0,0,0,0,0,1,0,0,0,0,0,0,0 } };
 #if IS_LITTLE_ENDIAN
-static const struct form_of_c354 { slot slot0; slot slot8; slot slot16; slot slot24; slot slot32; slot slot40; slot slot48; slot slot56; slot slot64; } octets_of_c354;
+static const struct form_of_c354 { slot slot0; u8 octets8[16]; slot slot24; slot slot32; slot slot40; slot slot48; } octets_of_c354;
 #define c354 ((const u8 *)&octets_of_c354)
 #else
-static union form_of_c354 { u8 octets[72]; u64 aligned; } octets_of_c354;
+static union form_of_c354 { u8 octets[56]; u64 aligned; } octets_of_c354;
 #define c354 (octets_of_c354.octets)
 #endif
 #define c355 (octets_of_c355.octets)
-static const union { u8 octets[72]; u64 aligned; } octets_of_c355 = { { 2,0,0,0,0,0,0,0,2,0,0,0,0,0,0,0,2,0,0,0,0,0,0,0,1,0,0,0,0,0,0,0,8,0,0,0,0,0,0,0,11,0,0,0,0,0,0,0,2,0,0,0,0,0,0,0,4,0,0,0,0,0,0,0,21,0,0,0,0,0,0,0 } };
-#define c356 (octets_of_c356.octets)
-static const union { u8 octets[72]; u64 aligned; } octets_of_c356 = { { 255,0,0,0,0,0,0,0,0,16,0,0,0,0,0,0,0,0,0,0,0,0,0,0,0,0,0,0,0,0,0,0,0,0,0,0,0,0,0,0,0,16,0,0,0,0,0,0,0,0,0,0,0,0,0,0,0,0,0,0,0,0,0,0,0,16,0,0,0,0,0,0 } };
-#define c357 (octets_of_c357.octets)
-static const union { u8 octets[20]; u64 aligned; } octets_of_c357 = { { 0,0,0,0,1,0,0,0,2,0,0,0,3,0,0,0,3,0,0,0 } };
-#define c358 (octets_of_c358.octets)
-static const union { u8 octets[72]; u64 aligned; } octets_of_c358 = { { 0,0,0,0,0,0,0,0,0,0,0,0,0,0,0,0,0,0,0,0,0,0,0,0,0,0,0,0,0,0,0,0,1,0,0,0,0,0,0,0,1,0,0,0,0,0,0,0,0,0,0,0,0,0,0,0,1,0,0,0,0,0,0,0,1,0,0,0,0,0,0,0 } };
-#define c359 (octets_of_c359.octets)
-static const union { u8 octets[72]; u64 aligned; } octets_of_c359 = { { 13,0,0,0,0,0,0,0,0,0,0,0,0,0,0,0,0,0,0,0,0,0,0,0,16,0,0,0,0,0,0,0,10,0,0,0,0,0,0,0,12,0,0,0,0,0,0,0,11,0,0,0,0,0,0,0,11,0,0,0,0,0,0,0,13,0,0,0,0,0,0,0 } };
+static const union { u8 octets[56]; u64 aligned; } octets_of_c355 = { { 12,0,0,0,0,0,0,0,0,0,0,0,0,0,0,0,0,0,0,0,0,0,0,0,3,0,0,0,0,0,0,0,3,0,0,0,0,0,0,0,10,0,0,0,0,0,0,0,7,0,0,0,0,0,0,0 } };
 #if IS_LITTLE_ENDIAN
-static const struct form_of_c360 { slot slot0; u8 octets8[16]; slot slot24; slot slot32; slot slot40; slot slot48; slot slot56; slot slot64; } octets_of_c360;
+static const struct form_of_c356 { slot slot0; slot slot8; slot slot16; slot slot24; slot slot32; } octets_of_c356;
+#define c356 ((const u8 *)&octets_of_c356)
+#else
+static union form_of_c356 { u8 octets[40]; u64 aligned; } octets_of_c356;
+#define c356 (octets_of_c356.octets)
+#endif
+#define c357 (octets_of_c357.octets)
+static const union { u8 octets[40]; u64 aligned; } octets_of_c357 = { { 8,0,0,0,0,0,0,0,8,0,0,0,0,0,0,0,9,0,0,0,0,0,0,0,7,0,0,0,0,0,0,0,8,0,0,0,0,0,0,0 } };
+#define c358 (octets_of_c358.octets)
+static const union { u8 octets[40]; u64 aligned; } octets_of_c358 = { { 19,0,0,0,0,0,0,0,22,0,0,0,0,0,0,0,15,0,0,0,0,0,0,0,14,0,0,0,0,0,0,0,23,0,0,0,0,0,0,0 } };
+#if IS_LITTLE_ENDIAN
+static const struct form_of_c359 { slot slot0; slot slot8; slot slot16; slot slot24; slot slot32; } octets_of_c359;
+#define c359 ((const u8 *)&octets_of_c359)
+#else
+static union form_of_c359 { u8 octets[40]; u64 aligned; } octets_of_c359;
+#define c359 (octets_of_c359.octets)
+#endif
+#if IS_LITTLE_ENDIAN
+static const struct form_of_c360 { slot slot0; slot slot8; slot slot16; slot slot24; slot slot32; slot slot40; slot slot48; slot slot56; slot slot64; } octets_of_c360;
 #define c360 ((const u8 *)&octets_of_c360)
 #else
 static union form_of_c360 { u8 octets[72]; u64 aligned; } octets_of_c360;
 #define c360 (octets_of_c360.octets)
 #endif
-#if IS_LITTLE_ENDIAN
-static const struct form_of_c361 { slot slot0; slot slot8; slot slot16; slot slot24; slot slot32; } octets_of_c361;
-#define c361 ((const u8 *)&octets_of_c361)
-#else
-static union form_of_c361 { u8 octets[40]; u64 aligned; } octets_of_c361;
 #define c361 (octets_of_c361.octets)
-#endif
+static const union { u8 octets[72]; u64 aligned; } octets_of_c361 = { { 2,0,0,0,0,0,0,0,2,0,0,0,0,0,0,0,2,0,0,0,0,0,0,0,1,0,0,0,0,0,0,0,8,0,0,0,0,0,0,0,11,0,0,0,0,0,0,0,2,0,0,0,0,0,0,0,4,0,0,0,0,0,0,0,21,0,0,0,0,0,0,0 } };
 #define c362 (octets_of_c362.octets)
-static const union { u8 octets[16]; u64 aligned; } octets_of_c362 = { { 127,0,0,0,128,0,0,0,34,0,0,0,35,0,0,0 } };
+static const union { u8 octets[72]; u64 aligned; } octets_of_c362 = { { 255,0,0,0,0,0,0,0,0,16,0,0,0,0,0,0,0,0,0,0,0,0,0,0,0,0,0,0,0,0,0,0,0,0,0,0,0,0,0,0,0,16,0,0,0,0,0,0,0,0,0,0,0,0,0,0,0,0,0,0,0,0,0,0,0,16,0,0,0,0,0,0 } };
 #define c363 (octets_of_c363.octets)
-static const union { u8 octets[12]; u64 aligned; } octets_of_c363 = { { 105,0,0,0,107,0,0,0,35,0,0,0 } };
+static const union { u8 octets[20]; u64 aligned; } octets_of_c363 = { { 0,0,0,0,1,0,0,0,2,0,0,0,3,0,0,0,3,0,0,0 } };
 #define c364 (octets_of_c364.octets)
-static const union { u8 octets[24]; u64 aligned; } octets_of_c364 = { { 9,0,0,0,0,0,0,0,5,0,0,0,0,0,0,0,9,0,0,0,0,0,0,0 } };
-#if IS_LITTLE_ENDIAN
-static const struct form_of_c365 { slot slot0; slot slot8; slot slot16; } octets_of_c365;
-#define c365 ((const u8 *)&octets_of_c365)
-#else
-static union form_of_c365 { u8 octets[24]; u64 aligned; } octets_of_c365;
+static const union { u8 octets[72]; u64 aligned; } octets_of_c364 = { { 0,0,0,0,0,0,0,0,0,0,0,0,0,0,0,0,0,0,0,0,0,0,0,0,0,0,0,0,0,0,0,0,1,0,0,0,0,0,0,0,1,0,0,0,0,0,0,0,0,0,0,0,0,0,0,0,1,0,0,0,0,0,0,0,1,0,0,0,0,0,0,0 } };
 #define c365 (octets_of_c365.octets)
-#endif
-#define c366 (octets_of_c366.octets)
-static const union { u8 octets[80]; u64 aligned; } octets_of_c366 = { { 17,0,0,0,0,0,0,0,4,0,0,0,0,0,0,0,23,0,0,0,0,0,0,0,20,0,0,0,0,0,0,0,15,0,0,0,0,0,0,0,14,0,0,0,0,0,0,0,23,0,0,0,0,0,0,0,16,0,0,0,0,0,0,0,18,0,0,0,0,0,0,0,13,0,0,0,0,0,0,0 } };
+static const union { u8 octets[72]; u64 aligned; } octets_of_c365 = { { 13,0,0,0,0,0,0,0,0,0,0,0,0,0,0,0,0,0,0,0,0,0,0,0,16,0,0,0,0,0,0,0,10,0,0,0,0,0,0,0,12,0,0,0,0,0,0,0,11,0,0,0,0,0,0,0,11,0,0,0,0,0,0,0,13,0,0,0,0,0,0,0 } };
 #if IS_LITTLE_ENDIAN
-static const struct form_of_c367 { slot slot0; slot slot8; slot slot16; slot slot24; slot slot32; slot slot40; slot slot48; slot slot56; slot slot64; slot slot72; } octets_of_c367;
+static const struct form_of_c366 { slot slot0; u8 octets8[16]; slot slot24; slot slot32; slot slot40; slot slot48; slot slot56; slot slot64; } octets_of_c366;
+#define c366 ((const u8 *)&octets_of_c366)
+#else
+static union form_of_c366 { u8 octets[72]; u64 aligned; } octets_of_c366;
+#define c366 (octets_of_c366.octets)
+#endif
+#if IS_LITTLE_ENDIAN
+static const struct form_of_c367 { slot slot0; slot slot8; slot slot16; slot slot24; slot slot32; } octets_of_c367;
 #define c367 ((const u8 *)&octets_of_c367)
 #else
-static union form_of_c367 { u8 octets[80]; u64 aligned; } octets_of_c367;
+static union form_of_c367 { u8 octets[40]; u64 aligned; } octets_of_c367;
 #define c367 (octets_of_c367.octets)
 #endif
 #define c368 (octets_of_c368.octets)
-static const union { u8 octets[40]; u64 aligned; } octets_of_c368 = { { 1,0,0,0,15,32,0,0,18,32,0,0,19,32,0,0,21,32,0,0,0,192,0,0,1,192,0,0,2,192,0,0,4,192,0,0,5,192,0,0 } };
+static const union { u8 octets[16]; u64 aligned; } octets_of_c368 = { { 127,0,0,0,128,0,0,0,34,0,0,0,35,0,0,0 } };
 #define c369 (octets_of_c369.octets)
-static const union { u8 octets[24]; u64 aligned; } octets_of_c369 = { { 38,0,0,0,39,0,0,0,40,0,0,0,41,0,0,0,42,0,0,0,35,0,0,0 } };
+static const union { u8 octets[12]; u64 aligned; } octets_of_c369 = { { 105,0,0,0,107,0,0,0,35,0,0,0 } };
 #define c370 (octets_of_c370.octets)
-static const union { u8 octets[12]; u64 aligned; } octets_of_c370 = { { 51,0,0,0,52,0,0,0,35,0,0,0 } };
+static const union { u8 octets[24]; u64 aligned; } octets_of_c370 = { { 9,0,0,0,0,0,0,0,5,0,0,0,0,0,0,0,9,0,0,0,0,0,0,0 } };
+#if IS_LITTLE_ENDIAN
+static const struct form_of_c371 { slot slot0; slot slot8; slot slot16; } octets_of_c371;
+#define c371 ((const u8 *)&octets_of_c371)
+#else
+static union form_of_c371 { u8 octets[24]; u64 aligned; } octets_of_c371;
 #define c371 (octets_of_c371.octets)
-static const union { u8 octets[16]; u64 aligned; } octets_of_c371 = { { 105,0,0,0,107,0,0,0,0,0,0,0,35,0,0,0 } };
+#endif
 #define c372 (octets_of_c372.octets)
-static const union { u8 octets[24]; u64 aligned; } octets_of_c372 = { { 104,0,0,0,105,0,0,0,106,0,0,0,107,0,0,0,110,0,0,0,35,0,0,0 } };
+static const union { u8 octets[80]; u64 aligned; } octets_of_c372 = { { 17,0,0,0,0,0,0,0,4,0,0,0,0,0,0,0,23,0,0,0,0,0,0,0,20,0,0,0,0,0,0,0,15,0,0,0,0,0,0,0,14,0,0,0,0,0,0,0,23,0,0,0,0,0,0,0,16,0,0,0,0,0,0,0,18,0,0,0,0,0,0,0,13,0,0,0,0,0,0,0 } };
+#if IS_LITTLE_ENDIAN
+static const struct form_of_c373 { slot slot0; slot slot8; slot slot16; slot slot24; slot slot32; slot slot40; slot slot48; slot slot56; slot slot64; slot slot72; } octets_of_c373;
+#define c373 ((const u8 *)&octets_of_c373)
+#else
+static union form_of_c373 { u8 octets[80]; u64 aligned; } octets_of_c373;
 #define c373 (octets_of_c373.octets)
-static const union { u8 octets[14]; u64 aligned; } octets_of_c373 = { { 1,0,2,0,3,0,4,0,5,0,6,0,254,255 } };
+#endif
+#define c374 (octets_of_c374.octets)
+static const union { u8 octets[40]; u64 aligned; } octets_of_c374 = { { 1,0,0,0,15,32,0,0,18,32,0,0,19,32,0,0,21,32,0,0,0,192,0,0,1,192,0,0,2,192,0,0,4,192,0,0,5,192,0,0 } };
+#define c375 (octets_of_c375.octets)
+static const union { u8 octets[24]; u64 aligned; } octets_of_c375 = { { 38,0,0,0,39,0,0,0,40,0,0,0,41,0,0,0,42,0,0,0,35,0,0,0 } };
+#define c376 (octets_of_c376.octets)
+static const union { u8 octets[12]; u64 aligned; } octets_of_c376 = { { 51,0,0,0,52,0,0,0,35,0,0,0 } };
+#define c377 (octets_of_c377.octets)
+static const union { u8 octets[16]; u64 aligned; } octets_of_c377 = { { 105,0,0,0,107,0,0,0,0,0,0,0,35,0,0,0 } };
+#define c378 (octets_of_c378.octets)
+static const union { u8 octets[24]; u64 aligned; } octets_of_c378 = { { 104,0,0,0,105,0,0,0,106,0,0,0,107,0,0,0,110,0,0,0,35,0,0,0 } };
+#define c379 (octets_of_c379.octets)
+static const union { u8 octets[14]; u64 aligned; } octets_of_c379 = { { 1,0,2,0,3,0,4,0,5,0,6,0,254,255 } };
 #if IS_LITTLE_ENDIAN
-static const struct form_of_c146 octets_of_c146 = { SLOT(c146 + 8), { 0 } };
+static const struct form_of_c152 octets_of_c152 = { SLOT(c152 + 8), { 0 } };
 #else
-static union form_of_c146 octets_of_c146 = { { 0 } };
+static union form_of_c152 octets_of_c152 = { { 0 } };
 #endif
 #if IS_LITTLE_ENDIAN
-static const struct form_of_c341 octets_of_c341 = { SLOT(c341 + 8), { 112,116,112,109,0,0,0,0 } };
+static const struct form_of_c347 octets_of_c347 = { SLOT(c347 + 8), { 112,116,112,109,0,0,0,0 } };
 #else
-static union form_of_c341 octets_of_c341 = { { 0,0,0,0,0,0,0,0,112,116,112,109,0,0,0,0 } };
+static union form_of_c347 octets_of_c347 = { { 0,0,0,0,0,0,0,0,112,116,112,109,0,0,0,0 } };
 #endif
 #if IS_LITTLE_ENDIAN
-static const struct form_of_c345 octets_of_c345 = { SLOT(c180 + 0), SLOT(c181 + 0), SLOT(c182 + 0), SLOT(c183 + 0), SLOT(c184 + 0), SLOT(c185 + 0), SLOT(c186 + 0), SLOT(c187 + 0), SLOT(c188 + 0) };
+static const struct form_of_c351 octets_of_c351 = { SLOT(c186 + 0), SLOT(c187 + 0), SLOT(c188 + 0), SLOT(c189 + 0), SLOT(c190 + 0), SLOT(c191 + 0), SLOT(c192 + 0), SLOT(c193 + 0), SLOT(c194 + 0) };
 #else
-static union form_of_c345 octets_of_c345 = { { 0 } };
+static union form_of_c351 octets_of_c351 = { { 0 } };
 #endif
 #if IS_LITTLE_ENDIAN
-static const struct form_of_c348 octets_of_c348 = { SLOT(c193 + 0), { 0 }, SLOT(c191 + 0), SLOT(c192 + 0), SLOT(c189 + 0), SLOT(c190 + 0) };
-#else
-static union form_of_c348 octets_of_c348 = { { 0 } };
-#endif
-#if IS_LITTLE_ENDIAN
-static const struct form_of_c350 octets_of_c350 = { SLOT(c203 + 0), SLOT(c204 + 0), SLOT(c205 + 0), SLOT(c206 + 0), SLOT(c207 + 0) };
-#else
-static union form_of_c350 octets_of_c350 = { { 0 } };
-#endif
-#if IS_LITTLE_ENDIAN
-static const struct form_of_c353 octets_of_c353 = { SLOT(c137 + 0), SLOT(c139 + 0), SLOT(c141 + 0), SLOT(c143 + 0), SLOT(c145 + 0) };
-#else
-static union form_of_c353 octets_of_c353 = { { 0 } };
-#endif
-#if IS_LITTLE_ENDIAN
-static const struct form_of_c354 octets_of_c354 = { SLOT(c304 + 0), SLOT(c305 + 0), SLOT(c306 + 0), SLOT(c307 + 0), SLOT(c308 + 0), SLOT(c309 + 0), SLOT(c310 + 0), SLOT(c311 + 0), SLOT(c312 + 0) };
+static const struct form_of_c354 octets_of_c354 = { SLOT(c199 + 0), { 0 }, SLOT(c197 + 0), SLOT(c198 + 0), SLOT(c195 + 0), SLOT(c196 + 0) };
 #else
 static union form_of_c354 octets_of_c354 = { { 0 } };
 #endif
 #if IS_LITTLE_ENDIAN
-static const struct form_of_c360 octets_of_c360 = { SLOT(c156 + 0), { 0 }, SLOT(c150 + 0), SLOT(c151 + 0), SLOT(c152 + 0), SLOT(c153 + 0), SLOT(c154 + 0), SLOT(c155 + 0) };
+static const struct form_of_c356 octets_of_c356 = { SLOT(c209 + 0), SLOT(c210 + 0), SLOT(c211 + 0), SLOT(c212 + 0), SLOT(c213 + 0) };
+#else
+static union form_of_c356 octets_of_c356 = { { 0 } };
+#endif
+#if IS_LITTLE_ENDIAN
+static const struct form_of_c359 octets_of_c359 = { SLOT(c143 + 0), SLOT(c145 + 0), SLOT(c147 + 0), SLOT(c149 + 0), SLOT(c151 + 0) };
+#else
+static union form_of_c359 octets_of_c359 = { { 0 } };
+#endif
+#if IS_LITTLE_ENDIAN
+static const struct form_of_c360 octets_of_c360 = { SLOT(c310 + 0), SLOT(c311 + 0), SLOT(c312 + 0), SLOT(c313 + 0), SLOT(c314 + 0), SLOT(c315 + 0), SLOT(c316 + 0), SLOT(c317 + 0), SLOT(c318 + 0) };
 #else
 static union form_of_c360 octets_of_c360 = { { 0 } };
 #endif
 #if IS_LITTLE_ENDIAN
-static const struct form_of_c361 octets_of_c361 = { SLOT(c167 + 0), SLOT(c168 + 0), SLOT(c169 + 0), SLOT(c170 + 0), SLOT(c171 + 0) };
+static const struct form_of_c366 octets_of_c366 = { SLOT(c162 + 0), { 0 }, SLOT(c156 + 0), SLOT(c157 + 0), SLOT(c158 + 0), SLOT(c159 + 0), SLOT(c160 + 0), SLOT(c161 + 0) };
 #else
-static union form_of_c361 octets_of_c361 = { { 0 } };
+static union form_of_c366 octets_of_c366 = { { 0 } };
 #endif
 #if IS_LITTLE_ENDIAN
-static const struct form_of_c365 octets_of_c365 = { SLOT(c177 + 0), SLOT(c178 + 0), SLOT(c179 + 0) };
-#else
-static union form_of_c365 octets_of_c365 = { { 0 } };
-#endif
-#if IS_LITTLE_ENDIAN
-static const struct form_of_c367 octets_of_c367 = { SLOT(c329 + 0), SLOT(c330 + 0), SLOT(c331 + 0), SLOT(c332 + 0), SLOT(c333 + 0), SLOT(c334 + 0), SLOT(c335 + 0), SLOT(c336 + 0), SLOT(c337 + 0), SLOT(c338 + 0) };
+static const struct form_of_c367 octets_of_c367 = { SLOT(c173 + 0), SLOT(c174 + 0), SLOT(c175 + 0), SLOT(c176 + 0), SLOT(c177 + 0) };
 #else
 static union form_of_c367 octets_of_c367 = { { 0 } };
+#endif
+#if IS_LITTLE_ENDIAN
+static const struct form_of_c371 octets_of_c371 = { SLOT(c183 + 0), SLOT(c184 + 0), SLOT(c185 + 0) };
+#else
+static union form_of_c371 octets_of_c371 = { { 0 } };
+#endif
+#if IS_LITTLE_ENDIAN
+static const struct form_of_c373 octets_of_c373 = { SLOT(c335 + 0), SLOT(c336 + 0), SLOT(c337 + 0), SLOT(c338 + 0), SLOT(c339 + 0), SLOT(c340 + 0), SLOT(c341 + 0), SLOT(c342 + 0), SLOT(c343 + 0), SLOT(c344 + 0) };
+#else
+static union form_of_c373 octets_of_c373 = { { 0 } };
 #endif
 
 #if !IS_LITTLE_ENDIAN
 void portable_fill(void);
 void portable_fill(void) {
-    store_address(ADDRESS(c146) + 0u, ADDRESS(c146) + 8u);
-    store_address(ADDRESS(c341) + 0u, ADDRESS(c341) + 8u);
-    store_address(ADDRESS(c345) + 0u, ADDRESS(c180) + 0u);
-    store_address(ADDRESS(c345) + 8u, ADDRESS(c181) + 0u);
-    store_address(ADDRESS(c345) + 16u, ADDRESS(c182) + 0u);
-    store_address(ADDRESS(c345) + 24u, ADDRESS(c183) + 0u);
-    store_address(ADDRESS(c345) + 32u, ADDRESS(c184) + 0u);
-    store_address(ADDRESS(c345) + 40u, ADDRESS(c185) + 0u);
-    store_address(ADDRESS(c345) + 48u, ADDRESS(c186) + 0u);
-    store_address(ADDRESS(c345) + 56u, ADDRESS(c187) + 0u);
-    store_address(ADDRESS(c345) + 64u, ADDRESS(c188) + 0u);
-    store_address(ADDRESS(c348) + 0u, ADDRESS(c193) + 0u);
-    store_address(ADDRESS(c348) + 24u, ADDRESS(c191) + 0u);
-    store_address(ADDRESS(c348) + 32u, ADDRESS(c192) + 0u);
-    store_address(ADDRESS(c348) + 40u, ADDRESS(c189) + 0u);
-    store_address(ADDRESS(c348) + 48u, ADDRESS(c190) + 0u);
-    store_address(ADDRESS(c350) + 0u, ADDRESS(c203) + 0u);
-    store_address(ADDRESS(c350) + 8u, ADDRESS(c204) + 0u);
-    store_address(ADDRESS(c350) + 16u, ADDRESS(c205) + 0u);
-    store_address(ADDRESS(c350) + 24u, ADDRESS(c206) + 0u);
-    store_address(ADDRESS(c350) + 32u, ADDRESS(c207) + 0u);
-    store_address(ADDRESS(c353) + 0u, ADDRESS(c137) + 0u);
-    store_address(ADDRESS(c353) + 8u, ADDRESS(c139) + 0u);
-    store_address(ADDRESS(c353) + 16u, ADDRESS(c141) + 0u);
-    store_address(ADDRESS(c353) + 24u, ADDRESS(c143) + 0u);
-    store_address(ADDRESS(c353) + 32u, ADDRESS(c145) + 0u);
-    store_address(ADDRESS(c354) + 0u, ADDRESS(c304) + 0u);
-    store_address(ADDRESS(c354) + 8u, ADDRESS(c305) + 0u);
-    store_address(ADDRESS(c354) + 16u, ADDRESS(c306) + 0u);
-    store_address(ADDRESS(c354) + 24u, ADDRESS(c307) + 0u);
-    store_address(ADDRESS(c354) + 32u, ADDRESS(c308) + 0u);
-    store_address(ADDRESS(c354) + 40u, ADDRESS(c309) + 0u);
-    store_address(ADDRESS(c354) + 48u, ADDRESS(c310) + 0u);
-    store_address(ADDRESS(c354) + 56u, ADDRESS(c311) + 0u);
-    store_address(ADDRESS(c354) + 64u, ADDRESS(c312) + 0u);
-    store_address(ADDRESS(c360) + 0u, ADDRESS(c156) + 0u);
-    store_address(ADDRESS(c360) + 24u, ADDRESS(c150) + 0u);
-    store_address(ADDRESS(c360) + 32u, ADDRESS(c151) + 0u);
-    store_address(ADDRESS(c360) + 40u, ADDRESS(c152) + 0u);
-    store_address(ADDRESS(c360) + 48u, ADDRESS(c153) + 0u);
-    store_address(ADDRESS(c360) + 56u, ADDRESS(c154) + 0u);
-    store_address(ADDRESS(c360) + 64u, ADDRESS(c155) + 0u);
-    store_address(ADDRESS(c361) + 0u, ADDRESS(c167) + 0u);
-    store_address(ADDRESS(c361) + 8u, ADDRESS(c168) + 0u);
-    store_address(ADDRESS(c361) + 16u, ADDRESS(c169) + 0u);
-    store_address(ADDRESS(c361) + 24u, ADDRESS(c170) + 0u);
-    store_address(ADDRESS(c361) + 32u, ADDRESS(c171) + 0u);
-    store_address(ADDRESS(c365) + 0u, ADDRESS(c177) + 0u);
-    store_address(ADDRESS(c365) + 8u, ADDRESS(c178) + 0u);
-    store_address(ADDRESS(c365) + 16u, ADDRESS(c179) + 0u);
-    store_address(ADDRESS(c367) + 0u, ADDRESS(c329) + 0u);
-    store_address(ADDRESS(c367) + 8u, ADDRESS(c330) + 0u);
-    store_address(ADDRESS(c367) + 16u, ADDRESS(c331) + 0u);
-    store_address(ADDRESS(c367) + 24u, ADDRESS(c332) + 0u);
-    store_address(ADDRESS(c367) + 32u, ADDRESS(c333) + 0u);
-    store_address(ADDRESS(c367) + 40u, ADDRESS(c334) + 0u);
-    store_address(ADDRESS(c367) + 48u, ADDRESS(c335) + 0u);
-    store_address(ADDRESS(c367) + 56u, ADDRESS(c336) + 0u);
-    store_address(ADDRESS(c367) + 64u, ADDRESS(c337) + 0u);
-    store_address(ADDRESS(c367) + 72u, ADDRESS(c338) + 0u);
+    store_address(ADDRESS(c152) + 0u, ADDRESS(c152) + 8u);
+    store_address(ADDRESS(c347) + 0u, ADDRESS(c347) + 8u);
+    store_address(ADDRESS(c351) + 0u, ADDRESS(c186) + 0u);
+    store_address(ADDRESS(c351) + 8u, ADDRESS(c187) + 0u);
+    store_address(ADDRESS(c351) + 16u, ADDRESS(c188) + 0u);
+    store_address(ADDRESS(c351) + 24u, ADDRESS(c189) + 0u);
+    store_address(ADDRESS(c351) + 32u, ADDRESS(c190) + 0u);
+    store_address(ADDRESS(c351) + 40u, ADDRESS(c191) + 0u);
+    store_address(ADDRESS(c351) + 48u, ADDRESS(c192) + 0u);
+    store_address(ADDRESS(c351) + 56u, ADDRESS(c193) + 0u);
+    store_address(ADDRESS(c351) + 64u, ADDRESS(c194) + 0u);
+    store_address(ADDRESS(c354) + 0u, ADDRESS(c199) + 0u);
+    store_address(ADDRESS(c354) + 24u, ADDRESS(c197) + 0u);
+    store_address(ADDRESS(c354) + 32u, ADDRESS(c198) + 0u);
+    store_address(ADDRESS(c354) + 40u, ADDRESS(c195) + 0u);
+    store_address(ADDRESS(c354) + 48u, ADDRESS(c196) + 0u);
+    store_address(ADDRESS(c356) + 0u, ADDRESS(c209) + 0u);
+    store_address(ADDRESS(c356) + 8u, ADDRESS(c210) + 0u);
+    store_address(ADDRESS(c356) + 16u, ADDRESS(c211) + 0u);
+    store_address(ADDRESS(c356) + 24u, ADDRESS(c212) + 0u);
+    store_address(ADDRESS(c356) + 32u, ADDRESS(c213) + 0u);
+    store_address(ADDRESS(c359) + 0u, ADDRESS(c143) + 0u);
+    store_address(ADDRESS(c359) + 8u, ADDRESS(c145) + 0u);
+    store_address(ADDRESS(c359) + 16u, ADDRESS(c147) + 0u);
+    store_address(ADDRESS(c359) + 24u, ADDRESS(c149) + 0u);
+    store_address(ADDRESS(c359) + 32u, ADDRESS(c151) + 0u);
+    store_address(ADDRESS(c360) + 0u, ADDRESS(c310) + 0u);
+    store_address(ADDRESS(c360) + 8u, ADDRESS(c311) + 0u);
+    store_address(ADDRESS(c360) + 16u, ADDRESS(c312) + 0u);
+    store_address(ADDRESS(c360) + 24u, ADDRESS(c313) + 0u);
+    store_address(ADDRESS(c360) + 32u, ADDRESS(c314) + 0u);
+    store_address(ADDRESS(c360) + 40u, ADDRESS(c315) + 0u);
+    store_address(ADDRESS(c360) + 48u, ADDRESS(c316) + 0u);
+    store_address(ADDRESS(c360) + 56u, ADDRESS(c317) + 0u);
+    store_address(ADDRESS(c360) + 64u, ADDRESS(c318) + 0u);
+    store_address(ADDRESS(c366) + 0u, ADDRESS(c162) + 0u);
+    store_address(ADDRESS(c366) + 24u, ADDRESS(c156) + 0u);
+    store_address(ADDRESS(c366) + 32u, ADDRESS(c157) + 0u);
+    store_address(ADDRESS(c366) + 40u, ADDRESS(c158) + 0u);
+    store_address(ADDRESS(c366) + 48u, ADDRESS(c159) + 0u);
+    store_address(ADDRESS(c366) + 56u, ADDRESS(c160) + 0u);
+    store_address(ADDRESS(c366) + 64u, ADDRESS(c161) + 0u);
+    store_address(ADDRESS(c367) + 0u, ADDRESS(c173) + 0u);
+    store_address(ADDRESS(c367) + 8u, ADDRESS(c174) + 0u);
+    store_address(ADDRESS(c367) + 16u, ADDRESS(c175) + 0u);
+    store_address(ADDRESS(c367) + 24u, ADDRESS(c176) + 0u);
+    store_address(ADDRESS(c367) + 32u, ADDRESS(c177) + 0u);
+    store_address(ADDRESS(c371) + 0u, ADDRESS(c183) + 0u);
+    store_address(ADDRESS(c371) + 8u, ADDRESS(c184) + 0u);
+    store_address(ADDRESS(c371) + 16u, ADDRESS(c185) + 0u);
+    store_address(ADDRESS(c373) + 0u, ADDRESS(c335) + 0u);
+    store_address(ADDRESS(c373) + 8u, ADDRESS(c336) + 0u);
+    store_address(ADDRESS(c373) + 16u, ADDRESS(c337) + 0u);
+    store_address(ADDRESS(c373) + 24u, ADDRESS(c338) + 0u);
+    store_address(ADDRESS(c373) + 32u, ADDRESS(c339) + 0u);
+    store_address(ADDRESS(c373) + 40u, ADDRESS(c340) + 0u);
+    store_address(ADDRESS(c373) + 48u, ADDRESS(c341) + 0u);
+    store_address(ADDRESS(c373) + 56u, ADDRESS(c342) + 0u);
+    store_address(ADDRESS(c373) + 64u, ADDRESS(c343) + 0u);
+    store_address(ADDRESS(c373) + 72u, ADDRESS(c344) + 0u);
 }
 #endif
 
@@ -947,162 +959,167 @@ static void f5(address a0, u64 a1, u16 a2, u16 a3, address a4, u64 a5);
 static struct s1 f6(address a0, address a1, address a2);
 static void f7(address a0, address a1, address a2, u64 a3);
 static void f8(address a0, address a1, u64 a2);
-static void f9(address a0, address a1, u64 a2);
-static struct s2 f10(address a0, address a1, u64 a2);
-static void f11(address a0, address a1);
-static void f12(u8 a0, address a1);
+static struct s2 f9(address a0, address a1, u64 a2);
+static void f10(address a0, address a1);
+static void f11(u8 a0, address a1);
+static void f12(address a0);
 static void f13(address a0);
 static void f14(address a0);
 static void f15(address a0);
 static void f16(address a0);
 static void f17(address a0);
 static void f18(address a0);
-static void f19(address a0);
-static void f20(address a0, address a1, address a2, u64 a3, u16 a4, u8 a5);
-static void f21(address a0, address a1, u16 a2, address a3, u64 a4);
-static void f22(address a0, address a1);
-static void f23(address a0, address a1, u16 a2, address a3, u64 a4, address a5, u64 a6);
-static void f24(address a0, address a1, u16 a2, address a3, address a4, u64 a5);
-static void f25(address a0);
+static void f19(address a0, address a1, address a2, u64 a3, u16 a4, u8 a5);
+static void f20(address a0, address a1, u16 a2, address a3, u64 a4);
+static void f21(address a0, address a1);
+static void f22(address a0, address a1, u16 a2, address a3, u64 a4, address a5, u64 a6);
+static void f23(address a0, address a1, u16 a2, address a3, address a4, u64 a5);
+static void f24(address a0);
+static void f25(address a0, address a1, address a2, u64 a3);
 static void f26(address a0, address a1, address a2, u64 a3);
-static void f27(address a0, address a1, address a2, u64 a3);
-static void f28(address a0, address a1, u64 a2);
-static u64 f29(address a0, u64 a1, u64 a2);
-static void f30(address a0, address a1);
-static void f31(address a0, u64 a1);
-static void f32(address a0, address a1, address a2, u16 a3, address a4, address a5, u64 a6);
-static void f33(address a0, address a1, address a2);
-static void f34(address a0, address a1, u8 a2, address a3);
-static void f35(address a0, u16 a1, u16 a2, u16 a3, address a4);
-static u8 f36(address a0, address a1, u64 a2);
-static void f37(address a0, u8 a1, u8 a2, address a3);
-static void f38(address a0, u16 a1, address a2);
+static void f27(address a0, address a1, u64 a2);
+static u64 f28(address a0, u64 a1, u64 a2);
+static void f29(address a0, address a1);
+static void f30(address a0, u64 a1);
+static void f31(address a0, address a1, address a2, u16 a3, address a4, address a5, u64 a6);
+static void f32(address a0, address a1, address a2);
+static void f33(address a0, address a1, u8 a2, address a3);
+static void f34(address a0, u16 a1, u16 a2, u16 a3, address a4);
+static u8 f35(address a0, address a1, u64 a2);
+static void f36(address a0, u8 a1, u8 a2, address a3);
+static void f37(address a0, u16 a1, address a2);
+static void f38(address a0, u8 a1, address a2);
 static void f39(address a0, u8 a1, address a2);
-static void f40(address a0, u8 a1, address a2);
-static void f41(address a0, address a1, address a2, u8 a3, u8 a4, address a5);
-static void f42(address a0, address a1, address a2);
-static u8 f43(address a0, u64 a1);
-static u8 f44(address a0, u64 a1, address a2, u64 a3);
-static void f45(address a0, address a1, u16 a2, address a3, u64 a4, address a5, u64 a6);
+static void f40(address a0, address a1, address a2, u8 a3, u8 a4, address a5);
+static void f41(address a0, address a1, address a2);
+static u8 f42(address a0, u64 a1);
+static u8 f43(address a0, u64 a1, address a2, u64 a3);
+static void f44(address a0, address a1, u16 a2, address a3, u64 a4, address a5, u64 a6);
+static u8 f45(address a0, address a1);
 static u8 f46(address a0, address a1);
-static u8 f47(address a0, address a1);
-static struct s1 f48(address a0, address a1, u16 a2, address a3);
-static void f49(address a0, address a1, u16 a2, address a3, u8 a4, address a5);
-static void f50(address a0, u16 a1, address a2, u8 a3, address a4);
+static struct s1 f47(address a0, address a1, u16 a2, address a3);
+static void f48(address a0, address a1, u16 a2, address a3, u8 a4, address a5);
+static void f49(address a0, u16 a1, address a2, u8 a3, address a4);
+static void f50(address a0, address a1, u64 a2);
 static void f51(address a0, address a1, u64 a2);
 static void f52(address a0, address a1, u64 a2);
-static void f53(address a0, address a1, u64 a2);
-static void f54(address a0, address a1);
-static void f55(address a0, u64 a1, address a2, address a3, u16 a4, address a5);
-static void f56(address a0, u8 a1, u16 a2, address a3, address a4, address a5);
-static void f57(address a0, u16 a1, address a2, address a3);
-static void f58(address a0, address a1, address a2);
-static void f59(address a0, address a1, u16 a2, address a3, u64 a4, u8 a5, address a6, u64 a7);
-static u8 f60(address a0, address a1);
-static void f61(address a0, address a1, address a2);
-static void f62(address a0, u8 a1, address a2);
-static void f63(address a0, address a1, address a2, u8 a3, address a4);
-static void f64(address a0, address a1, u16 a2, address a3, u64 a4, address a5, u64 a6, address a7, u64 a8);
-static u8 f65(address a0);
-static u8 f66(address a0, address a1);
-static void f67(address a0, address a1, address a2, u64 a3);
-static void f68(address a0, address a1, u16 a2, address a3, address a4, u64 a5);
-static u64 f69(address a0, address a1, u64 a2);
-static void f70(address a0, address a1, u64 a2);
-static void f71(address a0, address a1, u8 a2, address a3);
-static void f72(address a0, u8 a1, address a2);
-static void f73(address a0, address a1, address a2, u8 a3, u8 a4, address a5);
-static void f74(address a0, address a1);
-static void f75(address a0, u64 a1, address a2, address a3, u16 a4, address a5);
-static void f76(address a0, address a1, address a2);
-static struct s2 f77(address a0, address a1, u64 a2);
-static struct s2 f78(address a0, address a1, u64 a2);
-static void f79(address a0, address a1);
-static void f80(address a0, address a1);
-static void f81(address a0, address a1);
-static u32 f82(address a0, u16 a1, address a2, u64 a3, address a4, u8 a5, address a6, u64 a7, address a8);
-static void f83(address a0, address a1, address a2, u64 a3);
-static u64 f84(u8 a0, u8 a1);
-static void f85(address a0, address a1, address a2, u64 a3, address a4);
-static struct s4 f86(u16 a0, address a1, u64 a2);
-static struct s1 f87(address a0, u64 a1);
-static void f88(address a0, u8 a1, u8 a2);
-static struct s1 f89(address a0, u64 a1);
-static struct s5 f90(address a0);
-static struct s5 f91(u8 a0, u8 a1);
-static u64 f92(u16 a0, address a1);
-static void f93(u8 a0, u8 a1, address a2);
-static struct s5 f94(u16 a0, address a1, u64 a2);
-static struct s5 f95(address a0, u64 a1);
-static void f96(address a0, u8 a1, u8 a2, address a3, u64 a4);
-static void f97(u64 a0, address a1);
-static struct s5 f98(address a0, u64 a1);
-static struct s4 f99(address a0, u64 a1);
-static struct s4 f100(address a0, u64 a1);
-static void f101(address a0, address a1, u64 a2);
-static u32 f102(address a0, u64 a1, address a2, u64 a3);
-static void f103(address a0, address a1, u64 a2);
-static void f104(address a0, address a1, address a2, address a3, u64 a4, address a5, u64 a6, address a7, u64 a8);
-static u8 f105(address a0, address a1);
-static u8 f106(address a0, address a1);
-static u8 f107(address a0);
-static u8 f108(address a0);
-static void f109(address a0, address a1, address a2, u64 a3);
-static void f110(address a0, address a1);
-static u8 f111(address a0, u64 a1, address a2);
-static void f112(address a0, address a1, u64 a2);
-static u8 f113(u64 a0, address a1, u64 a2, address a3, u64 a4, u64 a5);
-static void f114(address a0, u32 a1, address a2, u64 a3);
-static u64 f115(address a0, u64 a1, u64 a2);
-static void f116(address a0, u16 a1, address a2, u64 a3);
-static void f117(address a0, u64 a1, address a2);
-static void f118(u8 a0, address a1);
-static u8 f119(address a0, address a1, u64 a2);
-static u8 f120(address a0, u64 a1);
-static u8 f121(address a0, address a1, u64 a2);
-static void f122(u64 a0, address a1);
-static void f123(address a0, u64 a1);
-static void f124(address a0, u64 a1);
-static void f125(address a0, address a1, u64 a2);
-static void f126(address a0, u16 a1, u8 a2);
-static void f127(address a0, u64 a1, u8 a2, u16 a3, address a4, u64 a5);
-static void f128(address a0, u64 a1, u16 a2, u8 a3);
-static u8 f129(address a0);
-static u8 f130(address a0);
-static u8 f131(address a0, u64 a1);
-static void f132(address a0, address a1, u64 a2, address a3, address a4, u16 a5, u16 a6);
-static struct s1 f133(address a0, u64 a1);
-static void f134(address a0, address a1, u64 a2, address a3, u64 a4, address a5, u64 a6);
-static void f135(address a0, address a1, u64 a2, address a3, u64 a4, address a5, u64 a6);
-static struct s1 f136(address a0, u64 a1, address a2);
-static struct s1 f137(address a0, u64 a1, address a2);
-static struct s1 f138(address a0, address a1, u64 a2);
-static void f139(address a0, address a1, address a2, u64 a3);
-static u8 f140(address a0, address a1, address a2, u64 a3);
-static struct s1 f141(address a0, address a1, address a2, u64 a3);
-static void f142(address a0, address a1, address a2, u64 a3);
-static u8 f143(address a0, address a1, u64 a2);
-static struct s1 f144(address a0, u16 a1);
-static u8 f145(address a0, address a1);
-static void f146(address a0, address a1, u64 a2, address a3);
-static u8 f147(u8 a0, u8 a1, address a2, u64 a3);
-static void f148(address a0, address a1, u16 a2, address a3, u64 a4);
-static struct s3 f149(address a0, address a1);
-static struct s1 f150(address a0, u64 a1, address a2);
-static u8 f151(address a0, address a1, address a2);
-static void f152(address a0, address a1, address a2, u64 a3, address a4, u64 a5);
-static u8 f153(address a0);
-static u8 f154(address a0);
-static u8 f155(address a0);
-static u32 f156(address a0, address a1);
-static void f157(address a0, address a1, address a2, address a3, u64 a4);
-static void f158(address a0, address a1);
-static void f159(address a0, address a1, address a2, address a3, u64 a4);
-static void f160(address a0, address a1, address a2, address a3);
-static void f161(address a0, address a1, address a2, address a3, u64 a4);
-static void f162(address a0, address a1, u8 a2, u16 a3, u16 a4, address a5, u64 a6);
-static void f163(address a0, address a1, u16 a2, address a3, u64 a4);
-static void f164(address a0, address a1, u16 a2, address a3, u64 a4);
+static void f53(address a0, address a1);
+static void f54(address a0, u64 a1, address a2, address a3, u16 a4, address a5);
+static void f55(address a0, u8 a1, u16 a2, address a3, address a4, address a5);
+static void f56(address a0, u16 a1, address a2, address a3);
+static void f57(address a0, address a1, address a2);
+static u8 f58(address a0, address a1, u64 a2, address a3);
+static void f59(address a0, address a1, u64 a2, address a3);
+static struct s1 f60(address a0, address a1);
+static void f61(address a0, address a1, u8 a2, u8 a3, address a4);
+static void f62(address a0, address a1, u16 a2, address a3, address a4, u64 a5);
+static u64 f63(address a0, address a1, u64 a2);
+static void f64(address a0, address a1, u16 a2, address a3, u64 a4, u8 a5, address a6, u64 a7);
+static u8 f65(address a0, address a1, u64 a2, address a3);
+static void f66(address a0, address a1, address a2);
+static void f67(address a0, u8 a1, address a2);
+static void f68(address a0, address a1, address a2, u8 a3, address a4);
+static void f69(address a0, address a1, u16 a2, address a3, u64 a4, address a5, u64 a6, address a7, u64 a8);
+static u8 f70(address a0);
+static u8 f71(address a0, address a1);
+static void f72(address a0, address a1, address a2, u64 a3);
+static void f73(address a0, address a1, u64 a2);
+static void f74(address a0, address a1, u8 a2, address a3);
+static void f75(address a0, u8 a1, address a2);
+static void f76(address a0, address a1, address a2, u8 a3, u8 a4, address a5);
+static void f77(address a0, address a1);
+static void f78(address a0, u64 a1, address a2, address a3, u16 a4, address a5);
+static void f79(address a0, address a1, address a2);
+static struct s2 f80(address a0, address a1, u64 a2);
+static struct s2 f81(address a0, address a1, u64 a2);
+static void f82(address a0, address a1);
+static void f83(address a0, address a1);
+static void f84(address a0, address a1);
+static u32 f85(address a0, u16 a1, address a2, u64 a3, address a4, u8 a5, address a6, u64 a7, address a8);
+static u8 f86(address a0, address a1, u64 a2);
+static void f87(address a0, address a1, address a2, u64 a3, address a4, u64 a5);
+static u64 f88(u8 a0, u8 a1);
+static void f89(address a0, address a1, address a2, u64 a3, address a4);
+static struct s4 f90(u16 a0, address a1, u64 a2);
+static struct s1 f91(address a0, u64 a1);
+static void f92(address a0, u8 a1, u8 a2);
+static struct s1 f93(address a0, u64 a1);
+static struct s5 f94(address a0);
+static struct s5 f95(u8 a0, u8 a1);
+static u64 f96(u16 a0, address a1);
+static void f97(u8 a0, u8 a1, address a2);
+static struct s5 f98(u16 a0, address a1, u64 a2);
+static struct s5 f99(address a0, u64 a1);
+static void f100(address a0, u8 a1, u8 a2, address a3, u64 a4);
+static void f101(u64 a0, address a1);
+static struct s5 f102(address a0, u64 a1);
+static struct s4 f103(address a0, u64 a1);
+static struct s4 f104(address a0, u64 a1);
+static void f105(address a0, address a1, u64 a2);
+static u32 f106(address a0, u64 a1, address a2, u64 a3);
+static void f107(address a0, address a1, u64 a2);
+static void f108(address a0, address a1, address a2, address a3, u64 a4, address a5, u64 a6, address a7, u64 a8);
+static u8 f109(address a0, address a1);
+static u8 f110(address a0, address a1);
+static u8 f111(address a0);
+static u8 f112(address a0);
+static void f113(address a0, address a1, address a2, u64 a3);
+static void f114(address a0, address a1);
+static u8 f115(address a0, u64 a1, address a2);
+static void f116(address a0, address a1, u64 a2);
+static void f117(address a0, address a1, u64 a2);
+static u8 f118(u64 a0, address a1, u64 a2, address a3, u64 a4, u64 a5);
+static void f119(address a0, u32 a1, address a2, u64 a3);
+static u64 f120(address a0, u64 a1, u64 a2);
+static void f121(address a0, u16 a1, address a2, u64 a3);
+static void f122(address a0, u64 a1, address a2);
+static void f123(u8 a0, address a1);
+static u8 f124(address a0, address a1, u64 a2);
+static u8 f125(address a0, u64 a1);
+static u8 f126(address a0, address a1, u64 a2);
+static void f127(u64 a0, address a1);
+static void f128(address a0, u64 a1);
+static void f129(address a0, u64 a1);
+static void f130(address a0, address a1, u64 a2);
+static void f131(address a0, u16 a1, u8 a2);
+static void f132(address a0, u64 a1, u8 a2, u16 a3, address a4, u64 a5);
+static void f133(address a0, u64 a1, u16 a2, u8 a3);
+static u8 f134(address a0);
+static u8 f135(address a0);
+static u8 f136(address a0, u64 a1);
+static void f137(address a0, address a1, u64 a2, address a3, address a4, u16 a5, u16 a6);
+static struct s1 f138(address a0, u64 a1);
+static void f139(address a0, address a1, u64 a2, address a3, u64 a4, address a5, u64 a6);
+static void f140(address a0, address a1, u64 a2, address a3, u64 a4, address a5, u64 a6);
+static struct s1 f141(address a0, u64 a1, address a2);
+static struct s1 f142(address a0, u64 a1, address a2);
+static struct s1 f143(address a0, address a1, u64 a2);
+static void f144(address a0, address a1, address a2, u64 a3);
+static u8 f145(address a0, address a1, address a2, u64 a3);
+static struct s1 f146(address a0, address a1, address a2, u64 a3);
+static void f147(address a0, address a1, address a2, u64 a3);
+static u8 f148(address a0, address a1, u64 a2);
+static struct s1 f149(address a0, u16 a1);
+static u8 f150(address a0, address a1);
+static void f151(address a0, address a1, u64 a2, address a3);
+static u8 f152(u8 a0, u8 a1, address a2, u64 a3);
+static void f153(address a0, address a1, u16 a2, address a3, u64 a4);
+static struct s3 f154(address a0, address a1);
+static struct s1 f155(address a0, u64 a1, address a2);
+static u8 f156(address a0, address a1, address a2);
+static void f157(address a0, address a1, address a2, u64 a3, address a4, u64 a5);
+static u8 f158(address a0);
+static u8 f159(address a0);
+static u8 f160(address a0);
+static u32 f161(address a0, address a1);
+static void f162(address a0, address a1, address a2, address a3, u64 a4);
+static void f163(address a0, address a1);
+static void f164(address a0, address a1, address a2, address a3, u64 a4);
+static void f165(address a0, address a1, address a2, address a3);
+static void f166(address a0, address a1, address a2, address a3, u64 a4);
+static void f167(address a0, address a1, u8 a2, u16 a3, u16 a4, address a5, u64 a6);
+static void f168(address a0, address a1, u16 a2, address a3, u64 a4);
+static void f169(address a0, address a1, u16 a2, address a3, u64 a4);
 u64 portable_ptpm_answer_name(u32 a0, address a1, u64 a2);
 u32 portable_ptpm_asker_ask(address a0, u64 a1, u64 a2, u8 a3, u16 a4, u16 a5, address a6, u64 a7, u8 a8, address a9);
 u32 portable_ptpm_asker_earlier(address a0, u8 a1, address a2);
@@ -1191,6 +1208,7 @@ u32 portable_ptpm_session_restore(address a0, address a1, address a2, u64 a3);
 u32 portable_ptpm_session_start(address a0, address a1);
 u32 portable_ptpm_survey_start(address a0, address a1);
 u32 portable_ptpm_survey_start_at(address a0, address a1, address a2);
+u32 portable_ptpm_clock_relay(address a0, address a1, u64 a2);
 u32 portable_ptpm_clock_observe(address a0, address a1, address a2, u64 a3, address a4);
 u32 portable_ptpm_clock_read(address a0, u16 a1, u16 a2, address a3, u64 a4, address a5);
 u64 portable_ptpm_clock_transit(address a0, u16 a1, address a2, u64 a3, address a4, u64 a5);
@@ -1884,16 +1902,16 @@ L2:;
 L3:;
     v12 = a0 + v2 * 1u;
     v13 = (u64)v12;
-    v14 = (u64)((u64)v13 - (u64)(ADDRESS(c146) + 8u * 1u));
+    v14 = (u64)((u64)v13 - (u64)(ADDRESS(c152) + 8u * 1u));
     v15 = v14 < v9;
     if (v15) { v3 = 0u; goto L5; }
     else { goto L4; }
 L4:;
-    memory_cpy(v12, (ADDRESS(c146) + 8u * 1u), v9);
+    memory_cpy(v12, (ADDRESS(c152) + 8u * 1u), v9);
     goto L6;
 L5:;
     v16 = v12 + v3 * 1u;
-    v17 = (ADDRESS(c146) + 8u * 1u) + v3 * 1u;
+    v17 = (ADDRESS(c152) + 8u * 1u) + v3 * 1u;
     v18 = load8(v17);
     store8(v16, v18);
     v19 = (u64)((u64)v3 + (u64)1u);
@@ -1920,7 +1938,7 @@ static void f5(address a0, u64 a1, u16 a2, u16 a3, address a4, u64 a5) {
     v12 = (u64)((u64)v11 + (u64)v10);
     v13 = (u16)(v12);
     v14 = (u64)a0;
-    v15 = (u64)((u64)v14 - (u64)ADDRESS(c147));
+    v15 = (u64)((u64)v14 - (u64)ADDRESS(c153));
     v16 = v15 < 12u;
     if (v16) { goto L1; }
     else { goto L2; }
@@ -1932,7 +1950,7 @@ L1:;
     store32(v18, 0u);
     goto L3;
 L2:;
-    memory_cpy(a0, ADDRESS(c147), 12u);
+    memory_cpy(a0, ADDRESS(c153), 12u);
     goto L3;
 L3:;
     v19 = (u16)((u32)v13 + (u32)8u);
@@ -2142,605 +2160,556 @@ L15:;
 }
 
 static void f7(address a0, address a1, address a2, u64 a3) {
-    u8 v4, v12, v15, v16, v22, v24, v25, v26, v28, v29, v30, v32, v34, v35, v37, v39;
-    u8 v46, v50, v54, v56, v63, v65, v66, v69, v70, v71, v74, v76, v78, v90, v92, v96;
-    u8 v98, v103, v104, v105, v108, v110, v126, v130, v133, v134, v137, v138, v142, v147, v150, v152;
-    u8 v154, v159, v160, v161;
-    address v5, v6, v9, v13, v14, v17, v18, v19, v21, v23, v27, v31, v33, v36, v38, v44;
-    address v47, v51, v53, v55, v61, v64, v67, v72, v75, v77, v83, v85, v91, v95, v97, v106;
-    address v109, v111, v112, v113, v114, v115, v116, v117, v118, v119, v120, v121, v122, v123, v124, v125;
-    address v129, v135, v144, v148, v149, v155, v156, v157, v162, v163, v164, v165, v166, v167, v168, v170;
-    address v171, v172, v173, v174, v175, v176, v177, v178, v179;
-    u64 v7, v8, v10, v20, v48, v49, v52, v62, v84, v93, v94, v136, v141, v143, v145, v146;
-    u64 v151, v158, v169;
-    u16 v11, v40, v41, v42, v43, v45, v57, v58, v59, v60, v68, v73, v79, v80, v81, v82;
-    u16 v86, v87, v88, v89, v99, v100, v101, v102, v107, v127, v128, v131, v132, v153;
-    struct pair v139, v140;
+    u8 v4, v5, v6, v7, v8, v9, v17, v20, v21, v22, v23, v25, v26, v27, v29, v31;
+    u8 v37, v39, v40, v42, v44, v49, v51, v52, v54, v58, v62, v64, v65, v66, v67, v68;
+    u8 v70, v71, v73, v75, v77, v78, v83, v85, v86, v87, v89, v91, v92, v94, v96, v103;
+    u8 v107, v111, v113, v120, v122, v123, v126, v127, v128, v131, v133, v135, v147, v149, v153, v155;
+    u8 v160, v161, v162, v165, v181, v185, v188, v189, v192, v193, v197, v202, v205, v207, v209, v214;
+    u8 v215, v216;
+    address v10, v11, v14, v18, v19, v24, v28, v30, v41, v43, v50, v53, v57, v69, v72, v74;
+    address v76, v84, v88, v90, v93, v95, v101, v104, v108, v110, v112, v118, v121, v124, v129, v132;
+    address v134, v140, v142, v148, v152, v154, v163, v166, v167, v168, v169, v170, v171, v172, v173, v174;
+    address v175, v176, v177, v178, v179, v180, v184, v190, v199, v203, v204, v210, v211, v212, v217, v218;
+    address v219, v220, v221, v222, v223, v225, v226, v227, v228, v229, v230, v231, v232, v233, v234;
+    u64 v12, v13, v15, v36, v55, v56, v59, v60, v61, v63, v79, v80, v81, v82, v105, v106;
+    u64 v109, v119, v141, v150, v151, v191, v196, v198, v200, v201, v206, v213, v224;
+    u16 v16, v32, v33, v34, v35, v38, v45, v46, v47, v48, v97, v98, v99, v100, v102, v114;
+    u16 v115, v116, v117, v125, v130, v136, v137, v138, v139, v143, v144, v145, v146, v156, v157, v158;
+    u16 v159, v164, v182, v183, v186, v187, v208;
+    struct pair v194, v195;
     u64 block0[1];
-    u64 block1[4];
-    v13 = ADDRESS(block0);
-    v14 = ADDRESS(block1);
-    memory_set(v14, 0u, 32u);
-    f8(v14, a2, a3);
-    v15 = load8(v14);
-    v16 = v15 == 0u;
-    if (v16) { goto L1; }
-    else { goto L19; }
+    u64 block1[1];
+    v18 = ADDRESS(block0);
+    v19 = ADDRESS(block1);
+    memory_set(v19, 0u, 3u);
+    v20 = a3 < 54u;
+    if (v20) { goto L6; }
+    else { goto L1; }
 L1:;
-    v17 = v14 + 8u * 1u;
-    v18 = load_address(v17);
-    v19 = v14 + 16u * 1u;
-    v20 = load64(v19);
-    v21 = v14 + 24u * 1u;
-    v22 = load8(v21);
-    v23 = v14 + 25u * 1u;
-    v24 = load8(v23);
-    v25 = load8(v18);
-    v26 = (u8)((u32)v25 >> (4u & 7u));
-    v27 = v18 + 5u * 1u;
-    v28 = load8(v27);
-    v29 = (u8)((u32)v26 | (u32)v28);
-    v30 = v29 == 0u;
-    if (v30) { goto L2; }
-    else { v4 = 1u; goto L20; }
+    v21 = load8(a2);
+    v22 = (u8)((u32)v21 & (u32)15u);
+    v23 = v22 == 13u;
+    if (v23) { goto L2; }
+    else { goto L6; }
 L2:;
-    v31 = a1 + 24u * 1u;
-    v32 = load8(v31);
-    v33 = v18 + 4u * 1u;
-    v34 = load8(v33);
-    v35 = v34 == v32;
-    if (v35) { goto L3; }
-    else { v4 = 1u; goto L20; }
+    v24 = a2 + 1u * 1u;
+    v25 = load8(v24);
+    v26 = (u8)((u32)v25 & (u32)15u);
+    v27 = v26 == 2u;
+    if (v27) { goto L3; }
+    else { goto L6; }
 L3:;
-    switch (v22) {
-    case 2u: goto L5;
-    case 4u: goto L5;
-    case 0u: v4 = 2u; goto L20;
-    case 1u: v4 = 2u; goto L20;
-    case 3u: v4 = 2u; goto L20;
-    default: goto L4;
-    }
+    v28 = a2 + 2u * 1u;
+    v29 = load8(v28);
+    v30 = a2 + 3u * 1u;
+    v31 = load8(v30);
+    v32 = (u16)v29;
+    v33 = (u16)((u32)v32 << (8u & 15u));
+    v34 = (u16)v31;
+    v35 = (u16)((u32)v33 | (u32)v34);
+    v36 = (u64)v35;
+    v37 = a3 < v36;
+    v38 = (u16)((u32)v35 + (u32)64063u);
+    v39 = v38 < 64117u;
+    v40 = (u8)(((u32)v39 | (u32)v37) & UINT64_C(1));
+    if (v40) { goto L6; }
+    else { goto L4; }
 L4:;
-    UNREACHABLE;
+    v41 = a2 + 48u * 1u;
+    v42 = load8(v41);
+    v43 = a2 + 49u * 1u;
+    v44 = load8(v43);
+    v45 = (u16)v42;
+    v46 = (u16)((u32)v45 << (8u & 15u));
+    v47 = (u16)v44;
+    v48 = (u16)((u32)v46 | (u32)v47);
+    v49 = v48 == 1u;
+    if (v49) { goto L5; }
+    else { goto L6; }
 L5:;
-    v36 = v18 + 42u * 1u;
-    v37 = load8(v36);
-    v38 = v18 + 43u * 1u;
-    v39 = load8(v38);
-    v40 = (u16)v37;
-    v41 = (u16)((u32)v40 << (8u & 15u));
-    v42 = (u16)v39;
-    v43 = (u16)((u32)v41 | (u32)v42);
-    v44 = a1 + 8u * 1u;
-    v45 = load16(v44);
-    v46 = v43 == v45;
-    if (v46) { goto L6; }
-    else { v4 = 3u; goto L20; }
-L6:;
-    v47 = v18 + 34u * 1u;
-    v48 = load64(v47);
-    v49 = load64(a1);
-    v50 = v48 == v49;
-    if (v50) { goto L7; }
-    else { v4 = 3u; goto L20; }
-L7:;
-    v51 = v18 + 20u * 1u;
-    v52 = load64(v51);
-    v53 = v18 + 28u * 1u;
+    v50 = a2 + 46u * 1u;
+    v51 = load8(v50);
+    v52 = (u8)((u32)v51 & (u32)15u);
+    v53 = a2 + 50u * 1u;
     v54 = load8(v53);
-    v55 = v18 + 29u * 1u;
-    v56 = load8(v55);
-    v57 = (u16)v54;
-    v58 = (u16)((u32)v57 << (8u & 15u));
-    v59 = (u16)v56;
-    v60 = (u16)((u32)v58 | (u32)v59);
-    v61 = a1 + 10u * 1u;
-    v62 = load64(v61);
-    v63 = v52 == v62;
-    if (v63) { goto L8; }
-    else { v4 = 4u; goto L20; }
+    v55 = (u64)v54;
+    v56 = (u64)((u64)v55 << (8u & 63u));
+    v57 = a2 + 51u * 1u;
+    v58 = load8(v57);
+    v59 = (u64)v58;
+    v60 = (u64)((u64)v56 | (u64)v59);
+    v61 = (u64)((u64)v60 + (u64)52u);
+    v62 = v61 == v36;
+    v63 = (u64)((u64)v36 & (u64)1u);
+    v64 = v63 == 0u;
+    v65 = (u8)(((u32)v64 & (u32)v62) & UINT64_C(1));
+    v66 = v52 < 5u;
+    v67 = v65 ? v66 : 0u;
+    if (v67) { v4 = v21; v5 = v31; v6 = v29; v7 = v52; v8 = 0u; goto L8; }
+    else { goto L6; }
+L6:;
+    f8(v19, a2, a3);
+    v68 = load8(v19);
+    v69 = v19 + 1u * 1u;
+    v70 = load8(v69);
+    v71 = v68 == 0u;
+    if (v71) { goto L7; }
+    else { goto L26; }
+L7:;
+    v72 = v19 + 2u * 1u;
+    v73 = load8(v72);
+    v74 = a2 + 2u * 1u;
+    v75 = load8(v74);
+    v76 = a2 + 3u * 1u;
+    v77 = load8(v76);
+    v78 = load8(a2);
+    v4 = v78; v5 = v77; v6 = v75; v7 = v70; v8 = v73; goto L8;
 L8:;
-    v64 = a1 + 48u * 1u;
-    v65 = load8(v64);
-    v66 = v65 == 0u;
-    if (v66) { v4 = 5u; goto L20; }
-    else { goto L9; }
+    v79 = (u64)v6;
+    v80 = (u64)((u64)v79 << (8u & 63u));
+    v81 = (u64)v5;
+    v82 = (u64)((u64)v80 | (u64)v81);
+    v83 = (u8)((u32)v4 >> (4u & 7u));
+    v84 = a2 + 5u * 1u;
+    v85 = load8(v84);
+    v86 = (u8)((u32)v83 | (u32)v85);
+    v87 = v86 == 0u;
+    if (v87) { goto L9; }
+    else { v9 = 1u; goto L27; }
 L9:;
-    v67 = a1 + 60u * 1u;
-    v68 = load16(v67);
-    v69 = v68 == 65535u;
-    v70 = v68 == v60;
-    v71 = (u8)(((u32)v69 | (u32)v70) & UINT64_C(1));
-    if (v71) { goto L11; }
-    else { goto L10; }
+    v88 = a1 + 24u * 1u;
+    v89 = load8(v88);
+    v90 = a2 + 4u * 1u;
+    v91 = load8(v90);
+    v92 = v91 == v89;
+    if (v92) { goto L10; }
+    else { v9 = 1u; goto L27; }
 L10:;
-    v72 = a1 + 58u * 1u;
-    v73 = load16(v72);
-    switch (v73) {
-    case 0u: v4 = 4u; goto L20;
-    case 24577u: v4 = 4u; goto L20;
-    case 24576u: v4 = 4u; goto L20;
-    case 8206u: v4 = 4u; goto L20;
-    case 8205u: v4 = 4u; goto L20;
-    case 8204u: v4 = 4u; goto L20;
-    case 8196u: v4 = 4u; goto L20;
-    case 8203u: v4 = 4u; goto L20;
-    case 8202u: v4 = 4u; goto L20;
-    case 8201u: v4 = 4u; goto L20;
+    switch (v7) {
+    case 2u: goto L12;
+    case 4u: goto L12;
+    case 0u: v9 = 2u; goto L27;
+    case 1u: v9 = 2u; goto L27;
+    case 3u: v9 = 2u; goto L27;
     default: goto L11;
     }
 L11:;
-    v74 = v65 == 1u;
-    if (v74) { goto L12; }
-    else { v4 = 5u; goto L20; }
-L12:;
-    v75 = v18 + 30u * 1u;
-    v76 = load8(v75);
-    v77 = v18 + 31u * 1u;
-    v78 = load8(v77);
-    v79 = (u16)v76;
-    v80 = (u16)((u32)v79 << (8u & 15u));
-    v81 = (u16)v78;
-    v82 = (u16)((u32)v80 | (u32)v81);
-    v83 = a1 + 32u * 1u;
-    v84 = load64(v83);
-    v85 = a1 + 20u * 1u;
-    v86 = load16(v85);
-    v87 = (u16)(v84);
-    v88 = (u16)((u32)v87 + (u32)65535u);
-    v89 = (u16)((u32)v88 + (u32)v86);
-    v90 = v82 == v89;
-    if (v90) { goto L13; }
-    else { v4 = 6u; goto L20; }
-L13:;
-    v91 = a1 + 56u * 1u;
-    v92 = v24 == 0u;
-    v93 = v92 ? 52u : 54u;
-    v94 = v92 ? 53u : 55u;
-    v95 = v18 + v93 * 1u;
-    v96 = load8(v95);
-    v97 = v18 + v94 * 1u;
-    v98 = load8(v97);
-    v99 = (u16)v96;
-    v100 = (u16)((u32)v99 << (8u & 15u));
-    v101 = (u16)v98;
-    v102 = (u16)((u32)v100 | (u32)v101);
-    v103 = load8(v91);
-    switch (v103) {
-    case 0u: goto L14;
-    case 1u: goto L14;
-    case 3u: goto L16;
-    case 2u: v4 = 7u; goto L20;
-    case 4u: v4 = 7u; goto L20;
-    default: goto L15;
-    }
-L14:;
-    v104 = v22 == 2u;
-    if (v104) { goto L17; }
-    else { v4 = 7u; goto L20; }
-L15:;
     UNREACHABLE;
+L12:;
+    v93 = a2 + 42u * 1u;
+    v94 = load8(v93);
+    v95 = a2 + 43u * 1u;
+    v96 = load8(v95);
+    v97 = (u16)v94;
+    v98 = (u16)((u32)v97 << (8u & 15u));
+    v99 = (u16)v96;
+    v100 = (u16)((u32)v98 | (u32)v99);
+    v101 = a1 + 8u * 1u;
+    v102 = load16(v101);
+    v103 = v100 == v102;
+    if (v103) { goto L13; }
+    else { v9 = 3u; goto L27; }
+L13:;
+    v104 = a2 + 34u * 1u;
+    v105 = load64(v104);
+    v106 = load64(a1);
+    v107 = v105 == v106;
+    if (v107) { goto L14; }
+    else { v9 = 3u; goto L27; }
+L14:;
+    v108 = a2 + 20u * 1u;
+    v109 = load64(v108);
+    v110 = a2 + 28u * 1u;
+    v111 = load8(v110);
+    v112 = a2 + 29u * 1u;
+    v113 = load8(v112);
+    v114 = (u16)v111;
+    v115 = (u16)((u32)v114 << (8u & 15u));
+    v116 = (u16)v113;
+    v117 = (u16)((u32)v115 | (u32)v116);
+    v118 = a1 + 10u * 1u;
+    v119 = load64(v118);
+    v120 = v109 == v119;
+    if (v120) { goto L15; }
+    else { v9 = 4u; goto L27; }
+L15:;
+    v121 = a1 + 48u * 1u;
+    v122 = load8(v121);
+    v123 = v122 == 0u;
+    if (v123) { v9 = 5u; goto L27; }
+    else { goto L16; }
 L16:;
-    v105 = v22 == 4u;
-    if (v105) { goto L17; }
-    else { v4 = 7u; goto L20; }
+    v124 = a1 + 60u * 1u;
+    v125 = load16(v124);
+    v126 = v125 == 65535u;
+    v127 = v125 == v117;
+    v128 = (u8)(((u32)v126 | (u32)v127) & UINT64_C(1));
+    if (v128) { goto L18; }
+    else { goto L17; }
 L17:;
-    v106 = a1 + 58u * 1u;
-    v107 = load16(v106);
-    v108 = v107 == v102;
-    if (v108) { goto L21; }
-    else { v4 = 7u; goto L20; }
-L18:;
-    return;
-L19:;
-    v109 = v14 + 1u * 1u;
-    v110 = load8(v109);
-    store8(a0, 0u);
-    v111 = a0 + 8u * 1u;
-    store8(v111, 1u);
-    v112 = a0 + 9u * 1u;
-    store8(v112, 0u);
-    v113 = a0 + 10u * 1u;
-    store8(v113, v110);
-    v114 = a0 + 16u * 1u;
-    store64(v114, 0u);
-    v115 = a0 + 24u * 1u;
-    store16(v115, 0u);
-    v116 = a0 + 26u * 1u;
-    store16(v116, 0u);
-    v117 = a0 + 32u * 1u;
-    memory_set(v117, 0u, 24u);
-    goto L18;
-L20:;
-    store8(a0, 0u);
-    v118 = a0 + 8u * 1u;
-    store8(v118, 1u);
-    v119 = a0 + 9u * 1u;
-    store8(v119, v4);
-    v120 = a0 + 10u * 1u;
-    store8(v120, 0u);
-    v121 = a0 + 16u * 1u;
-    store64(v121, 0u);
-    v122 = a0 + 24u * 1u;
-    store16(v122, 0u);
-    v123 = a0 + 26u * 1u;
-    store16(v123, 0u);
-    v124 = a0 + 32u * 1u;
-    memory_set(v124, 0u, 24u);
-    goto L18;
-L21:;
-    switch (v24) {
-    case 0u: goto L23;
-    case 1u: goto L22;
-    default: goto L24;
+    v129 = a1 + 58u * 1u;
+    v130 = load16(v129);
+    switch (v130) {
+    case 0u: v9 = 4u; goto L27;
+    case 24577u: v9 = 4u; goto L27;
+    case 24576u: v9 = 4u; goto L27;
+    case 8206u: v9 = 4u; goto L27;
+    case 8205u: v9 = 4u; goto L27;
+    case 8204u: v9 = 4u; goto L27;
+    case 8196u: v9 = 4u; goto L27;
+    case 8203u: v9 = 4u; goto L27;
+    case 8202u: v9 = 4u; goto L27;
+    case 8201u: v9 = 4u; goto L27;
+    default: goto L18;
     }
+L18:;
+    v131 = v122 == 1u;
+    if (v131) { goto L19; }
+    else { v9 = 5u; goto L27; }
+L19:;
+    v132 = a2 + 30u * 1u;
+    v133 = load8(v132);
+    v134 = a2 + 31u * 1u;
+    v135 = load8(v134);
+    v136 = (u16)v133;
+    v137 = (u16)((u32)v136 << (8u & 15u));
+    v138 = (u16)v135;
+    v139 = (u16)((u32)v137 | (u32)v138);
+    v140 = a1 + 32u * 1u;
+    v141 = load64(v140);
+    v142 = a1 + 20u * 1u;
+    v143 = load16(v142);
+    v144 = (u16)(v141);
+    v145 = (u16)((u32)v144 + (u32)65535u);
+    v146 = (u16)((u32)v145 + (u32)v143);
+    v147 = v139 == v146;
+    if (v147) { goto L20; }
+    else { v9 = 6u; goto L27; }
+L20:;
+    v148 = a1 + 56u * 1u;
+    v149 = v8 == 0u;
+    v150 = v149 ? 52u : 54u;
+    v151 = v149 ? 53u : 55u;
+    v152 = a2 + v150 * 1u;
+    v153 = load8(v152);
+    v154 = a2 + v151 * 1u;
+    v155 = load8(v154);
+    v156 = (u16)v153;
+    v157 = (u16)((u32)v156 << (8u & 15u));
+    v158 = (u16)v155;
+    v159 = (u16)((u32)v157 | (u32)v158);
+    v160 = load8(v148);
+    switch (v160) {
+    case 0u: goto L21;
+    case 1u: goto L21;
+    case 3u: goto L23;
+    case 2u: v9 = 7u; goto L27;
+    case 4u: v9 = 7u; goto L27;
+    default: goto L22;
+    }
+L21:;
+    v161 = v7 == 2u;
+    if (v161) { goto L24; }
+    else { v9 = 7u; goto L27; }
 L22:;
-    v125 = v18 + 52u * 1u;
-    v126 = load8(v125);
-    v127 = (u16)v126;
-    v128 = (u16)((u32)v127 << (8u & 15u));
-    v129 = v18 + 53u * 1u;
-    v130 = load8(v129);
-    v131 = (u16)v130;
-    v132 = (u16)((u32)v128 | (u32)v131);
-    v9 = 0u; v10 = 0u; v11 = v132; v12 = 2u; goto L31;
+    UNREACHABLE;
 L23:;
-    v133 = v22 == 4u;
-    if (v133) { v9 = 0u; v10 = 0u; v11 = 0u; v12 = 1u; goto L31; }
-    else { goto L25; }
+    v162 = v7 == 4u;
+    if (v162) { goto L24; }
+    else { v9 = 7u; goto L27; }
 L24:;
-    v134 = v22 == 4u;
-    if (v134) { v9 = 0u; v10 = 0u; v11 = 0u; v12 = 1u; goto L31; }
-    else { v5 = v13; v6 = ADDRESS(c148); v7 = 0u; goto L29; }
+    v163 = a1 + 58u * 1u;
+    v164 = load16(v163);
+    v165 = v164 == v159;
+    if (v165) { goto L28; }
+    else { v9 = 7u; goto L27; }
 L25:;
-    v135 = v18 + 54u * 1u;
-    v136 = (u64)((u64)v20 + (u64)UINT64_C(18446744073709551562));
-    v137 = v136 == 0u;
-    if (v137) { v5 = v13; v6 = v135; v7 = 0u; goto L29; }
-    else { goto L26; }
+    return;
 L26:;
-    v138 = (i64)v136 > (i64)UINT64_C(18446744073709551615);
-    if (v138) { goto L27; }
-    else { goto L32; }
-L27:;
-    v139 = portable_rattle_alloc(v136, 1u);
-    v140 = v139;
-    v141 = v140.m0;
-    v142 = (u8)((v141) & UINT64_C(1));
-    if (v142) { goto L28; }
-    else { goto L32; }
-L28:;
-    v143 = v140.m1;
-    v144 = (address)v143;
-    v145 = (u64)v135;
-    v146 = (u64)((u64)v143 - (u64)v145);
-    v147 = v146 < v136;
-    if (v147) { v8 = 0u; goto L30; }
-    else { v5 = v144; v6 = v135; v7 = v136; goto L29; }
-L29:;
-    memory_move(v5, v6, v7);
-    v9 = v5; v10 = v7; v11 = 0u; v12 = 0u; goto L31;
-L30:;
-    v148 = v144 + v8 * 1u;
-    v149 = v135 + v8 * 1u;
-    v150 = load8(v149);
-    store8(v148, v150);
-    v151 = (u64)((u64)v8 + (u64)1u);
-    v152 = v151 == v136;
-    if (v152) { v9 = v144; v10 = v136; v11 = 0u; v12 = 0u; goto L31; }
-    else { v8 = v151; goto L30; }
-L31:;
-    v153 = (u16)v12;
-    v154 = load8(v64);
-    v155 = a1 + 64u * 1u;
-    v156 = load_address(v155);
-    v157 = a1 + 80u * 1u;
-    v158 = load64(v157);
-    v159 = v154 != 1u;
-    v160 = v158 == 0u;
-    v161 = v159 ? 1u : v160;
-    memory_set(v64, 0u, 40u);
-    if (v161) { goto L34; }
-    else { goto L33; }
-L32:;
-    store8(a0, 1u);
-    v162 = a0 + 8u * 1u;
-    store8(v162, 0u);
-    v163 = a0 + 9u * 1u;
-    store8(v163, 0u);
-    v164 = a0 + 10u * 1u;
-    store8(v164, 0u);
-    v165 = a0 + 16u * 1u;
-    store64(v165, 0u);
-    v166 = a0 + 24u * 1u;
-    store16(v166, 0u);
-    v167 = a0 + 26u * 1u;
-    store16(v167, 0u);
-    v168 = a0 + 32u * 1u;
-    memory_set(v168, 0u, 24u);
-    goto L18;
-L33:;
-    portable_rattle_dealloc(v156);
-    goto L34;
-L34:;
-    v169 = load64(v83);
-    v170 = a1 + 40u * 1u;
-    store64(v170, v169);
     store8(a0, 0u);
-    v171 = a0 + 8u * 1u;
-    store8(v171, 0u);
-    v172 = a0 + 9u * 1u;
-    store8(v172, 0u);
-    v173 = a0 + 10u * 1u;
-    store8(v173, 0u);
-    v174 = a0 + 16u * 1u;
-    store64(v174, v169);
-    v175 = a0 + 24u * 1u;
-    store16(v175, v153);
-    v176 = a0 + 26u * 1u;
-    store16(v176, v11);
-    v177 = a0 + 32u * 1u;
-    store_address(v177, v9);
-    v178 = a0 + 40u * 1u;
-    store64(v178, v10);
-    v179 = a0 + 48u * 1u;
-    store64(v179, v10);
-    goto L18;
+    v166 = a0 + 8u * 1u;
+    store8(v166, 1u);
+    v167 = a0 + 9u * 1u;
+    store8(v167, 0u);
+    v168 = a0 + 10u * 1u;
+    store8(v168, v70);
+    v169 = a0 + 16u * 1u;
+    store64(v169, 0u);
+    v170 = a0 + 24u * 1u;
+    store16(v170, 0u);
+    v171 = a0 + 26u * 1u;
+    store16(v171, 0u);
+    v172 = a0 + 32u * 1u;
+    memory_set(v172, 0u, 24u);
+    goto L25;
+L27:;
+    store8(a0, 0u);
+    v173 = a0 + 8u * 1u;
+    store8(v173, 1u);
+    v174 = a0 + 9u * 1u;
+    store8(v174, v9);
+    v175 = a0 + 10u * 1u;
+    store8(v175, 0u);
+    v176 = a0 + 16u * 1u;
+    store64(v176, 0u);
+    v177 = a0 + 24u * 1u;
+    store16(v177, 0u);
+    v178 = a0 + 26u * 1u;
+    store16(v178, 0u);
+    v179 = a0 + 32u * 1u;
+    memory_set(v179, 0u, 24u);
+    goto L25;
+L28:;
+    switch (v8) {
+    case 0u: goto L30;
+    case 1u: goto L29;
+    default: goto L31;
+    }
+L29:;
+    v180 = a2 + 52u * 1u;
+    v181 = load8(v180);
+    v182 = (u16)v181;
+    v183 = (u16)((u32)v182 << (8u & 15u));
+    v184 = a2 + 53u * 1u;
+    v185 = load8(v184);
+    v186 = (u16)v185;
+    v187 = (u16)((u32)v183 | (u32)v186);
+    v14 = 0u; v15 = 0u; v16 = v187; v17 = 2u; goto L38;
+L30:;
+    v188 = v7 == 4u;
+    if (v188) { v14 = 0u; v15 = 0u; v16 = 0u; v17 = 1u; goto L38; }
+    else { goto L32; }
+L31:;
+    v189 = v7 == 4u;
+    if (v189) { v14 = 0u; v15 = 0u; v16 = 0u; v17 = 1u; goto L38; }
+    else { v10 = v18; v11 = ADDRESS(c155); v12 = 0u; goto L36; }
+L32:;
+    v190 = a2 + 54u * 1u;
+    v191 = (u64)((u64)v82 + (u64)UINT64_C(18446744073709551562));
+    v192 = v191 == 0u;
+    if (v192) { v10 = v18; v11 = v190; v12 = 0u; goto L36; }
+    else { goto L33; }
+L33:;
+    v193 = v82 > 53u;
+    if (v193) { goto L34; }
+    else { goto L39; }
+L34:;
+    v194 = portable_rattle_alloc(v191, 1u);
+    v195 = v194;
+    v196 = v195.m0;
+    v197 = (u8)((v196) & UINT64_C(1));
+    if (v197) { goto L35; }
+    else { goto L39; }
+L35:;
+    v198 = v195.m1;
+    v199 = (address)v198;
+    v200 = (u64)v190;
+    v201 = (u64)((u64)v198 - (u64)v200);
+    v202 = v201 < v191;
+    if (v202) { v13 = 0u; goto L37; }
+    else { v10 = v199; v11 = v190; v12 = v191; goto L36; }
+L36:;
+    memory_move(v10, v11, v12);
+    v14 = v10; v15 = v12; v16 = 0u; v17 = 0u; goto L38;
+L37:;
+    v203 = v199 + v13 * 1u;
+    v204 = v190 + v13 * 1u;
+    v205 = load8(v204);
+    store8(v203, v205);
+    v206 = (u64)((u64)v13 + (u64)1u);
+    v207 = v206 == v191;
+    if (v207) { v14 = v199; v15 = v191; v16 = 0u; v17 = 0u; goto L38; }
+    else { v13 = v206; goto L37; }
+L38:;
+    v208 = (u16)v17;
+    v209 = load8(v121);
+    v210 = a1 + 64u * 1u;
+    v211 = load_address(v210);
+    v212 = a1 + 80u * 1u;
+    v213 = load64(v212);
+    v214 = v209 != 1u;
+    v215 = v213 == 0u;
+    v216 = v214 ? 1u : v215;
+    memory_set(v121, 0u, 40u);
+    if (v216) { goto L41; }
+    else { goto L40; }
+L39:;
+    store8(a0, 1u);
+    v217 = a0 + 8u * 1u;
+    store8(v217, 0u);
+    v218 = a0 + 9u * 1u;
+    store8(v218, 0u);
+    v219 = a0 + 10u * 1u;
+    store8(v219, 0u);
+    v220 = a0 + 16u * 1u;
+    store64(v220, 0u);
+    v221 = a0 + 24u * 1u;
+    store16(v221, 0u);
+    v222 = a0 + 26u * 1u;
+    store16(v222, 0u);
+    v223 = a0 + 32u * 1u;
+    memory_set(v223, 0u, 24u);
+    goto L25;
+L40:;
+    portable_rattle_dealloc(v211);
+    goto L41;
+L41:;
+    v224 = load64(v140);
+    v225 = a1 + 40u * 1u;
+    store64(v225, v224);
+    store8(a0, 0u);
+    v226 = a0 + 8u * 1u;
+    store8(v226, 0u);
+    v227 = a0 + 9u * 1u;
+    store8(v227, 0u);
+    v228 = a0 + 10u * 1u;
+    store8(v228, 0u);
+    v229 = a0 + 16u * 1u;
+    store64(v229, v224);
+    v230 = a0 + 24u * 1u;
+    store16(v230, v208);
+    v231 = a0 + 26u * 1u;
+    store16(v231, v16);
+    v232 = a0 + 32u * 1u;
+    store_address(v232, v14);
+    v233 = a0 + 40u * 1u;
+    store64(v233, v15);
+    v234 = a0 + 48u * 1u;
+    store64(v234, v15);
+    goto L25;
 }
 
 static void f8(address a0, address a1, u64 a2) {
-    u8 v3, v4, v6, v7, v8, v9, v11, v12, v13, v15, v17, v23, v25, v26, v28, v29;
-    u8 v31, v33, v38, v40, v44, v48, v50, v51, v52, v53, v58, v60;
-    address v5, v10, v14, v16, v27, v30, v32, v39, v43, v54, v55, v56, v57, v59, v61, v62;
-    address v63;
-    u16 v18, v19, v20, v21, v24, v34, v35, v36, v37;
-    u64 v22, v41, v42, v45, v46, v47, v49;
-    u64 block0[4];
-    v5 = ADDRESS(block0);
-    memory_set(v5, 0u, 32u);
-    v6 = a2 < 54u;
-    if (v6) { goto L7; }
+    u8 v3, v4, v6, v8, v9, v10, v11, v12, v13, v15, v16, v17, v19, v21, v27, v29;
+    u8 v30, v32, v33, v35, v37, v42, v44, v48, v52, v53, v54, v57, v61, v63, v69;
+    u16 v5, v7, v22, v23, v24, v25, v28, v38, v39, v40, v41, v45, v46, v49, v50, v51;
+    u16 v59, v70, v71, v72, v73, v74;
+    address v14, v18, v20, v31, v34, v36, v43, v47, v58, v62;
+    u64 v26, v55, v56, v60, v64, v65, v66, v67, v68;
+    v10 = a2 < 54u;
+    if (v10) { v8 = 0u; goto L11; }
     else { goto L1; }
 L1:;
-    v7 = load8(a1);
-    v8 = (u8)((u32)v7 & (u32)15u);
-    v9 = v8 == 13u;
-    if (v9) { goto L2; }
-    else { goto L7; }
-L2:;
-    v10 = a1 + 1u * 1u;
-    v11 = load8(v10);
+    v11 = load8(a1);
     v12 = (u8)((u32)v11 & (u32)15u);
-    v13 = v12 == 2u;
-    if (v13) { goto L3; }
-    else { goto L7; }
-L3:;
-    v14 = a1 + 2u * 1u;
-    v15 = load8(v14);
-    v16 = a1 + 3u * 1u;
-    v17 = load8(v16);
-    v18 = (u16)v15;
-    v19 = (u16)((u32)v18 << (8u & 15u));
-    v20 = (u16)v17;
-    v21 = (u16)((u32)v19 | (u32)v20);
-    v22 = (u64)v21;
-    v23 = a2 < v22;
-    v24 = (u16)((u32)v21 + (u32)64063u);
-    v25 = v24 < 64117u;
-    v26 = (u8)(((u32)v25 | (u32)v23) & UINT64_C(1));
-    if (v26) { goto L7; }
-    else { goto L4; }
-L4:;
-    v27 = a1 + 46u * 1u;
-    v28 = load8(v27);
-    v29 = (u8)((u32)v28 & (u32)15u);
-    v30 = a1 + 48u * 1u;
-    v31 = load8(v30);
-    v32 = a1 + 49u * 1u;
-    v33 = load8(v32);
-    v34 = (u16)v31;
-    v35 = (u16)((u32)v34 << (8u & 15u));
-    v36 = (u16)v33;
-    v37 = (u16)((u32)v35 | (u32)v36);
-    v38 = v37 == 1u;
-    if (v38) { goto L5; }
-    else { goto L7; }
-L5:;
-    v39 = a1 + 50u * 1u;
-    v40 = load8(v39);
-    v41 = (u64)v40;
-    v42 = (u64)((u64)v41 << (8u & 63u));
-    v43 = a1 + 51u * 1u;
-    v44 = load8(v43);
-    v45 = (u64)v44;
-    v46 = (u64)((u64)v42 | (u64)v45);
-    v47 = (u64)((u64)v46 + (u64)52u);
-    v48 = v47 == v22;
-    v49 = (u64)((u64)v22 & (u64)1u);
-    v50 = v49 == 0u;
-    v51 = (u8)(((u32)v50 & (u32)v48) & UINT64_C(1));
-    v52 = v29 < 5u;
-    v53 = v51 ? v52 : 0u;
-    if (v53) { goto L6; }
-    else { goto L7; }
-L6:;
-    v54 = v5 + 8u * 1u;
-    store_address(v54, a1);
-    v55 = v5 + 16u * 1u;
-    store64(v55, v22);
-    v56 = v5 + 24u * 1u;
-    store8(v56, v29);
-    v57 = v5 + 25u * 1u;
-    memory_set(v57, 0u, 7u);
-    v3 = 0u; v4 = 0u; goto L8;
-L7:;
-    f9(v5, a1, a2);
-    v58 = load8(v5);
-    v59 = v5 + 1u * 1u;
-    v60 = load8(v59);
-    v3 = v60; v4 = v58; goto L8;
-L8:;
-    v61 = v5 + 8u * 1u;
-    store8(a0, v4);
-    v62 = a0 + 1u * 1u;
-    store8(v62, v3);
-    v63 = a0 + 8u * 1u;
-    memory_cpy(v63, v61, 24u);
-    return;
-}
-
-static void f9(address a0, address a1, u64 a2) {
-    u8 v3, v4, v6, v7, v8, v9, v10, v11, v13, v14, v15, v17, v19, v25, v27, v28;
-    u8 v30, v31, v33, v35, v40, v42, v46, v50, v51, v52, v55, v59, v61, v67;
-    u16 v5, v20, v21, v22, v23, v26, v36, v37, v38, v39, v43, v44, v47, v48, v49;
-    address v12, v16, v18, v29, v32, v34, v41, v45, v56, v57, v60, v68, v69, v70, v71, v72;
-    address v73, v74, v75, v76, v77;
-    u64 v24, v53, v54, v58, v62, v63, v64, v65, v66;
-    v8 = a2 < 54u;
-    if (v8) { v6 = 0u; goto L11; }
-    else { goto L1; }
-L1:;
-    v9 = load8(a1);
-    v10 = (u8)((u32)v9 & (u32)15u);
-    v11 = v10 == 13u;
-    if (v11) { goto L2; }
-    else { v6 = 1u; goto L11; }
+    v13 = v12 == 13u;
+    if (v13) { goto L2; }
+    else { v8 = 1u; goto L11; }
 L2:;
-    v12 = a1 + 1u * 1u;
-    v13 = load8(v12);
-    v14 = (u8)((u32)v13 & (u32)15u);
-    v15 = v14 == 2u;
-    if (v15) { goto L3; }
-    else { v6 = 2u; goto L11; }
+    v14 = a1 + 1u * 1u;
+    v15 = load8(v14);
+    v16 = (u8)((u32)v15 & (u32)15u);
+    v17 = v16 == 2u;
+    if (v17) { goto L3; }
+    else { v8 = 2u; goto L11; }
 L3:;
-    v16 = a1 + 2u * 1u;
-    v17 = load8(v16);
-    v18 = a1 + 3u * 1u;
+    v18 = a1 + 2u * 1u;
     v19 = load8(v18);
-    v20 = (u16)v17;
-    v21 = (u16)((u32)v20 << (8u & 15u));
+    v20 = a1 + 3u * 1u;
+    v21 = load8(v20);
     v22 = (u16)v19;
-    v23 = (u16)((u32)v21 | (u32)v22);
-    v24 = (u64)v23;
-    v25 = a2 < v24;
-    v26 = (u16)((u32)v23 + (u32)64063u);
-    v27 = v26 < 64117u;
-    v28 = (u8)(((u32)v27 | (u32)v25) & UINT64_C(1));
-    if (v28) { v6 = 3u; goto L11; }
+    v23 = (u16)((u32)v22 << (8u & 15u));
+    v24 = (u16)v21;
+    v25 = (u16)((u32)v23 | (u32)v24);
+    v26 = (u64)v25;
+    v27 = a2 < v26;
+    v28 = (u16)((u32)v25 + (u32)64063u);
+    v29 = v28 < 64117u;
+    v30 = (u8)(((u32)v29 | (u32)v27) & UINT64_C(1));
+    if (v30) { v8 = 3u; goto L11; }
     else { goto L4; }
 L4:;
-    v29 = a1 + 46u * 1u;
-    v30 = load8(v29);
-    v31 = (u8)((u32)v30 & (u32)15u);
-    v32 = a1 + 50u * 1u;
-    v33 = load8(v32);
-    v34 = a1 + 51u * 1u;
+    v31 = a1 + 46u * 1u;
+    v32 = load8(v31);
+    v33 = (u8)((u32)v32 & (u32)15u);
+    v34 = a1 + 50u * 1u;
     v35 = load8(v34);
-    v36 = (u16)v33;
-    v37 = (u16)((u32)v36 << (8u & 15u));
+    v36 = a1 + 51u * 1u;
+    v37 = load8(v36);
     v38 = (u16)v35;
-    v39 = (u16)((u32)v37 | (u32)v38);
-    v40 = v31 < 5u;
-    if (v40) { goto L5; }
-    else { v7 = 4u; goto L15; }
+    v39 = (u16)((u32)v38 << (8u & 15u));
+    v40 = (u16)v37;
+    v41 = (u16)((u32)v39 | (u32)v40);
+    v42 = v33 < 5u;
+    if (v42) { goto L5; }
+    else { v9 = 4u; goto L15; }
 L5:;
-    v41 = a1 + 48u * 1u;
-    v42 = load8(v41);
-    v43 = (u16)v42;
-    v44 = (u16)((u32)v43 << (8u & 15u));
-    v45 = a1 + 49u * 1u;
-    v46 = load8(v45);
-    v47 = (u16)v46;
-    v48 = (u16)((u32)v44 | (u32)v47);
-    switch (v48) {
+    v43 = a1 + 48u * 1u;
+    v44 = load8(v43);
+    v45 = (u16)v44;
+    v46 = (u16)((u32)v45 << (8u & 15u));
+    v47 = a1 + 49u * 1u;
+    v48 = load8(v47);
+    v49 = (u16)v48;
+    v50 = (u16)((u32)v46 | (u32)v49);
+    switch (v50) {
     case 1u: v3 = 1u; v4 = 0u; v5 = 2u; goto L8;
     case 2u: goto L6;
-    default: v7 = 5u; goto L15;
+    default: v9 = 5u; goto L15;
     }
 L6:;
-    switch (v31) {
+    switch (v33) {
     case 2u: v3 = 0u; v4 = 1u; v5 = 8u; goto L8;
     case 4u: v3 = 0u; v4 = 1u; v5 = 8u; goto L8;
-    case 0u: v7 = 5u; goto L15;
-    case 1u: v7 = 5u; goto L15;
-    case 3u: v7 = 5u; goto L15;
+    case 0u: v9 = 5u; goto L15;
+    case 1u: v9 = 5u; goto L15;
+    case 3u: v9 = 5u; goto L15;
     default: goto L7;
     }
 L7:;
     UNREACHABLE;
 L8:;
-    v49 = (u16)((u32)v38 & (u32)1u);
-    v50 = v49 != 0u;
-    v51 = v39 < v5;
-    v52 = (u8)(((u32)v50 | (u32)v51) & UINT64_C(1));
-    if (v52) { v7 = 6u; goto L15; }
+    v51 = (u16)((u32)v40 & (u32)1u);
+    v52 = v51 != 0u;
+    v53 = v41 < v5;
+    v54 = (u8)(((u32)v52 | (u32)v53) & UINT64_C(1));
+    if (v54) { v9 = 6u; goto L15; }
     else { goto L9; }
 L9:;
-    v53 = (u64)v39;
-    v54 = (u64)((u64)v53 + (u64)52u);
-    v55 = v54 == v24;
-    if (v55) { goto L12; }
-    else { v7 = 6u; goto L15; }
+    v55 = (u64)v41;
+    v56 = (u64)((u64)v55 + (u64)52u);
+    v57 = v56 == v26;
+    if (v57) { goto L12; }
+    else { v9 = 6u; goto L15; }
 L10:;
+    store8(a0, v6);
+    v58 = a0 + 1u * 1u;
+    store16(v58, v7);
     return;
 L11:;
-    store8(a0, 1u);
-    v56 = a0 + 1u * 1u;
-    store8(v56, v6);
-    v57 = a0 + 8u * 1u;
-    memory_set(v57, 0u, 24u);
-    goto L10;
+    v59 = (u16)v8;
+    v6 = 1u; v7 = v59; goto L10;
 L12:;
     if (v3) { goto L16; }
     else { goto L13; }
 L13:;
-    v58 = (u64)((u64)v24 + (u64)UINT64_C(18446744073709551556));
-    v59 = v58 == 0u;
-    if (v59) { goto L16; }
+    v60 = (u64)((u64)v26 + (u64)UINT64_C(18446744073709551556));
+    v61 = v60 == 0u;
+    if (v61) { goto L16; }
     else { goto L14; }
 L14:;
-    v60 = a1 + 60u * 1u;
-    v61 = load8(v60);
-    v62 = (u64)v61;
-    v63 = (u64)((u64)v62 + (u64)1u);
-    v64 = (u64)((u64)v63 & (u64)1u);
-    v65 = (u64)((u64)v64 + (u64)v63);
-    v66 = v65;
-    v67 = v58 == v66;
-    if (v67) { goto L16; }
-    else { goto L17; }
+    v62 = a1 + 60u * 1u;
+    v63 = load8(v62);
+    v64 = (u64)v63;
+    v65 = (u64)((u64)v64 + (u64)1u);
+    v66 = (u64)((u64)v65 & (u64)1u);
+    v67 = (u64)((u64)v66 + (u64)v65);
+    v68 = v67;
+    v69 = v60 == v68;
+    if (v69) { goto L16; }
+    else { v6 = 1u; v7 = 7u; goto L10; }
 L15:;
-    store8(a0, 1u);
-    v68 = a0 + 1u * 1u;
-    store8(v68, v7);
-    v69 = a0 + 8u * 1u;
-    memory_set(v69, 0u, 24u);
-    goto L10;
+    v70 = (u16)v9;
+    v6 = 1u; v7 = v70; goto L10;
 L16:;
-    store8(a0, 0u);
-    v70 = a0 + 1u * 1u;
-    store8(v70, 0u);
-    v71 = a0 + 8u * 1u;
-    store_address(v71, a1);
-    v72 = a0 + 16u * 1u;
-    store64(v72, v24);
-    v73 = a0 + 24u * 1u;
-    store8(v73, v31);
-    v74 = a0 + 25u * 1u;
-    store8(v74, v4);
-    v75 = a0 + 26u * 1u;
-    memory_set(v75, 0u, 6u);
-    goto L10;
-L17:;
-    store8(a0, 1u);
-    v76 = a0 + 1u * 1u;
-    store8(v76, 7u);
-    v77 = a0 + 8u * 1u;
-    memory_set(v77, 0u, 24u);
-    goto L10;
+    v71 = (u16)v33;
+    v72 = (u16)v4;
+    v73 = (u16)((u32)v72 << (8u & 15u));
+    v74 = (u16)((u32)v73 | (u32)v71);
+    v6 = 0u; v7 = v74; goto L10;
 }
 
-static struct s2 f10(address a0, address a1, u64 a2) {
+static struct s2 f9(address a0, address a1, u64 a2) {
     u8 v3, v13, v18, v24, v25, v27, v51, v52, v56, v59, v60, v68, v71, v73;
     u16 v4, v5, v29, v31;
     address v6, v8, v10, v14, v15, v16, v17, v19, v21, v23, v26, v28, v30, v32, v33, v34;
@@ -2805,7 +2774,7 @@ L2:;
     store_address(v47, v6);
     v48 = v16 + 72u * 1u;
     store64(v48, v7);
-    f11(v15, v16);
+    f10(v15, v16);
     v49 = v15 + 64u * 1u;
     v50 = load64(v49);
     v51 = load8(v41);
@@ -2817,7 +2786,7 @@ L2:;
     if (v56) { v12 = 0u; v13 = 0u; goto L9; }
     else { goto L3; }
 L3:;
-    f11(v14, v16);
+    f10(v14, v16);
     v57 = v14 + 64u * 1u;
     v58 = load64(v57);
     v59 = load8(v41);
@@ -2827,7 +2796,7 @@ L3:;
 L4:;
     memory_cpy(a1, v14, v58);
     v61 = a1 + v58 * 1u;
-    v8 = v61; v9 = 0u; v10 = ADDRESS(c148); goto L6;
+    v8 = v61; v9 = 0u; v10 = ADDRESS(c155); goto L6;
 L5:;
     v62 = load_address(v47);
     v63 = load64(v48);
@@ -2861,7 +2830,7 @@ L9:;
     return v75;
 }
 
-static void f11(address a0, address a1) {
+static void f10(address a0, address a1) {
     u8 v2, v15, v16, v19, v22, v25, v28, v31, v34, v37, v48, v49, v52, v55, v58, v61;
     u8 v64, v67, v70, v74, v81, v83, v90, v101, v102, v104, v129, v133, v143, v148;
     u64 v3, v4, v5, v6, v12, v13, v14, v38, v45, v46, v47, v71, v93, v94, v97, v98;
@@ -3068,7 +3037,7 @@ L10:;
 L11:;
     v130 = v9 + v127 * 1u;
     v131 = (u64)v130;
-    v132 = (u64)((u64)v131 - (u64)ADDRESS(c149));
+    v132 = (u64)((u64)v131 - (u64)ADDRESS(c154));
     v133 = v132 < 8u;
     if (v133) { goto L12; }
     else { goto L13; }
@@ -3124,7 +3093,7 @@ L19:;
     return;
 }
 
-static void f12(u8 a0, address a1) {
+static void f11(u8 a0, address a1) {
     address v2, v4, v5, v6, v8, v10, v12, v13, v14, v23, v24, v25, v27, v28, v29;
     u8 v3, v9, v11, v16, v17, v18, v19, v20, v21, v22, v31, v32;
     u64 v7, v15, v26, v30;
@@ -3140,7 +3109,7 @@ static void f12(u8 a0, address a1) {
     default: goto L15;
     }
 L1:;
-    f13(a1);
+    f12(a1);
     goto L16;
 L2:;
     v2 = a1 + 48u * 1u;
@@ -3180,13 +3149,13 @@ L6:;
     portable_rattle_dealloc(v13);
     goto L16;
 L7:;
-    f15(a1);
+    f14(a1);
     goto L16;
 L8:;
-    f16(a1);
+    f15(a1);
     goto L16;
 L9:;
-    f17(a1);
+    f16(a1);
     goto L16;
 L10:;
     v23 = a1 + 32u * 1u;
@@ -3212,7 +3181,7 @@ L13:;
     portable_rattle_dealloc(v28);
     goto L16;
 L14:;
-    f19(a1);
+    f18(a1);
     goto L16;
 L15:;
     UNREACHABLE;
@@ -3220,82 +3189,94 @@ L16:;
     return;
 }
 
-static void f13(address a0) {
-    u64 v1, v7, v11, v13, v18, v27, v30, v33;
-    address v2, v4, v5, v6, v8, v9, v10, v12, v19, v20, v22, v23, v24, v25, v26, v29;
-    u8 v3, v14, v15, v16, v17, v21, v28, v31, v32, v34, v35;
-    v2 = a0 + 240u * 1u;
-    v3 = load8(v2);
-    v4 = a0 + 248u * 1u;
-    v5 = load_address(v4);
-    v6 = a0 + 264u * 1u;
-    v7 = load64(v6);
-    v8 = a0 + 392u * 1u;
-    v9 = load_address(v8);
-    v10 = a0 + 400u * 1u;
-    v11 = load64(v10);
-    v12 = a0 + 408u * 1u;
-    v13 = load64(v12);
+static void f12(address a0) {
+    u64 v1, v8, v12, v14, v17, v22, v31, v34, v37;
+    address v2, v3, v5, v6, v7, v9, v10, v11, v13, v15, v16, v23, v24, v26, v27, v28;
+    address v29, v30, v33;
+    u8 v4, v18, v19, v20, v21, v25, v32, v35, v36, v38, v39, v40;
+    v2 = a0 + 424u * 1u;
+    v3 = a0 + 240u * 1u;
+    v4 = load8(v3);
+    v5 = a0 + 248u * 1u;
+    v6 = load_address(v5);
+    v7 = a0 + 264u * 1u;
+    v8 = load64(v7);
+    v9 = a0 + 392u * 1u;
+    v10 = load_address(v9);
+    v11 = a0 + 400u * 1u;
+    v12 = load64(v11);
+    v13 = a0 + 408u * 1u;
+    v14 = load64(v13);
+    v15 = load_address(v2);
+    v16 = a0 + 440u * 1u;
+    v17 = load64(v16);
     portable_rattle_dealloc(a0);
-    v14 = v3 == 0u;
-    v15 = v7 == 0u;
-    v16 = v14 ? 1u : v15;
-    if (v16) { goto L2; }
+    v18 = v4 == 0u;
+    v19 = v8 == 0u;
+    v20 = v18 ? 1u : v19;
+    if (v20) { goto L2; }
     else { goto L1; }
 L1:;
-    portable_rattle_dealloc(v5);
+    portable_rattle_dealloc(v6);
     goto L2;
 L2:;
-    v17 = v11 == 0u;
-    if (v17) { goto L9; }
+    v21 = v12 == 0u;
+    if (v21) { goto L9; }
     else { v1 = 0u; goto L3; }
 L3:;
-    v18 = (u64)((u64)v1 * (u64)2144u);
-    v19 = v9 + v18 * 1u;
-    v20 = v19 + 1432u * 1u;
-    v21 = load8(v20);
-    v22 = v19 + 1440u * 1u;
-    v23 = load_address(v22);
-    v24 = v19 + 1464u * 1u;
-    v25 = load_address(v24);
-    v26 = v19 + 1480u * 1u;
-    v27 = load64(v26);
-    v28 = v21 == 0u;
-    if (v28) { goto L8; }
+    v22 = (u64)((u64)v1 * (u64)2144u);
+    v23 = v10 + v22 * 1u;
+    v24 = v23 + 1432u * 1u;
+    v25 = load8(v24);
+    v26 = v23 + 1440u * 1u;
+    v27 = load_address(v26);
+    v28 = v23 + 1464u * 1u;
+    v29 = load_address(v28);
+    v30 = v23 + 1480u * 1u;
+    v31 = load64(v30);
+    v32 = v25 == 0u;
+    if (v32) { goto L8; }
     else { goto L4; }
 L4:;
-    v29 = v19 + 1456u * 1u;
-    v30 = load64(v29);
-    v31 = v30 == 0u;
-    if (v31) { goto L6; }
+    v33 = v23 + 1456u * 1u;
+    v34 = load64(v33);
+    v35 = v34 == 0u;
+    if (v35) { goto L6; }
     else { goto L5; }
 L5:;
-    portable_rattle_dealloc(v23);
+    portable_rattle_dealloc(v27);
     goto L6;
 L6:;
-    v32 = v27 == 0u;
-    if (v32) { goto L8; }
+    v36 = v31 == 0u;
+    if (v36) { goto L8; }
     else { goto L7; }
 L7:;
-    portable_rattle_dealloc(v25);
+    portable_rattle_dealloc(v29);
     goto L8;
 L8:;
-    v33 = (u64)((u64)v1 + (u64)1u);
-    v34 = v33 == v11;
-    if (v34) { goto L9; }
-    else { v1 = v33; goto L3; }
+    v37 = (u64)((u64)v1 + (u64)1u);
+    v38 = v37 == v12;
+    if (v38) { goto L9; }
+    else { v1 = v37; goto L3; }
 L9:;
-    v35 = v13 == 0u;
-    if (v35) { goto L11; }
+    v39 = v14 == 0u;
+    if (v39) { goto L11; }
     else { goto L10; }
 L10:;
-    portable_rattle_dealloc(v9);
+    portable_rattle_dealloc(v10);
     goto L11;
 L11:;
+    v40 = v17 == 0u;
+    if (v40) { goto L13; }
+    else { goto L12; }
+L12:;
+    portable_rattle_dealloc(v15);
+    goto L13;
+L13:;
     return;
 }
 
-static void f14(address a0) {
+static void f13(address a0) {
     address v1, v3, v4, v5, v7, v9, v11, v12, v13;
     u8 v2, v8, v10, v15, v16, v17, v18, v19, v20, v21;
     u64 v6, v14;
@@ -3339,7 +3320,7 @@ L5:;
     return;
 }
 
-static void f15(address a0) {
+static void f14(address a0) {
     u64 v1, v5, v9, v11, v15, v19, v22, v26, v32;
     address v2, v3, v4, v6, v7, v8, v10, v12, v13, v14, v16, v17, v18, v23, v25, v30;
     address v31;
@@ -3419,7 +3400,7 @@ L12:;
     return;
 }
 
-static void f16(address a0) {
+static void f15(address a0) {
     address v1, v2, v4, v5, v6, v8, v10, v11, v12, v14, v15, v16;
     u8 v3, v9, v18, v19, v20, v21, v22, v23, v24;
     u64 v7, v13, v17;
@@ -3441,7 +3422,7 @@ static void f16(address a0) {
     v16 = a0 + 792u * 1u;
     v17 = load64(v16);
     portable_rattle_dealloc(a0);
-    f13(v1);
+    f12(v1);
     v18 = v3 == 0u;
     v19 = v7 == 0u;
     v20 = v18 ? 1u : v19;
@@ -3470,7 +3451,7 @@ L6:;
     return;
 }
 
-static void f17(address a0) {
+static void f16(address a0) {
     address v1, v3, v4, v5, v7, v9, v10, v11, v13, v15, v16, v17, v19, v21, v23, v24;
     address v25;
     u8 v2, v8, v14, v20, v22, v27, v28, v29, v30, v31, v32, v33, v34, v35, v36, v37;
@@ -3546,7 +3527,7 @@ L9:;
     return;
 }
 
-static void f18(address a0) {
+static void f17(address a0) {
     address v1, v2, v3, v5, v6, v7;
     u64 v4, v8;
     u8 v9, v10;
@@ -3576,7 +3557,7 @@ L4:;
     return;
 }
 
-static void f19(address a0) {
+static void f18(address a0) {
     u64 v1, v5, v9, v13, v15, v19, v23, v27, v31, v34, v38, v43;
     address v2, v3, v4, v6, v7, v8, v10, v11, v12, v14, v16, v17, v18, v20, v21, v22;
     address v24, v25, v26, v32, v33, v35, v36, v37, v40, v41;
@@ -3686,7 +3667,7 @@ L18:;
     return;
 }
 
-static void f20(address a0, address a1, address a2, u64 a3, u16 a4, u8 a5) {
+static void f19(address a0, address a1, address a2, u64 a3, u16 a4, u8 a5) {
     address v6, v7, v8, v9, v12, v13, v15, v17, v19, v21, v23, v24, v25, v26, v27, v28;
     address v29, v30, v35, v36, v37, v38, v40, v41, v42, v47, v49, v54, v55, v56, v57, v58;
     address v60, v61, v62, v63, v64, v65, v66, v68, v70, v72, v74, v76, v79, v81, v82, v83;
@@ -3851,7 +3832,7 @@ L9:;
     goto L2;
 }
 
-static void f21(address a0, address a1, u16 a2, address a3, u64 a4) {
+static void f20(address a0, address a1, u16 a2, address a3, u64 a4) {
     u64 v5, v6, v7, v10, v18, v20, v28, v29, v30, v33, v34, v38, v44, v45, v48, v49;
     u64 v50, v52, v70, v72, v75, v78;
     u8 v8, v11, v12, v14, v16, v17, v22, v35, v39, v43, v51, v53, v60, v63, v67, v68;
@@ -3905,7 +3886,7 @@ L4:;
 L5:;
     v36 = a1 + 384u * 1u;
     memory_set(v13, 0u, 88u);
-    f22(v13, v36);
+    f21(v13, v36);
     v37 = v13 + 80u * 1u;
     v38 = load64(v37);
     v39 = v38 == 0u;
@@ -3980,13 +3961,13 @@ L15:;
     v8 = 1u; v9 = 0u; v10 = 0u; v11 = 0u; v12 = 0u; goto L17;
 L16:;
     v72 = (u64)v62;
-    v73 = ADDRESS(c342) + v72 * 1u;
+    v73 = ADDRESS(c348) + v72 * 1u;
     v74 = load8(v73);
     v75 = (u64)v62;
-    v76 = ADDRESS(c343) + v75 * 1u;
+    v76 = ADDRESS(c349) + v75 * 1u;
     v77 = load8(v76);
     v78 = (u64)v62;
-    v79 = ADDRESS(c344) + v78 * 1u;
+    v79 = ADDRESS(c350) + v78 * 1u;
     v80 = load8(v79);
     v8 = v74; v9 = 0u; v10 = 0u; v11 = v77; v12 = v80; goto L17;
 L17:;
@@ -4006,7 +3987,7 @@ L17:;
     goto L2;
 }
 
-static void f22(address a0, address a1) {
+static void f21(address a0, address a1) {
     u64 v2, v3, v5, v6, v12, v15, v16, v21, v25, v26, v28, v29, v32, v33, v40, v42;
     u64 v46, v48, v52;
     address v4, v7, v8, v9, v10, v11, v14, v17, v18, v22, v24, v30, v31, v37, v41, v45;
@@ -4118,128 +4099,218 @@ L13:;
     return;
 }
 
-static void f23(address a0, address a1, u16 a2, address a3, u64 a4, address a5, u64 a6) {
-    u8 v7, v10, v11, v15, v18, v19, v21, v22, v23, v25, v27, v28, v31, v35, v37, v42;
-    u8 v43, v44, v46, v47, v52, v55;
-    address v8, v9, v12, v13, v14, v16, v20, v24, v26, v29, v32, v34, v36, v45, v49, v53;
-    address v56, v57;
-    u64 v17, v30, v33, v48, v50, v54;
-    u16 v38, v39, v40, v41, v51;
-    u64 block0[12];
-    u64 block1[4];
-    v8 = ADDRESS(block0);
-    v9 = ADDRESS(block1);
-    memory_set(v8, 0u, 96u);
-    memory_set(v9, 0u, 32u);
-    f8(v9, a3, a4);
-    v10 = load8(v9);
-    v11 = v10 == 0u;
-    if (v11) { goto L1; }
-    else { goto L11; }
+static void f22(address a0, address a1, u16 a2, address a3, u64 a4, address a5, u64 a6) {
+    u8 v7, v8, v9, v10, v11, v12, v16, v17, v18, v19, v21, v22, v23, v25, v27, v33;
+    u8 v35, v36, v38, v40, v45, v47, v48, v50, v54, v58, v60, v61, v62, v63, v64, v65;
+    u8 v67, v69, v71, v73, v74, v85, v87, v88, v89, v91, v93, v94, v97, v101, v103, v108;
+    u8 v109, v110, v112, v113, v118, v121;
+    address v13, v14, v15, v20, v24, v26, v37, v39, v46, v49, v53, v66, v68, v70, v72, v79;
+    address v80, v81, v82, v83, v86, v90, v92, v95, v98, v100, v102, v111, v115, v119, v122, v123;
+    u16 v28, v29, v30, v31, v34, v41, v42, v43, v44, v104, v105, v106, v107, v117;
+    u64 v32, v51, v52, v55, v56, v57, v59, v75, v76, v77, v78, v84, v96, v99, v114, v116;
+    u64 v120;
+    u64 block0[1];
+    u64 block1[12];
+    u64 block2[3];
+    v13 = ADDRESS(block0);
+    v14 = ADDRESS(block1);
+    v15 = ADDRESS(block2);
+    memory_set(v14, 0u, 96u);
+    memory_set(v13, 0u, 3u);
+    v16 = a4 < 54u;
+    if (v16) { goto L6; }
+    else { goto L1; }
 L1:;
-    v12 = v9 + 8u * 1u;
-    v13 = load_address(v12);
-    v14 = v9 + 24u * 1u;
-    v15 = load8(v14);
-    v16 = a1 + 384u * 1u;
-    v17 = load64(v16);
-    v18 = load8(v13);
-    v19 = (u8)((u32)v18 >> (4u & 7u));
-    v20 = v13 + 5u * 1u;
-    v21 = load8(v20);
-    v22 = (u8)((u32)v19 | (u32)v21);
-    v23 = v22 == 0u;
-    if (v23) { goto L2; }
-    else { v7 = 1u; goto L13; }
+    v17 = load8(a3);
+    v18 = (u8)((u32)v17 & (u32)15u);
+    v19 = v18 == 13u;
+    if (v19) { goto L2; }
+    else { goto L6; }
 L2:;
-    v24 = v13 + 4u * 1u;
-    v25 = load8(v24);
-    v26 = a1 + 8u * 1u;
-    v27 = load8(v26);
-    v28 = v25 == v27;
-    if (v28) { goto L3; }
-    else { v7 = 1u; goto L13; }
+    v20 = a3 + 1u * 1u;
+    v21 = load8(v20);
+    v22 = (u8)((u32)v21 & (u32)15u);
+    v23 = v22 == 2u;
+    if (v23) { goto L3; }
+    else { goto L6; }
 L3:;
-    v29 = v13 + 20u * 1u;
-    v30 = load64(v29);
-    v31 = v30 == v17;
-    if (v31) { v7 = 2u; goto L13; }
+    v24 = a3 + 2u * 1u;
+    v25 = load8(v24);
+    v26 = a3 + 3u * 1u;
+    v27 = load8(v26);
+    v28 = (u16)v25;
+    v29 = (u16)((u32)v28 << (8u & 15u));
+    v30 = (u16)v27;
+    v31 = (u16)((u32)v29 | (u32)v30);
+    v32 = (u64)v31;
+    v33 = a4 < v32;
+    v34 = (u16)((u32)v31 + (u32)64063u);
+    v35 = v34 < 64117u;
+    v36 = (u8)(((u32)v35 | (u32)v33) & UINT64_C(1));
+    if (v36) { goto L6; }
     else { goto L4; }
 L4:;
-    v32 = v13 + 34u * 1u;
-    v33 = load64(v32);
-    v34 = v13 + 42u * 1u;
-    v35 = load8(v34);
-    v36 = v13 + 43u * 1u;
-    v37 = load8(v36);
-    v38 = (u16)v35;
-    v39 = (u16)((u32)v38 << (8u & 15u));
-    v40 = (u16)v37;
-    v41 = (u16)((u32)v39 | (u32)v40);
-    v42 = v33 == v17;
-    v43 = v33 == UINT64_C(18446744073709551615);
-    v44 = (u8)(((u32)v43 | (u32)v42) & UINT64_C(1));
-    if (v44) { goto L5; }
-    else { v7 = 3u; goto L13; }
+    v37 = a3 + 48u * 1u;
+    v38 = load8(v37);
+    v39 = a3 + 49u * 1u;
+    v40 = load8(v39);
+    v41 = (u16)v38;
+    v42 = (u16)((u32)v41 << (8u & 15u));
+    v43 = (u16)v40;
+    v44 = (u16)((u32)v42 | (u32)v43);
+    v45 = v44 == 1u;
+    if (v45) { goto L5; }
+    else { goto L6; }
 L5:;
-    switch (v41) {
-    case 65535u: goto L7;
-    case 0u: v7 = 3u; goto L13;
-    default: goto L6;
-    }
+    v46 = a3 + 46u * 1u;
+    v47 = load8(v46);
+    v48 = (u8)((u32)v47 & (u32)15u);
+    v49 = a3 + 50u * 1u;
+    v50 = load8(v49);
+    v51 = (u64)v50;
+    v52 = (u64)((u64)v51 << (8u & 63u));
+    v53 = a3 + 51u * 1u;
+    v54 = load8(v53);
+    v55 = (u64)v54;
+    v56 = (u64)((u64)v52 | (u64)v55);
+    v57 = (u64)((u64)v56 + (u64)52u);
+    v58 = v57 == v32;
+    v59 = (u64)((u64)v32 & (u64)1u);
+    v60 = v59 == 0u;
+    v61 = (u8)(((u32)v60 & (u32)v58) & UINT64_C(1));
+    v62 = v48 < 5u;
+    v63 = v61 ? v62 : 0u;
+    if (v63) { v7 = v17; v8 = v27; v9 = v25; v10 = v48; v11 = 0u; goto L8; }
+    else { goto L6; }
 L6:;
-    v45 = a1 + 240u * 1u;
-    v46 = load8(v45);
-    v47 = v46 == 0u;
-    v48 = v47 ? 376u : 256u;
-    v49 = a1 + v48 * 1u;
-    v50 = load64(v49);
-    v51 = (u16)(v50);
-    v52 = v41 > v51;
-    if (v52) { v7 = 3u; goto L13; }
-    else { goto L7; }
+    f8(v13, a3, a4);
+    v64 = load8(v13);
+    v65 = v64 == 0u;
+    if (v65) { goto L7; }
+    else { goto L18; }
 L7:;
-    switch (v15) {
-    case 2u: v7 = 4u; goto L13;
-    case 4u: v7 = 4u; goto L13;
-    case 0u: goto L9;
-    case 1u: goto L9;
-    case 3u: goto L9;
-    default: goto L8;
-    }
+    v66 = v13 + 1u * 1u;
+    v67 = load8(v66);
+    v68 = v13 + 2u * 1u;
+    v69 = load8(v68);
+    v70 = a3 + 2u * 1u;
+    v71 = load8(v70);
+    v72 = a3 + 3u * 1u;
+    v73 = load8(v72);
+    v74 = load8(a3);
+    v7 = v74; v8 = v73; v9 = v71; v10 = v67; v11 = v69; goto L8;
 L8:;
-    UNREACHABLE;
+    v75 = (u64)v9;
+    v76 = (u64)((u64)v75 << (8u & 63u));
+    v77 = (u64)v8;
+    v78 = (u64)((u64)v76 | (u64)v77);
+    store_address(v15, a3);
+    v79 = v15 + 8u * 1u;
+    store64(v79, v78);
+    v80 = v15 + 16u * 1u;
+    store8(v80, v10);
+    v81 = v15 + 17u * 1u;
+    store8(v81, v11);
+    v82 = v15 + 18u * 1u;
+    memory_set(v82, 0u, 6u);
+    v83 = a1 + 384u * 1u;
+    v84 = load64(v83);
+    v85 = (u8)((u32)v7 >> (4u & 7u));
+    v86 = a3 + 5u * 1u;
+    v87 = load8(v86);
+    v88 = (u8)((u32)v85 | (u32)v87);
+    v89 = v88 == 0u;
+    if (v89) { goto L9; }
+    else { v12 = 1u; goto L20; }
 L9:;
-    if (v42) { goto L12; }
-    else { v7 = 9u; goto L13; }
+    v90 = a3 + 4u * 1u;
+    v91 = load8(v90);
+    v92 = a1 + 8u * 1u;
+    v93 = load8(v92);
+    v94 = v91 == v93;
+    if (v94) { goto L10; }
+    else { v12 = 1u; goto L20; }
 L10:;
-    memory_cpy(a0, v8, 96u);
-    return;
+    v95 = a3 + 20u * 1u;
+    v96 = load64(v95);
+    v97 = v96 == v84;
+    if (v97) { v12 = 2u; goto L20; }
+    else { goto L11; }
 L11:;
-    f45(v8, a1, a2, a3, a4, a5, a6);
-    goto L10;
+    v98 = a3 + 34u * 1u;
+    v99 = load64(v98);
+    v100 = a3 + 42u * 1u;
+    v101 = load8(v100);
+    v102 = a3 + 43u * 1u;
+    v103 = load8(v102);
+    v104 = (u16)v101;
+    v105 = (u16)((u32)v104 << (8u & 15u));
+    v106 = (u16)v103;
+    v107 = (u16)((u32)v105 | (u32)v106);
+    v108 = v99 == v84;
+    v109 = v99 == UINT64_C(18446744073709551615);
+    v110 = (u8)(((u32)v109 | (u32)v108) & UINT64_C(1));
+    if (v110) { goto L12; }
+    else { v12 = 3u; goto L20; }
 L12:;
-    f24(v8, a1, a2, v12, a5, a6);
-    goto L10;
+    switch (v107) {
+    case 65535u: goto L14;
+    case 0u: v12 = 3u; goto L20;
+    default: goto L13;
+    }
 L13:;
-    v53 = v13 + 34u * 1u;
-    v54 = load64(v53);
-    v55 = v54 == v17;
-    if (v55) { goto L14; }
-    else { goto L15; }
+    v111 = a1 + 240u * 1u;
+    v112 = load8(v111);
+    v113 = v112 == 0u;
+    v114 = v113 ? 376u : 256u;
+    v115 = a1 + v114 * 1u;
+    v116 = load64(v115);
+    v117 = (u16)(v116);
+    v118 = v107 > v117;
+    if (v118) { v12 = 3u; goto L20; }
+    else { goto L14; }
 L14:;
-    store8(v8, v7);
-    v56 = v8 + 1u * 1u;
-    store8(v56, 0u);
-    v57 = v8 + 8u * 1u;
-    memory_set(v57, 0u, 84u);
-    goto L10;
+    switch (v10) {
+    case 2u: v12 = 4u; goto L20;
+    case 4u: v12 = 4u; goto L20;
+    case 0u: goto L16;
+    case 1u: goto L16;
+    case 3u: goto L16;
+    default: goto L15;
+    }
 L15:;
-    f45(v8, a1, a2, a3, a4, a5, a6);
-    goto L10;
+    UNREACHABLE;
+L16:;
+    if (v108) { goto L19; }
+    else { v12 = 9u; goto L20; }
+L17:;
+    memory_cpy(a0, v14, 96u);
+    return;
+L18:;
+    f44(v14, a1, a2, a3, a4, a5, a6);
+    goto L17;
+L19:;
+    f23(v14, a1, a2, v15, a5, a6);
+    goto L17;
+L20:;
+    v119 = a3 + 34u * 1u;
+    v120 = load64(v119);
+    v121 = v120 == v84;
+    if (v121) { goto L21; }
+    else { goto L22; }
+L21:;
+    store8(v14, v12);
+    v122 = v14 + 1u * 1u;
+    store8(v122, 0u);
+    v123 = v14 + 8u * 1u;
+    memory_set(v123, 0u, 84u);
+    goto L17;
+L22:;
+    f44(v14, a1, a2, a3, a4, a5, a6);
+    goto L17;
 }
 
-static void f24(address a0, address a1, u16 a2, address a3, address a4, u64 a5) {
+static void f23(address a0, address a1, u16 a2, address a3, address a4, u64 a5) {
     address v6, v7, v8, v9, v10, v11, v14, v16, v18, v23, v24, v25, v29, v30, v31, v32;
     address v33;
     u64 v12, v13, v19;
@@ -4259,10 +4330,10 @@ static void f24(address a0, address a1, u16 a2, address a3, address a4, u64 a5) 
     v11 = a1 + 384u * 1u;
     v12 = load64(v11);
     store64(v7, v12);
-    f25(v9);
+    f24(v9);
     memory_cpy(v8, a1, 384u);
     memory_cpy(a1, v9, 384u);
-    f32(v10, v7, v8, a2, a3, a4, a5);
+    f31(v10, v7, v8, a2, a3, a4, a5);
     v13 = load64(v10);
     memory_cpy(v6, a1, 384u);
     memory_cpy(a1, v8, 384u);
@@ -4302,7 +4373,7 @@ L2:;
     return;
 }
 
-static void f25(address a0) {
+static void f24(address a0) {
     address v1, v2, v3, v4, v5, v6, v7, v8, v9, v10, v11, v12, v13, v14, v15, v16;
     address v17, v18, v19, v20, v21, v22, v23, v24, v25, v28;
     u8 v26, v27;
@@ -4359,7 +4430,7 @@ static void f25(address a0) {
     store8(v24, 1u);
     v25 = v3 + 20u * 1u;
     store32(v25, 0u);
-    f26(v2, v1, v3, 1u);
+    f25(v2, v1, v3, 1u);
     v26 = load8(v2);
     v27 = v26 == 0u;
     if (v27) { goto L1; }
@@ -4373,7 +4444,7 @@ L2:;
     UNREACHABLE;
 }
 
-static void f26(address a0, address a1, address a2, u64 a3) {
+static void f25(address a0, address a1, address a2, u64 a3) {
     u64 v4, v15, v32, v33, v34, v35, v38, v41, v42, v45, v51, v53, v70, v72;
     address v5, v6, v7, v8, v9, v10, v11, v14, v16, v18, v20, v22, v24, v26, v28, v30;
     address v31, v37, v39, v40, v47, v48, v50, v52, v54, v56, v57, v58, v60, v61, v63, v65;
@@ -4405,7 +4476,7 @@ static void f26(address a0, address a1, address a2, u64 a3) {
     memory_set(v9, 0u, 144u);
     memory_set(v10, 0u, 10u);
     memory_set(v11, 0u, 150u);
-    f27(v8, a1, a2, a3);
+    f26(v8, a1, a2, a3);
     v12 = load8(v8);
     v13 = v12 == 0u;
     if (v13) { goto L1; }
@@ -4439,7 +4510,7 @@ L1:;
     else { goto L2; }
 L2:;
     v37 = v7 + 136u * 1u;
-    f31(v7, v35);
+    f30(v7, v35);
     v38 = load64(v37);
     v4 = v38; goto L3;
 L3:;
@@ -4649,7 +4720,7 @@ L9:;
     goto L8;
 }
 
-static void f27(address a0, address a1, address a2, u64 a3) {
+static void f26(address a0, address a1, address a2, u64 a3) {
     address v4, v6, v8, v9, v10, v11, v12, v16, v17, v18, v19, v20, v23, v24, v29, v44;
     address v45, v46, v47, v48, v49, v50, v51, v52, v53, v54, v55, v56, v57, v58, v59, v60;
     address v61, v62, v63, v64, v65, v66, v67, v68, v69, v70, v71, v72, v73, v74, v75, v76;
@@ -4703,7 +4774,7 @@ L2:;
     else { goto L3; }
 L3:;
     memory_set(v10, 0u, 24u);
-    f28(v10, v19, v25);
+    f27(v10, v19, v25);
     v27 = load8(v10);
     v28 = v27 == 0u;
     if (v28) { goto L4; }
@@ -4906,7 +4977,7 @@ L13:;
     v120 = (u64)((u64)v7 * (u64)24u);
     v121 = a2 + v120 * 1u;
     store32(v8, 0u);
-    f30(v8, v121);
+    f29(v8, v121);
     v122 = load8(v8);
     v123 = v122 == 0u;
     if (v123) { goto L14; }
@@ -5067,7 +5138,7 @@ L20:;
     goto L10;
 }
 
-static void f28(address a0, address a1, u64 a2) {
+static void f27(address a0, address a1, u64 a2) {
     u64 v3, v4, v5, v6, v7, v8, v9, v10, v11, v12, v13, v14, v15, v17, v21, v33;
     u64 v43, v57, v58, v59, v60, v61, v62, v63, v64, v65, v66, v67, v68, v69, v70, v71;
     u64 v72, v73, v74, v75, v76, v77, v78, v79, v81, v82, v83, v84, v85, v87, v105, v106;
@@ -5361,7 +5432,7 @@ L11:;
     else { v7 = v6; goto L13; }
 L12:;
     v246 = (u64)((u64)v6 + (u64)32u);
-    v247 = f29(v18, v246, a2);
+    v247 = f28(v18, v246, a2);
     v248 = (u64)((u64)a2 - (u64)v247);
     v249 = v248 > 31u;
     if (v249) { v6 = v247; goto L11; }
@@ -5615,7 +5686,7 @@ L45:;
     v13 = 0u; v14 = v403; v15 = a2; goto L36;
 }
 
-static u64 f29(address a0, u64 a1, u64 a2) {
+static u64 f28(address a0, u64 a1, u64 a2) {
     u64 v3, v4, v5, v24, v25, v26, v27, v28, v29, v30, v31, v32, v33, v34, v35, v36;
     u64 v37, v38, v55, v56, v57, v58, v59, v60, v61, v62, v63, v64, v65, v66, v67, v68;
     u64 v69, v86, v87, v88, v89, v90, v91, v92, v93, v94, v95, v96, v97, v98, v99, v100;
@@ -5971,7 +6042,7 @@ L4:;
     return v4;
 }
 
-static void f30(address a0, address a1) {
+static void f29(address a0, address a1) {
     address v2, v7, v12, v13, v14, v15, v16, v17, v18, v19, v20, v21, v22, v23, v24, v25;
     address v26, v27, v28, v29, v30, v31, v32, v33, v34, v37, v48, v64, v66, v67, v68;
     u64 v3, v35, v47;
@@ -6151,7 +6222,7 @@ L17:;
     return;
 }
 
-static void f31(address a0, u64 a1) {
+static void f30(address a0, u64 a1) {
     u64 v2, v3, v5, v8, v9, v10, v13, v14, v19;
     address v4, v7, v12, v16, v17;
     u8 v6, v11, v15, v18, v20;
@@ -6175,16 +6246,16 @@ L2:;
 L3:;
     v12 = a0 + v2 * 1u;
     v13 = (u64)v12;
-    v14 = (u64)((u64)v13 - (u64)(ADDRESS(c146) + 8u * 1u));
+    v14 = (u64)((u64)v13 - (u64)(ADDRESS(c152) + 8u * 1u));
     v15 = v14 < v9;
     if (v15) { v3 = 0u; goto L5; }
     else { goto L4; }
 L4:;
-    memory_cpy(v12, (ADDRESS(c146) + 8u * 1u), v9);
+    memory_cpy(v12, (ADDRESS(c152) + 8u * 1u), v9);
     goto L6;
 L5:;
     v16 = v12 + v3 * 1u;
-    v17 = (ADDRESS(c146) + 8u * 1u) + v3 * 1u;
+    v17 = (ADDRESS(c152) + 8u * 1u) + v3 * 1u;
     v18 = load8(v17);
     store8(v16, v18);
     v19 = (u64)((u64)v3 + (u64)1u);
@@ -6198,7 +6269,7 @@ L7:;
     return;
 }
 
-static void f32(address a0, address a1, address a2, u16 a3, address a4, address a5, u64 a6) {
+static void f31(address a0, address a1, address a2, u16 a3, address a4, address a5, u64 a6) {
     u64 v7, v9, v26, v34, v52, v53, v63, v65, v94, v116;
     address v8, v10, v11, v12, v13, v14, v15, v16, v17, v18, v19, v20, v21, v22, v23, v24;
     address v25, v28, v29, v30, v31, v33, v35, v37, v39, v41, v43, v45, v47, v49, v54, v56;
@@ -6251,7 +6322,7 @@ L1:;
     if (v27) { goto L2; }
     else { v7 = v26; goto L1; }
 L2:;
-    f33(v15, a2, v12);
+    f32(v15, a2, v12);
     memory_cpy(v13, v15, 256u);
     store_address(v14, a5);
     v28 = v14 + 8u * 1u;
@@ -6291,7 +6362,7 @@ L2:;
     v60 = v30 + 43u * 1u;
     v61 = load8(v60);
     if (v51) { goto L3; }
-    else { v8 = ADDRESS(c148); v9 = 0u; goto L4; }
+    else { v8 = ADDRESS(c155); v9 = 0u; goto L4; }
 L3:;
     v62 = a4 + 8u * 1u;
     v63 = load64(v62);
@@ -6373,9 +6444,9 @@ L4:;
     v114 = swap16(v81);
     v115 = v11 + 52u * 1u;
     store16(v115, v114);
-    f34(a2, v10, 7u, v11);
+    f33(a2, v10, 7u, v11);
     v116 = load64(v29);
-    f42(v16, a2, v13);
+    f41(v16, a2, v13);
     store64(a0, v116);
     v117 = a0 + 8u * 1u;
     memory_cpy(v117, v16, 68u);
@@ -6384,7 +6455,7 @@ L4:;
     return;
 }
 
-static void f33(address a0, address a1, address a2) {
+static void f32(address a0, address a1, address a2) {
     u64 v3, v5, v6, v18, v19, v20, v21, v22, v25, v28, v32, v36, v37, v38, v39, v41;
     u64 v44, v45, v48;
     address v4, v7, v8, v9, v10, v11, v12, v15, v16, v17, v26, v27, v30, v31, v34, v40;
@@ -6451,7 +6522,7 @@ L8:;
     v38 = (u64)((u64)v37 & (u64)1u);
     v39 = (u64)((u64)v38 + (u64)v37);
     v40 = v8 + 136u * 1u;
-    f31(v8, v39);
+    f30(v8, v39);
     v41 = load64(v40);
     v42 = v8 + 1u * 1u;
     v43 = v42 + v6 * 1u;
@@ -6497,7 +6568,7 @@ L12:;
     return;
 }
 
-static void f34(address a0, address a1, u8 a2, address a3) {
+static void f33(address a0, address a1, u8 a2, address a3) {
     address v4, v27, v28, v29, v30, v31, v33, v34, v35, v36, v37, v38, v39, v40, v50, v51;
     address v52, v78, v79, v80, v82, v83, v85, v86, v90, v92, v93, v96, v97, v98, v103, v104;
     address v106, v107, v108, v109, v112, v113, v114, v119, v120, v124, v126, v127, v130, v132, v133, v135;
@@ -6522,7 +6593,7 @@ static void f34(address a0, address a1, u8 a2, address a3) {
     v31 = a1 + 2u * 1u;
     v32 = load16(v31);
     switch (v32) {
-    case 0u: v4 = ADDRESS(c120); v5 = 19u; v6 = 0u; v7 = 2u; v8 = 0u; v9 = 1u; v10 = 0u; v11 = 7u; v12 = 0u; v13 = 0u; goto L21;
+    case 0u: v4 = ADDRESS(c126); v5 = 19u; v6 = 0u; v7 = 2u; v8 = 0u; v9 = 1u; v10 = 0u; v11 = 7u; v12 = 0u; v13 = 0u; goto L21;
     case 2u: goto L1;
     case 8192u: goto L2;
     case 8193u: goto L3;
@@ -6546,45 +6617,45 @@ static void f34(address a0, address a1, u8 a2, address a3) {
     default: goto L70;
     }
 L1:;
-    v4 = ADDRESS(c121); v5 = 16u; v6 = 0u; v7 = 1u; v8 = 1u; v9 = 0u; v10 = 1u; v11 = 3u; v12 = 1u; v13 = 0u; goto L21;
+    v4 = ADDRESS(c127); v5 = 16u; v6 = 0u; v7 = 1u; v8 = 1u; v9 = 0u; v10 = 1u; v11 = 3u; v12 = 1u; v13 = 0u; goto L21;
 L2:;
-    v4 = ADDRESS(c122); v5 = 16u; v6 = 0u; v7 = 1u; v8 = 1u; v9 = 0u; v10 = 1u; v11 = 1u; v12 = 2u; v13 = 0u; goto L21;
+    v4 = ADDRESS(c128); v5 = 16u; v6 = 0u; v7 = 1u; v8 = 1u; v9 = 0u; v10 = 1u; v11 = 1u; v12 = 2u; v13 = 0u; goto L21;
 L3:;
-    v4 = ADDRESS(c123); v5 = 16u; v6 = 0u; v7 = 1u; v8 = 1u; v9 = 0u; v10 = 1u; v11 = 1u; v12 = 3u; v13 = 0u; goto L21;
+    v4 = ADDRESS(c129); v5 = 16u; v6 = 0u; v7 = 1u; v8 = 1u; v9 = 0u; v10 = 1u; v11 = 1u; v12 = 3u; v13 = 0u; goto L21;
 L4:;
-    v4 = ADDRESS(c124); v5 = 15u; v6 = 0u; v7 = 1u; v8 = 1u; v9 = 0u; v10 = 1u; v11 = 1u; v12 = 4u; v13 = 0u; goto L21;
+    v4 = ADDRESS(c130); v5 = 15u; v6 = 0u; v7 = 1u; v8 = 1u; v9 = 0u; v10 = 1u; v11 = 1u; v12 = 4u; v13 = 0u; goto L21;
 L5:;
-    v4 = ADDRESS(c125); v5 = 24u; v6 = 0u; v7 = 1u; v8 = 1u; v9 = 0u; v10 = 1u; v11 = 1u; v12 = 5u; v13 = 0u; goto L21;
+    v4 = ADDRESS(c131); v5 = 24u; v6 = 0u; v7 = 1u; v8 = 1u; v9 = 0u; v10 = 1u; v11 = 1u; v12 = 5u; v13 = 0u; goto L21;
 L6:;
-    v4 = ADDRESS(c126); v5 = 13u; v6 = 4u; v7 = 2u; v8 = 0u; v9 = 1u; v10 = 1u; v11 = 1u; v12 = 6u; v13 = 0u; goto L21;
+    v4 = ADDRESS(c132); v5 = 13u; v6 = 4u; v7 = 2u; v8 = 0u; v9 = 1u; v10 = 1u; v11 = 1u; v12 = 6u; v13 = 0u; goto L21;
 L7:;
-    v4 = ADDRESS(c127); v5 = 9u; v6 = 0u; v7 = 1u; v8 = 1u; v9 = 0u; v10 = 1u; v11 = 3u; v12 = 7u; v13 = 0u; goto L21;
+    v4 = ADDRESS(c133); v5 = 9u; v6 = 0u; v7 = 1u; v8 = 1u; v9 = 0u; v10 = 1u; v11 = 3u; v12 = 7u; v13 = 0u; goto L21;
 L8:;
-    v4 = ADDRESS(c128); v5 = 9u; v6 = 0u; v7 = 1u; v8 = 1u; v9 = 0u; v10 = 1u; v11 = 3u; v12 = 8u; v13 = 0u; goto L21;
+    v4 = ADDRESS(c134); v5 = 9u; v6 = 0u; v7 = 1u; v8 = 1u; v9 = 0u; v10 = 1u; v11 = 3u; v12 = 8u; v13 = 0u; goto L21;
 L9:;
-    v4 = ADDRESS(c129); v5 = 6u; v6 = 0u; v7 = 1u; v8 = 1u; v9 = 0u; v10 = 1u; v11 = 3u; v12 = 9u; v13 = 0u; goto L21;
+    v4 = ADDRESS(c135); v5 = 6u; v6 = 0u; v7 = 1u; v8 = 1u; v9 = 0u; v10 = 1u; v11 = 3u; v12 = 9u; v13 = 0u; goto L21;
 L10:;
-    v4 = ADDRESS(c130); v5 = 10u; v6 = 0u; v7 = 1u; v8 = 1u; v9 = 0u; v10 = 1u; v11 = 1u; v12 = 10u; v13 = 0u; goto L21;
+    v4 = ADDRESS(c136); v5 = 10u; v6 = 0u; v7 = 1u; v8 = 1u; v9 = 0u; v10 = 1u; v11 = 1u; v12 = 10u; v13 = 0u; goto L21;
 L11:;
-    v4 = ADDRESS(c136); v5 = 21u; v6 = 4u; v7 = 2u; v8 = 0u; v9 = 1u; v10 = 1u; v11 = 3u; v12 = 11u; v13 = 0u; goto L21;
+    v4 = ADDRESS(c142); v5 = 21u; v6 = 4u; v7 = 2u; v8 = 0u; v9 = 1u; v10 = 1u; v11 = 3u; v12 = 11u; v13 = 0u; goto L21;
 L12:;
-    v4 = ADDRESS(c138); v5 = 24u; v6 = 4u; v7 = 2u; v8 = 0u; v9 = 1u; v10 = 1u; v11 = 3u; v12 = 11u; v13 = 1u; goto L21;
+    v4 = ADDRESS(c144); v5 = 24u; v6 = 4u; v7 = 2u; v8 = 0u; v9 = 1u; v10 = 1u; v11 = 3u; v12 = 11u; v13 = 1u; goto L21;
 L13:;
-    v4 = ADDRESS(c140); v5 = 17u; v6 = 4u; v7 = 2u; v8 = 0u; v9 = 1u; v10 = 1u; v11 = 3u; v12 = 11u; v13 = 2u; goto L21;
+    v4 = ADDRESS(c146); v5 = 17u; v6 = 4u; v7 = 2u; v8 = 0u; v9 = 1u; v10 = 1u; v11 = 3u; v12 = 11u; v13 = 2u; goto L21;
 L14:;
-    v4 = ADDRESS(c131); v5 = 14u; v6 = 4u; v7 = 2u; v8 = 0u; v9 = 1u; v10 = 1u; v11 = 1u; v12 = 12u; v13 = 0u; goto L21;
+    v4 = ADDRESS(c137); v5 = 14u; v6 = 4u; v7 = 2u; v8 = 0u; v9 = 1u; v10 = 1u; v11 = 1u; v12 = 12u; v13 = 0u; goto L21;
 L15:;
-    v4 = ADDRESS(c132); v5 = 11u; v6 = 4u; v7 = 2u; v8 = 0u; v9 = 1u; v10 = 0u; v11 = 4u; v12 = 13u; v13 = 0u; goto L21;
+    v4 = ADDRESS(c138); v5 = 11u; v6 = 4u; v7 = 2u; v8 = 0u; v9 = 1u; v10 = 0u; v11 = 4u; v12 = 13u; v13 = 0u; goto L21;
 L16:;
-    v4 = ADDRESS(c133); v5 = 12u; v6 = 4u; v7 = 2u; v8 = 0u; v9 = 1u; v10 = 0u; v11 = 4u; v12 = 14u; v13 = 0u; goto L21;
+    v4 = ADDRESS(c139); v5 = 12u; v6 = 4u; v7 = 2u; v8 = 0u; v9 = 1u; v10 = 0u; v11 = 4u; v12 = 14u; v13 = 0u; goto L21;
 L17:;
-    v4 = ADDRESS(c134); v5 = 14u; v6 = 0u; v7 = 1u; v8 = 1u; v9 = 0u; v10 = 1u; v11 = 3u; v12 = 15u; v13 = 0u; goto L21;
+    v4 = ADDRESS(c140); v5 = 14u; v6 = 0u; v7 = 1u; v8 = 1u; v9 = 0u; v10 = 1u; v11 = 3u; v12 = 15u; v13 = 0u; goto L21;
 L18:;
-    v4 = ADDRESS(c135); v5 = 14u; v6 = 0u; v7 = 1u; v8 = 1u; v9 = 0u; v10 = 1u; v11 = 3u; v12 = 16u; v13 = 0u; goto L21;
+    v4 = ADDRESS(c141); v5 = 14u; v6 = 0u; v7 = 1u; v8 = 1u; v9 = 0u; v10 = 1u; v11 = 3u; v12 = 16u; v13 = 0u; goto L21;
 L19:;
-    v4 = ADDRESS(c142); v5 = 15u; v6 = 4u; v7 = 2u; v8 = 0u; v9 = 1u; v10 = 1u; v11 = 3u; v12 = 11u; v13 = 3u; goto L21;
+    v4 = ADDRESS(c148); v5 = 15u; v6 = 4u; v7 = 2u; v8 = 0u; v9 = 1u; v10 = 1u; v11 = 3u; v12 = 11u; v13 = 3u; goto L21;
 L20:;
-    v4 = ADDRESS(c144); v5 = 27u; v6 = 4u; v7 = 2u; v8 = 0u; v9 = 1u; v10 = 1u; v11 = 3u; v12 = 11u; v13 = 4u; goto L21;
+    v4 = ADDRESS(c150); v5 = 27u; v6 = 4u; v7 = 2u; v8 = 0u; v9 = 1u; v10 = 1u; v11 = 3u; v12 = 11u; v13 = 4u; goto L21;
 L21:;
     memory_set(v28, 0u, 6u);
     memory_cpy(v30, v28, 6u);
@@ -6766,7 +6837,7 @@ L48:;
     store8(v79, v17);
     v80 = v27 + 3u * 1u;
     store8(v80, v18);
-    v81 = f36(v27, v51, v53);
+    v81 = f35(v27, v51, v53);
     if (v81) { goto L51; }
     else { v19 = 3u; goto L49; }
 L49:;
@@ -6775,7 +6846,7 @@ L49:;
 L50:;
     goto L51;
 L51:;
-    f37(a0, v12, v13, a1);
+    f36(a0, v12, v13, a1);
     if (v8) { goto L53; }
     else { v25 = 0u; v26 = 0u; goto L68; }
 L52:;
@@ -6799,7 +6870,7 @@ L52:;
     v97 = v96 + 2u * 1u;
     store16(v97, 60u);
     v98 = v96 + 4u * 1u;
-    f35(a3, v84, v89, v91, v98);
+    f34(a3, v84, v89, v91, v98);
     v99 = load64(v93);
     v100 = (u64)((u64)v99 + (u64)1u);
     store64(v93, v100);
@@ -6936,10 +7007,10 @@ L66:;
     store64(v138, v160);
     goto L69;
 L67:;
-    f39(a0, v12, a3);
+    f38(a0, v12, a3);
     goto L69;
 L68:;
-    f41(a0, v29, a1, v26, v25, a3);
+    f40(a0, v29, a1, v26, v25, a3);
     goto L69;
 L69:;
     return;
@@ -6961,14 +7032,14 @@ L70:;
     v173 = v172 + 2u * 1u;
     store16(v173, 60u);
     v174 = v172 + 4u * 1u;
-    f35(a3, v163, 2u, v167, v174);
+    f34(a3, v163, 2u, v167, v174);
     v175 = load64(v169);
     v176 = (u64)((u64)v175 + (u64)1u);
     store64(v169, v176);
     goto L69;
 }
 
-static void f35(address a0, u16 a1, u16 a2, u16 a3, address a4) {
+static void f34(address a0, u16 a1, u16 a2, u16 a3, address a4) {
     u64 v5, v7, v8, v9, v14, v16, v17;
     address v6, v11, v12, v19, v20, v21, v23, v25, v26, v28;
     u8 v10, v13, v15, v18;
@@ -6994,7 +7065,7 @@ L2:;
     else { v5 = v14; goto L2; }
 L3:;
     v16 = (u64)v6;
-    v17 = (u64)((u64)v16 - (u64)ADDRESS(c147));
+    v17 = (u64)((u64)v16 - (u64)ADDRESS(c153));
     v18 = v17 < 12u;
     if (v18) { goto L4; }
     else { goto L5; }
@@ -7006,7 +7077,7 @@ L4:;
     store32(v20, 0u);
     goto L6;
 L5:;
-    memory_cpy(v6, ADDRESS(c147), 12u);
+    memory_cpy(v6, ADDRESS(c153), 12u);
     goto L6;
 L6:;
     v21 = a4 + 50u * 1u;
@@ -7025,7 +7096,7 @@ L6:;
     return;
 }
 
-static u8 f36(address a0, address a1, u64 a2) {
+static u8 f35(address a0, address a1, u64 a2) {
     address v3, v6, v8, v10, v12, v15, v29;
     u64 v4, v17;
     u8 v5, v7, v9, v11, v13, v14, v16, v18, v19, v20, v21, v25, v27, v28, v30, v31;
@@ -7067,7 +7138,7 @@ L3:;
     else { v3 = v15; v4 = v17; goto L4; }
 L4:;
     memory_set(v6, 0u, 24u);
-    f28(v6, v3, v4);
+    f27(v6, v3, v4);
     v19 = load8(v6);
     v20 = v19 == 0u;
     v5 = v20; goto L13;
@@ -7126,7 +7197,7 @@ L14:;
     UNREACHABLE;
 }
 
-static void f37(address a0, u8 a1, u8 a2, address a3) {
+static void f36(address a0, u8 a1, u8 a2, address a3) {
     u64 v4, v6, v7, v18, v22, v24, v25, v26, v28, v30, v33, v34, v36, v37, v38, v43;
     u64 v46, v51, v52, v58, v59, v65, v66;
     address v5, v8, v9, v10, v11, v13, v15, v16, v17, v20, v23, v27, v31, v32, v40, v41;
@@ -7197,7 +7268,7 @@ L4:;
     if (v29) { v6 = v26; goto L6; }
     else { goto L5; }
 L5:;
-    f31(v23, v26);
+    f30(v23, v26);
     v30 = load64(v27);
     v6 = v30; goto L6;
 L6:;
@@ -7325,7 +7396,7 @@ L24:;
     store8(v91, a2);
     v92 = v11 + 2u * 1u;
     store8(v92, v90);
-    f38(a0, v14, v11);
+    f37(a0, v14, v11);
     goto L26;
 L25:;
     UNREACHABLE;
@@ -7365,7 +7436,7 @@ L29:;
     store8(v10, 2u);
     v8 = v10; goto L30;
 L30:;
-    f38(a0, v94, v8);
+    f37(a0, v94, v8);
     goto L32;
 L31:;
     UNREACHABLE;
@@ -7377,7 +7448,7 @@ L34:;
     UNREACHABLE;
 }
 
-static void f38(address a0, u16 a1, address a2) {
+static void f37(address a0, u16 a1, address a2) {
     u64 v3, v4, v15, v18, v19, v27, v29, v30, v33, v41, v44, v45, v53, v55, v56, v59;
     u8 v5, v7, v9, v11, v12, v16, v17, v24, v25, v28, v36, v37, v42, v43, v50, v51;
     u8 v54, v62, v63;
@@ -7555,7 +7626,7 @@ L33:;
     return;
 }
 
-static void f39(address a0, u8 a1, address a2) {
+static void f38(address a0, u8 a1, address a2) {
     u64 v3, v4, v5, v6, v11, v19, v20, v27, v28, v29, v34, v36, v37, v38, v43, v52;
     u64 v53, v55, v63, v64, v71, v72, v73, v78, v80, v81, v82, v87, v96, v97;
     address v7, v9, v10, v12, v13, v15, v16, v17, v18, v21, v24, v25, v26, v31, v32, v40;
@@ -7644,7 +7715,7 @@ L7:;
     goto L15;
 L8:;
     memory_set(v7, 0u, 144u);
-    f40(a0, a1, v7);
+    f39(a0, a1, v7);
     v54 = v7 + 136u * 1u;
     v55 = load64(v54);
     v56 = a2 + 58u * 1u;
@@ -7721,7 +7792,7 @@ L15:;
     return;
 }
 
-static void f40(address a0, u8 a1, address a2) {
+static void f39(address a0, u8 a1, address a2) {
     u64 v3, v5, v6, v7, v8, v9, v10, v11, v12, v13, v14, v15, v19, v20, v24, v27;
     u64 v29, v30, v33, v34, v35, v40, v42, v46, v48, v51, v52, v58, v59, v63, v64, v75;
     u64 v76, v82, v87, v88, v91, v92, v93, v117, v118, v119, v125, v127, v128, v134, v135, v138;
@@ -8335,7 +8406,7 @@ L62:;
     UNREACHABLE;
 }
 
-static void f41(address a0, address a1, address a2, u8 a3, u8 a4, address a5) {
+static void f40(address a0, address a1, address a2, u8 a3, u8 a4, address a5) {
     u16 v6, v7, v21, v29, v30, v48, v50, v51, v59, v64, v82, v83, v100, v101, v107, v108;
     u16 v109, v110, v114, v138, v139, v144, v162, v163, v182, v200, v202, v203, v208, v226, v227;
     u64 v8, v9, v10, v12, v13, v14, v17, v18, v26, v28, v40, v42, v43, v44, v54, v55;
@@ -8386,7 +8457,7 @@ L3:;
     v42 = (u64)v7;
     v43 = (u64)v30;
     v44 = (u64)a4;
-    v45 = ADDRESS(c373) + v44 * 2u;
+    v45 = ADDRESS(c379) + v44 * 2u;
     v8 = v42; goto L4;
 L4:;
     v46 = load8(v32);
@@ -8409,7 +8480,7 @@ L5:;
     store16(v57, 60u);
     v58 = v56 + 4u * 1u;
     v59 = (u16)(v8);
-    f35(a5, v59, v50, v51, v58);
+    f34(a5, v59, v50, v51, v58);
     v60 = load64(v53);
     v61 = (u64)((u64)v60 + (u64)1u);
     store64(v53, v61);
@@ -8751,7 +8822,7 @@ L41:;
     return;
 }
 
-static void f42(address a0, address a1, address a2) {
+static void f41(address a0, address a1, address a2) {
     u64 v3, v4, v7, v9, v11, v12, v16, v22, v24, v27, v34, v35, v37, v41, v55, v56;
     u64 v108, v109, v120, v124, v127, v131, v161, v209, v210, v215, v216, v220, v221, v278, v279, v360;
     u64 v365;
@@ -8982,7 +9053,7 @@ L19:;
     v163 = v12 >= v7;
     v13 = v163; goto L21;
 L20:;
-    v164 = f44(v8, v7, v10, v7);
+    v164 = f43(v8, v7, v10, v7);
     v13 = v164; goto L21;
 L21:;
     v165 = (u8)(((u32)v13 ^ (u32)1u) & UINT64_C(1));
@@ -9233,7 +9304,7 @@ L25:;
     return;
 }
 
-static u8 f43(address a0, u64 a1) {
+static u8 f42(address a0, u64 a1) {
     address v2, v3, v4, v7, v8, v11, v12, v15, v16, v19, v20, v23, v24, v27, v28, v31;
     address v32, v37, v38, v42, v43, v47, v48, v52, v53, v57, v58, v62, v63, v67, v68, v72;
     address v73, v77, v78, v82, v83, v87, v88, v92, v93, v97, v98, v102, v103, v107, v108, v112;
@@ -9468,7 +9539,7 @@ static u8 f43(address a0, u64 a1) {
     return v217;
 }
 
-static u8 f44(address a0, u64 a1, address a2, u64 a3) {
+static u8 f43(address a0, u64 a1, address a2, u64 a3) {
     u8 v4, v6, v9, v13, v15, v17, v22, v23, v24, v27, v28, v31, v32, v35, v36, v40;
     u8 v41, v42, v46, v47, v48, v49, v53, v54, v55, v56, v60, v61, v62, v63, v64, v65;
     u8 v66, v67, v68, v69, v70, v71, v72, v73, v74, v78, v79, v80, v81, v83, v88, v89;
@@ -9546,7 +9617,7 @@ L2:;
     if (v72) { goto L3; }
     else { goto L4; }
 L3:;
-    v73 = f43(v18, a1);
+    v73 = f42(v18, a1);
     v17 = v73; goto L22;
 L4:;
     v74 = a1 < 65u;
@@ -9660,342 +9731,425 @@ L22:;
     return v133;
 }
 
-static void f45(address a0, address a1, u16 a2, address a3, u64 a4, address a5, u64 a6) {
-    u32 v7, v16, v135;
-    u16 v8, v53, v54, v55, v56, v63, v64, v65, v75, v76, v77, v78, v88, v92, v98, v99;
-    u16 v100, v101, v117, v118, v119, v120, v149, v159, v160;
-    u64 v9, v11, v15, v17, v48, v58, v67, v70, v85, v87, v105, v106, v112, v114, v116, v132;
-    u64 v133, v142, v147, v152, v174, v175, v176;
-    address v10, v12, v13, v18, v19, v20, v21, v22, v23, v24, v25, v26, v27, v28, v29, v30;
-    address v33, v34, v37, v41, v43, v47, v49, v51, v57, v59, v61, v66, v69, v71, v73, v82;
-    address v86, v90, v93, v94, v96, v102, v107, v109, v111, v113, v115, v121, v122, v123, v124, v125;
-    address v126, v130, v136, v137, v139, v141, v144, v145, v146, v148, v151, v155, v162, v163, v164, v165;
-    address v168, v169, v170, v171, v172, v173, v177, v178, v179, v180, v181;
-    u8 v14, v31, v32, v35, v36, v38, v39, v40, v42, v44, v45, v46, v50, v52, v60, v62;
-    u8 v68, v72, v74, v79, v80, v81, v83, v84, v89, v91, v95, v97, v103, v104, v108, v110;
-    u8 v128, v129, v131, v134, v138, v140, v143, v150, v153, v154, v156, v157, v158, v161, v166, v167;
-    struct s1 v127;
+static void f44(address a0, address a1, u16 a2, address a3, u64 a4, address a5, u64 a6) {
+    u8 v7, v8, v9, v10, v11, v19, v36, v37, v38, v39, v41, v42, v43, v45, v47, v53;
+    u8 v55, v56, v58, v60, v65, v67, v68, v70, v74, v78, v80, v81, v82, v83, v84, v86;
+    u8 v87, v89, v91, v93, v94, v103, v105, v106, v107, v109, v111, v112, v113, v117, v119, v127;
+    u8 v129, v135, v139, v141, v146, v147, v148, v150, v151, v156, v160, v162, v167, v171, v173, v189;
+    u8 v190, v193, v197, v199, v202, v209, v212, v213, v215, v216, v217, v220, v225, v226;
+    u32 v12, v21, v194;
+    u16 v13, v48, v49, v50, v51, v54, v61, v62, v63, v64, v120, v121, v122, v123, v130, v131;
+    u16 v132, v142, v143, v144, v145, v155, v157, v163, v164, v165, v166, v178, v179, v180, v181, v208;
+    u16 v218, v219;
+    u64 v14, v16, v20, v22, v52, v71, v72, v75, v76, v77, v79, v95, v96, v97, v98, v115;
+    u64 v125, v134, v137, v152, v154, v168, v169, v175, v177, v191, v192, v201, v206, v211, v233, v234;
+    u64 v235;
+    address v15, v17, v18, v23, v24, v25, v26, v27, v28, v29, v30, v31, v32, v33, v34, v35;
+    address v40, v44, v46, v57, v59, v66, v69, v73, v85, v88, v90, v92, v99, v100, v101, v102;
+    address v104, v108, v110, v114, v116, v118, v124, v126, v128, v133, v136, v138, v140, v149, v153, v158;
+    address v159, v161, v170, v172, v174, v176, v182, v183, v184, v185, v186, v187, v195, v196, v198, v200;
+    address v203, v204, v205, v207, v210, v214, v221, v222, v223, v224, v227, v228, v229, v230, v231, v232;
+    address v236, v237, v238, v239, v240;
+    struct s1 v188;
     u64 block0[1];
     u64 block1[9];
     u64 block2[8];
     u64 block3[2];
     u64 block4[3];
-    u64 block5[3];
-    u64 block6[8];
-    u64 block7[4];
+    u64 block5[1];
+    u64 block6[3];
+    u64 block7[8];
     u64 block8[8];
     u64 block9[3];
     u64 block10[8];
-    v18 = ADDRESS(block0);
-    v19 = ADDRESS(block1);
-    v20 = ADDRESS(block2);
-    v21 = ADDRESS(block3);
-    v22 = ADDRESS(block4);
-    v23 = ADDRESS(block5);
-    v24 = ADDRESS(block6);
-    v25 = ADDRESS(block7);
-    v26 = ADDRESS(block8);
-    v27 = ADDRESS(block9);
-    v28 = ADDRESS(block10);
-    memory_set(v28, 0u, 64u);
-    store_address(v27, a5);
-    v29 = v27 + 8u * 1u;
-    store64(v29, a6);
-    v30 = v27 + 16u * 1u;
-    store64(v30, 0u);
-    memory_set(v26, 0u, 64u);
-    memory_set(v24, 0u, 64u);
-    memory_set(v25, 0u, 32u);
-    f8(v25, a3, a4);
-    v31 = load8(v25);
-    v32 = v31 == 0u;
-    if (v32) { goto L1; }
-    else { goto L17; }
+    v23 = ADDRESS(block0);
+    v24 = ADDRESS(block1);
+    v25 = ADDRESS(block2);
+    v26 = ADDRESS(block3);
+    v27 = ADDRESS(block4);
+    v28 = ADDRESS(block5);
+    v29 = ADDRESS(block6);
+    v30 = ADDRESS(block7);
+    v31 = ADDRESS(block8);
+    v32 = ADDRESS(block9);
+    v33 = ADDRESS(block10);
+    memory_set(v33, 0u, 64u);
+    store_address(v32, a5);
+    v34 = v32 + 8u * 1u;
+    store64(v34, a6);
+    v35 = v32 + 16u * 1u;
+    store64(v35, 0u);
+    memory_set(v31, 0u, 64u);
+    memory_set(v30, 0u, 64u);
+    memory_set(v28, 0u, 3u);
+    v36 = a4 < 54u;
+    if (v36) { goto L6; }
+    else { goto L1; }
 L1:;
-    v33 = v25 + 8u * 1u;
-    memory_cpy(v23, v33, 24u);
-    v34 = load_address(v23);
-    v35 = load8(v34);
-    v36 = (u8)((u32)v35 >> (4u & 7u));
-    v37 = v34 + 5u * 1u;
-    v38 = load8(v37);
-    v39 = (u8)((u32)v36 | (u32)v38);
-    v40 = v39 == 0u;
-    if (v40) { goto L2; }
-    else { v14 = 1u; goto L32; }
+    v37 = load8(a3);
+    v38 = (u8)((u32)v37 & (u32)15u);
+    v39 = v38 == 13u;
+    if (v39) { goto L2; }
+    else { goto L6; }
 L2:;
-    v41 = v34 + 4u * 1u;
-    v42 = load8(v41);
-    v43 = a1 + 8u * 1u;
-    v44 = load8(v43);
-    v45 = v42 == v44;
-    if (v45) { goto L5; }
-    else { goto L3; }
+    v40 = a3 + 1u * 1u;
+    v41 = load8(v40);
+    v42 = (u8)((u32)v41 & (u32)15u);
+    v43 = v42 == 2u;
+    if (v43) { goto L3; }
+    else { goto L6; }
 L3:;
-    v46 = f46(a1, v23);
-    if (v46) { goto L4; }
-    else { v14 = 1u; goto L32; }
+    v44 = a3 + 2u * 1u;
+    v45 = load8(v44);
+    v46 = a3 + 3u * 1u;
+    v47 = load8(v46);
+    v48 = (u16)v45;
+    v49 = (u16)((u32)v48 << (8u & 15u));
+    v50 = (u16)v47;
+    v51 = (u16)((u32)v49 | (u32)v50);
+    v52 = (u64)v51;
+    v53 = a4 < v52;
+    v54 = (u16)((u32)v51 + (u32)64063u);
+    v55 = v54 < 64117u;
+    v56 = (u8)(((u32)v55 | (u32)v53) & UINT64_C(1));
+    if (v56) { goto L6; }
+    else { goto L4; }
 L4:;
-    v47 = v34 + 20u * 1u;
-    v48 = load64(v47);
-    v49 = v34 + 28u * 1u;
-    v50 = load8(v49);
-    v51 = v34 + 29u * 1u;
-    v52 = load8(v51);
-    v53 = (u16)v50;
-    v54 = (u16)((u32)v53 << (8u & 15u));
-    v55 = (u16)v52;
-    v56 = (u16)((u32)v54 | (u32)v55);
-    v8 = v56; v9 = v48; goto L22;
-L5:;
-    v57 = v34 + 20u * 1u;
-    v58 = load64(v57);
-    v59 = v34 + 28u * 1u;
+    v57 = a3 + 48u * 1u;
+    v58 = load8(v57);
+    v59 = a3 + 49u * 1u;
     v60 = load8(v59);
-    v61 = v34 + 29u * 1u;
-    v62 = load8(v61);
+    v61 = (u16)v58;
+    v62 = (u16)((u32)v61 << (8u & 15u));
     v63 = (u16)v60;
-    v64 = (u16)((u32)v63 << (8u & 15u));
-    v65 = (u16)v62;
-    v66 = a1 + 384u * 1u;
-    v67 = load64(v66);
-    v68 = v58 == v67;
-    if (v68) { v14 = 2u; goto L32; }
+    v64 = (u16)((u32)v62 | (u32)v63);
+    v65 = v64 == 1u;
+    if (v65) { goto L5; }
+    else { goto L6; }
+L5:;
+    v66 = a3 + 46u * 1u;
+    v67 = load8(v66);
+    v68 = (u8)((u32)v67 & (u32)15u);
+    v69 = a3 + 50u * 1u;
+    v70 = load8(v69);
+    v71 = (u64)v70;
+    v72 = (u64)((u64)v71 << (8u & 63u));
+    v73 = a3 + 51u * 1u;
+    v74 = load8(v73);
+    v75 = (u64)v74;
+    v76 = (u64)((u64)v72 | (u64)v75);
+    v77 = (u64)((u64)v76 + (u64)52u);
+    v78 = v77 == v52;
+    v79 = (u64)((u64)v52 & (u64)1u);
+    v80 = v79 == 0u;
+    v81 = (u8)(((u32)v80 & (u32)v78) & UINT64_C(1));
+    v82 = v68 < 5u;
+    v83 = v81 ? v82 : 0u;
+    if (v83) { v7 = v37; v8 = v47; v9 = v45; v10 = v68; v11 = 0u; goto L8; }
     else { goto L6; }
 L6:;
-    v69 = v34 + 34u * 1u;
-    v70 = load64(v69);
-    v71 = v34 + 42u * 1u;
-    v72 = load8(v71);
-    v73 = v34 + 43u * 1u;
-    v74 = load8(v73);
-    v75 = (u16)v72;
-    v76 = (u16)((u32)v75 << (8u & 15u));
-    v77 = (u16)v74;
-    v78 = (u16)((u32)v76 | (u32)v77);
-    v79 = v70 == v67;
-    v80 = v70 == UINT64_C(18446744073709551615);
-    v81 = (u8)(((u32)v80 | (u32)v79) & UINT64_C(1));
-    if (v81) { goto L7; }
-    else { v14 = 3u; goto L32; }
+    f8(v28, a3, a4);
+    v84 = load8(v28);
+    v85 = v28 + 1u * 1u;
+    v86 = load8(v85);
+    v87 = v84 == 0u;
+    if (v87) { goto L7; }
+    else { goto L24; }
 L7:;
-    switch (v78) {
-    case 65535u: goto L9;
-    case 0u: v14 = 3u; goto L32;
-    default: goto L8;
-    }
-L8:;
-    v82 = a1 + 240u * 1u;
-    v83 = load8(v82);
-    v84 = v83 == 0u;
-    v85 = v84 ? 376u : 256u;
-    v86 = a1 + v85 * 1u;
-    v87 = load64(v86);
-    v88 = (u16)(v87);
-    v89 = v78 > v88;
-    if (v89) { v14 = 3u; goto L32; }
-    else { goto L9; }
-L9:;
-    v90 = v23 + 16u * 1u;
+    v88 = v28 + 2u * 1u;
+    v89 = load8(v88);
+    v90 = a3 + 2u * 1u;
     v91 = load8(v90);
-    switch (v91) {
-    case 2u: v14 = 4u; goto L32;
-    case 4u: v14 = 4u; goto L32;
-    case 0u: goto L11;
-    case 1u: goto L11;
-    case 3u: goto L11;
-    default: goto L10;
-    }
+    v92 = a3 + 3u * 1u;
+    v93 = load8(v92);
+    v94 = load8(a3);
+    v7 = v94; v8 = v93; v9 = v91; v10 = v86; v11 = v89; goto L8;
+L8:;
+    v95 = (u64)v9;
+    v96 = (u64)((u64)v95 << (8u & 63u));
+    v97 = (u64)v8;
+    v98 = (u64)((u64)v96 | (u64)v97);
+    store_address(v29, a3);
+    v99 = v29 + 8u * 1u;
+    store64(v99, v98);
+    v100 = v29 + 16u * 1u;
+    store8(v100, v10);
+    v101 = v29 + 17u * 1u;
+    store8(v101, v11);
+    v102 = v29 + 18u * 1u;
+    memory_set(v102, 0u, 6u);
+    v103 = (u8)((u32)v7 >> (4u & 7u));
+    v104 = a3 + 5u * 1u;
+    v105 = load8(v104);
+    v106 = (u8)((u32)v103 | (u32)v105);
+    v107 = v106 == 0u;
+    if (v107) { goto L9; }
+    else { v19 = 1u; goto L39; }
+L9:;
+    v108 = a3 + 4u * 1u;
+    v109 = load8(v108);
+    v110 = a1 + 8u * 1u;
+    v111 = load8(v110);
+    v112 = v109 == v111;
+    if (v112) { goto L12; }
+    else { goto L10; }
 L10:;
-    UNREACHABLE;
+    v113 = f45(a1, v29);
+    if (v113) { goto L11; }
+    else { v19 = 1u; goto L39; }
 L11:;
-    if (v79) { goto L13; }
-    else { goto L12; }
+    v114 = a3 + 20u * 1u;
+    v115 = load64(v114);
+    v116 = a3 + 28u * 1u;
+    v117 = load8(v116);
+    v118 = a3 + 29u * 1u;
+    v119 = load8(v118);
+    v120 = (u16)v117;
+    v121 = (u16)((u32)v120 << (8u & 15u));
+    v122 = (u16)v119;
+    v123 = (u16)((u32)v121 | (u32)v122);
+    v13 = v123; v14 = v115; goto L29;
 L12:;
-    v14 = 9u; goto L32;
+    v124 = a3 + 20u * 1u;
+    v125 = load64(v124);
+    v126 = a3 + 28u * 1u;
+    v127 = load8(v126);
+    v128 = a3 + 29u * 1u;
+    v129 = load8(v128);
+    v130 = (u16)v127;
+    v131 = (u16)((u32)v130 << (8u & 15u));
+    v132 = (u16)v129;
+    v133 = a1 + 384u * 1u;
+    v134 = load64(v133);
+    v135 = v125 == v134;
+    if (v135) { v19 = 2u; goto L39; }
+    else { goto L13; }
 L13:;
-    v92 = (u16)((u32)v64 | (u32)v65);
-    store64(v21, v58);
-    v93 = v21 + 8u * 1u;
-    store16(v93, v92);
-    v94 = v34 + 30u * 1u;
-    v95 = load8(v94);
-    v96 = v34 + 31u * 1u;
-    v97 = load8(v96);
-    v98 = (u16)v95;
-    v99 = (u16)((u32)v98 << (8u & 15u));
-    v100 = (u16)v97;
-    v101 = (u16)((u32)v99 | (u32)v100);
-    v102 = v23 + 17u * 1u;
-    v103 = load8(v102);
-    v104 = v103 == 0u;
-    v105 = v104 ? 52u : 54u;
-    v106 = v104 ? 53u : 55u;
-    v107 = v34 + v105 * 1u;
-    v108 = load8(v107);
-    v109 = v34 + v106 * 1u;
-    v110 = load8(v109);
-    v111 = v23 + 8u * 1u;
-    v112 = load64(v111);
-    v113 = v34 + 54u * 1u;
-    v114 = (u64)((u64)v112 + (u64)UINT64_C(18446744073709551562));
-    v115 = v104 ? v113 : ADDRESS(c148);
-    v116 = v104 ? v114 : 0u;
-    v117 = (u16)v108;
-    v118 = (u16)((u32)v117 << (8u & 15u));
-    v119 = (u16)v110;
-    v120 = (u16)((u32)v118 | (u32)v119);
-    store8(v22, v91);
-    v121 = v22 + 1u * 1u;
-    store8(v121, 0u);
-    v122 = v22 + 2u * 1u;
-    store16(v122, v120);
-    v123 = v22 + 4u * 1u;
-    store16(v123, v78);
-    v124 = v22 + 6u * 1u;
-    store16(v124, 0u);
-    v125 = v22 + 8u * 1u;
-    store_address(v125, v115);
-    v126 = v22 + 16u * 1u;
-    store64(v126, v116);
-    v127 = f48(v66, v21, v101, v22);
-    v128 = v127.m0;
-    v129 = v127.m1;
-    switch (v128) {
-    case 0u: v14 = 9u; goto L32;
-    case 1u: goto L18;
-    case 2u: v8 = v92; v9 = v58; goto L22;
-    case 3u: goto L14;
-    case 4u: goto L15;
-    default: goto L16;
-    }
+    v136 = a3 + 34u * 1u;
+    v137 = load64(v136);
+    v138 = a3 + 42u * 1u;
+    v139 = load8(v138);
+    v140 = a3 + 43u * 1u;
+    v141 = load8(v140);
+    v142 = (u16)v139;
+    v143 = (u16)((u32)v142 << (8u & 15u));
+    v144 = (u16)v141;
+    v145 = (u16)((u32)v143 | (u32)v144);
+    v146 = v137 == v134;
+    v147 = v137 == UINT64_C(18446744073709551615);
+    v148 = (u8)(((u32)v147 | (u32)v146) & UINT64_C(1));
+    if (v148) { goto L14; }
+    else { v19 = 3u; goto L39; }
 L14:;
-    v14 = 8u; goto L32;
+    switch (v145) {
+    case 65535u: goto L16;
+    case 0u: v19 = 3u; goto L39;
+    default: goto L15;
+    }
 L15:;
-    v14 = 7u; goto L32;
+    v149 = a1 + 240u * 1u;
+    v150 = load8(v149);
+    v151 = v150 == 0u;
+    v152 = v151 ? 376u : 256u;
+    v153 = a1 + v152 * 1u;
+    v154 = load64(v153);
+    v155 = (u16)(v154);
+    v156 = v145 > v155;
+    if (v156) { v19 = 3u; goto L39; }
+    else { goto L16; }
 L16:;
-    UNREACHABLE;
+    switch (v10) {
+    case 2u: v19 = 4u; goto L39;
+    case 4u: v19 = 4u; goto L39;
+    case 0u: goto L18;
+    case 1u: goto L18;
+    case 3u: goto L18;
+    default: goto L17;
+    }
 L17:;
-    v130 = v25 + 1u * 1u;
-    v131 = load8(v130);
-    memory_set(v26, 0u, 64u);
-    v132 = (u64)v131;
-    v133 = (u64)((u64)v132 << (8u & 63u));
-    v16 = 0u; v17 = v133; goto L34;
+    UNREACHABLE;
 L18:;
-    memory_set(v19, 0u, 68u);
-    v134 = v91 == 0u;
-    if (v134) { goto L19; }
-    else { goto L20; }
+    if (v146) { goto L20; }
+    else { goto L19; }
 L19:;
-    f50(a1, a2, v33, v129, v27);
-    memory_set(v19, 0u, 68u);
-    v7 = 0u; goto L21;
+    v19 = 9u; goto L39;
 L20:;
-    f49(v19, a1, a2, v33, v129, v27);
-    v135 = load32(v19);
-    v7 = v135; goto L21;
+    v157 = (u16)((u32)v131 | (u32)v132);
+    store64(v26, v125);
+    v158 = v26 + 8u * 1u;
+    store16(v158, v157);
+    v159 = a3 + 30u * 1u;
+    v160 = load8(v159);
+    v161 = a3 + 31u * 1u;
+    v162 = load8(v161);
+    v163 = (u16)v160;
+    v164 = (u16)((u32)v163 << (8u & 15u));
+    v165 = (u16)v162;
+    v166 = (u16)((u32)v164 | (u32)v165);
+    v167 = v11 == 0u;
+    v168 = v167 ? 52u : 54u;
+    v169 = v167 ? 53u : 55u;
+    v170 = a3 + v168 * 1u;
+    v171 = load8(v170);
+    v172 = a3 + v169 * 1u;
+    v173 = load8(v172);
+    v174 = a3 + 54u * 1u;
+    v175 = (u64)((u64)v98 + (u64)UINT64_C(18446744073709551562));
+    v176 = v167 ? v174 : ADDRESS(c155);
+    v177 = v167 ? v175 : 0u;
+    v178 = (u16)v171;
+    v179 = (u16)((u32)v178 << (8u & 15u));
+    v180 = (u16)v173;
+    v181 = (u16)((u32)v179 | (u32)v180);
+    store8(v27, v10);
+    v182 = v27 + 1u * 1u;
+    store8(v182, 0u);
+    v183 = v27 + 2u * 1u;
+    store16(v183, v181);
+    v184 = v27 + 4u * 1u;
+    store16(v184, v145);
+    v185 = v27 + 6u * 1u;
+    store16(v185, 0u);
+    v186 = v27 + 8u * 1u;
+    store_address(v186, v176);
+    v187 = v27 + 16u * 1u;
+    store64(v187, v177);
+    v188 = f47(v133, v26, v166, v27);
+    v189 = v188.m0;
+    v190 = v188.m1;
+    switch (v189) {
+    case 0u: v19 = 9u; goto L39;
+    case 1u: goto L25;
+    case 2u: v13 = v157; v14 = v125; goto L29;
+    case 3u: goto L21;
+    case 4u: goto L22;
+    default: goto L23;
+    }
 L21:;
-    v136 = v19 + 4u * 1u;
-    memory_cpy(v20, v136, 64u);
-    memory_cpy(v24, v20, 64u);
-    memory_cpy(v26, v24, 64u);
-    v16 = v7; v17 = 5u; goto L34;
+    v19 = 8u; goto L39;
 L22:;
-    v137 = v34 + 44u * 1u;
-    v138 = load8(v137);
-    v139 = v34 + 45u * 1u;
-    v140 = load8(v139);
-    v141 = a1 + 400u * 1u;
-    v142 = load64(v141);
-    v143 = v142 == 0u;
-    if (v143) { goto L27; }
-    else { goto L23; }
+    v19 = 7u; goto L39;
 L23:;
-    v144 = a1 + 392u * 1u;
-    v145 = load_address(v144);
-    v10 = v145; v11 = v142; goto L24;
+    UNREACHABLE;
 L24:;
-    v146 = v10 + 2144u * 1u;
-    v147 = (u64)((u64)v11 + (u64)UINT64_C(18446744073709551615));
-    v148 = v10 + 2120u * 1u;
-    v149 = load16(v148);
-    v150 = v8 == v149;
-    if (v150) { goto L25; }
-    else { goto L26; }
+    memory_set(v31, 0u, 64u);
+    v191 = (u64)v86;
+    v192 = (u64)((u64)v191 << (8u & 63u));
+    v21 = 0u; v22 = v192; goto L41;
 L25:;
-    v151 = v10 + 2112u * 1u;
-    v152 = load64(v151);
-    v153 = v9 == v152;
-    if (v153) { goto L28; }
-    else { goto L26; }
+    memory_set(v24, 0u, 68u);
+    v193 = v10 == 0u;
+    if (v193) { goto L26; }
+    else { goto L27; }
 L26:;
-    v154 = v147 == 0u;
-    if (v154) { goto L27; }
-    else { v10 = v146; v11 = v147; goto L24; }
+    f49(a1, a2, v29, v190, v32);
+    memory_set(v24, 0u, 68u);
+    v12 = 0u; goto L28;
 L27:;
+    f48(v24, a1, a2, v29, v190, v32);
+    v194 = load32(v24);
+    v12 = v194; goto L28;
+L28:;
+    v195 = v24 + 4u * 1u;
+    memory_cpy(v25, v195, 64u);
+    memory_cpy(v30, v25, 64u);
+    memory_cpy(v31, v30, 64u);
+    v21 = v12; v22 = 5u; goto L41;
+L29:;
+    v196 = a3 + 44u * 1u;
+    v197 = load8(v196);
+    v198 = a3 + 45u * 1u;
+    v199 = load8(v198);
+    v200 = a1 + 400u * 1u;
+    v201 = load64(v200);
+    v202 = v201 == 0u;
+    if (v202) { goto L34; }
+    else { goto L30; }
+L30:;
+    v203 = a1 + 392u * 1u;
+    v204 = load_address(v203);
+    v15 = v204; v16 = v201; goto L31;
+L31:;
+    v205 = v15 + 2144u * 1u;
+    v206 = (u64)((u64)v16 + (u64)UINT64_C(18446744073709551615));
+    v207 = v15 + 2120u * 1u;
+    v208 = load16(v207);
+    v209 = v13 == v208;
+    if (v209) { goto L32; }
+    else { goto L33; }
+L32:;
+    v210 = v15 + 2112u * 1u;
+    v211 = load64(v210);
+    v212 = v14 == v211;
+    if (v212) { goto L35; }
+    else { goto L33; }
+L33:;
+    v213 = v206 == 0u;
+    if (v213) { goto L34; }
+    else { v15 = v205; v16 = v206; goto L31; }
+L34:;
     TRAP;
     UNREACHABLE;
-L28:;
-    store64(v18, 0u);
-    v155 = v10 + 2129u * 1u;
-    v156 = load8(v155);
-    v157 = (u8)((v156) & UINT64_C(1));
-    v158 = (u8)(((u32)v157 ^ (u32)1u) & UINT64_C(1));
-    v159 = v157 ? 0u : a2;
-    v160 = (u16)v158;
-    v161 = v138 > v140 ? (u8)((u32)v138 - (u32)v140) : 0u;
-    store8(v18, v42);
-    v162 = v18 + 2u * 1u;
-    store16(v162, v160);
-    v163 = v18 + 4u * 1u;
-    store16(v163, v159);
-    v164 = v18 + 6u * 1u;
-    store8(v164, v161);
-    v165 = v10 + 1432u * 1u;
-    v166 = load8(v165);
-    v167 = v166 == 0u;
-    v168 = v10 + 1440u * 1u;
-    if (v167) { goto L29; }
-    else { goto L30; }
-L29:;
-    v169 = v10 + 1456u * 1u;
-    v12 = v168; v13 = v169; goto L31;
-L30:;
-    v170 = load_address(v168);
-    v171 = v10 + 1464u * 1u;
-    v172 = load_address(v171);
-    v12 = v170; v13 = v172; goto L31;
-L31:;
-    v173 = v10 + 1448u * 1u;
-    v174 = load64(v173);
-    f55(v12, v174, v13, v18, a2, v27);
-    v15 = 6u; goto L33;
-L32:;
-    f56(a1, v14, a2, a3, v33, v27);
-    v175 = (u64)v14;
-    v15 = v175; goto L33;
-L33:;
-    memory_set(v26, 0u, 64u);
-    v16 = 0u; v17 = v15; goto L34;
-L34:;
-    memory_cpy(v28, v26, 64u);
-    v176 = load64(v30);
-    store64(a0, v17);
-    v177 = a0 + 8u * 1u;
-    store64(v177, v176);
-    v178 = a0 + 16u * 1u;
-    store64(v178, 0u);
-    v179 = a0 + 24u * 1u;
-    store32(v179, v16);
-    v180 = a0 + 28u * 1u;
-    memory_cpy(v180, v28, 64u);
-    v181 = a0 + 92u * 1u;
-    store32(v181, 0u);
+L35:;
+    store64(v23, 0u);
+    v214 = v15 + 2129u * 1u;
+    v215 = load8(v214);
+    v216 = (u8)((v215) & UINT64_C(1));
+    v217 = (u8)(((u32)v216 ^ (u32)1u) & UINT64_C(1));
+    v218 = v216 ? 0u : a2;
+    v219 = (u16)v217;
+    v220 = v197 > v199 ? (u8)((u32)v197 - (u32)v199) : 0u;
+    store8(v23, v109);
+    v221 = v23 + 2u * 1u;
+    store16(v221, v219);
+    v222 = v23 + 4u * 1u;
+    store16(v222, v218);
+    v223 = v23 + 6u * 1u;
+    store8(v223, v220);
+    v224 = v15 + 1432u * 1u;
+    v225 = load8(v224);
+    v226 = v225 == 0u;
+    v227 = v15 + 1440u * 1u;
+    if (v226) { goto L36; }
+    else { goto L37; }
+L36:;
+    v228 = v15 + 1456u * 1u;
+    v17 = v227; v18 = v228; goto L38;
+L37:;
+    v229 = load_address(v227);
+    v230 = v15 + 1464u * 1u;
+    v231 = load_address(v230);
+    v17 = v229; v18 = v231; goto L38;
+L38:;
+    v232 = v15 + 1448u * 1u;
+    v233 = load64(v232);
+    f54(v17, v233, v18, v23, a2, v32);
+    v20 = 6u; goto L40;
+L39:;
+    f55(a1, v19, a2, a3, v29, v32);
+    v234 = (u64)v19;
+    v20 = v234; goto L40;
+L40:;
+    memory_set(v31, 0u, 64u);
+    v21 = 0u; v22 = v20; goto L41;
+L41:;
+    memory_cpy(v33, v31, 64u);
+    v235 = load64(v35);
+    store64(a0, v22);
+    v236 = a0 + 8u * 1u;
+    store64(v236, v235);
+    v237 = a0 + 16u * 1u;
+    store64(v237, 0u);
+    v238 = a0 + 24u * 1u;
+    store32(v238, v21);
+    v239 = a0 + 28u * 1u;
+    memory_cpy(v239, v33, 64u);
+    v240 = a0 + 92u * 1u;
+    store32(v240, 0u);
     return;
 }
 
-static u8 f46(address a0, address a1) {
+static u8 f45(address a0, address a1) {
     address v2, v6, v7, v8, v9, v11, v13, v18, v21, v23, v25, v34, v38, v42, v45, v46;
     address v48, v54, v59, v61, v63, v65, v71, v72, v73, v74, v75, v76;
     u64 v3, v10, v19, v22, v37, v39, v57, v58, v64, v66;
@@ -10095,7 +10249,7 @@ L7:;
     v61 = v8 + v58 * 1u;
     v62 = load8(v61);
     if (v56) { goto L8; }
-    else { v2 = ADDRESS(c148); v3 = 0u; goto L9; }
+    else { v2 = ADDRESS(c155); v3 = 0u; goto L9; }
 L8:;
     v63 = a1 + 8u * 1u;
     v64 = load64(v63);
@@ -10120,7 +10274,7 @@ L9:;
     store_address(v75, v2);
     v76 = v7 + 16u * 1u;
     store64(v76, v3);
-    v77 = f48(v18, v6, v53, v7);
+    v77 = f47(v18, v6, v53, v7);
     v78 = v77.m0;
     v79 = v78 == 2u;
     v4 = v79; goto L10;
@@ -10130,7 +10284,7 @@ L11:;
     return v5;
 }
 
-static u8 f47(address a0, address a1) {
+static u8 f46(address a0, address a1) {
     u8 v2, v7, v9, v16, v17, v18, v20, v21, v26;
     address v3, v4, v6, v8, v14, v19, v23;
     u64 v5, v15, v22, v24;
@@ -10175,7 +10329,7 @@ L4:;
     return v2;
 }
 
-static struct s1 f48(address a0, address a1, u16 a2, address a3) {
+static struct s1 f47(address a0, address a1, u16 a2, address a3) {
     address v4, v10, v13, v14, v15, v17, v19, v22, v27, v30, v32, v34, v36, v43, v47, v50;
     address v53, v54, v55, v62, v63, v68, v69, v74, v75, v81, v82, v90;
     u64 v5, v6, v11, v18, v23, v24, v37, v56, v86;
@@ -10313,7 +10467,7 @@ L15:;
     if (v87) { goto L18; }
     else { v6 = v86; goto L14; }
 L16:;
-    v88 = f44(v4, v37, v54, v37);
+    v88 = f43(v4, v37, v54, v37);
     if (v88) { goto L18; }
     else { v7 = 3u; goto L21; }
 L17:;
@@ -10338,7 +10492,7 @@ L22:;
     return v93;
 }
 
-static void f49(address a0, address a1, u16 a2, address a3, u8 a4, address a5) {
+static void f48(address a0, address a1, u16 a2, address a3, u8 a4, address a5) {
     u64 v6, v20;
     address v7, v8, v9, v10, v11, v12, v13, v14, v15, v16, v17, v18, v19;
     u8 v21;
@@ -10378,15 +10532,15 @@ L1:;
     if (v21) { goto L2; }
     else { v6 = v20; goto L1; }
 L2:;
-    f33(v10, a1, v8);
+    f32(v10, a1, v8);
     memory_cpy(v9, v10, 256u);
-    f50(a1, a2, a3, a4, a5);
-    f42(v7, a1, v9);
+    f49(a1, a2, a3, a4, a5);
+    f41(v7, a1, v9);
     memory_cpy(a0, v7, 68u);
     return;
 }
 
-static void f50(address a0, u16 a1, address a2, u8 a3, address a4) {
+static void f49(address a0, u16 a1, address a2, u8 a3, address a4) {
     address v5, v7, v11, v12, v13, v14, v15, v17, v19, v21, v27, v29, v35, v37, v39, v41;
     address v46, v48, v50, v52, v54, v56, v66, v67, v68, v69, v70, v71, v72, v73, v74, v75;
     address v76, v81, v82, v83, v84, v86, v88, v90, v91, v92, v100, v101, v107, v109, v111, v112;
@@ -10448,7 +10602,7 @@ static void f50(address a0, u16 a1, address a2, u8 a3, address a4) {
     v52 = v14 + 43u * 1u;
     v53 = load8(v52);
     if (v43) { goto L1; }
-    else { v5 = ADDRESS(c148); v6 = 0u; goto L2; }
+    else { v5 = ADDRESS(c155); v6 = 0u; goto L2; }
 L1:;
     v54 = a2 + 8u * 1u;
     v55 = load64(v54);
@@ -10533,7 +10687,7 @@ L2:;
     v108 = swap16(v65);
     v109 = v13 + 52u * 1u;
     store16(v109, v108);
-    f34(a0, v12, a3, v13);
+    f33(a0, v12, a3, v13);
     v110 = load8(v74);
     v111 = a0 + 392u * 1u;
     v112 = load_address(v111);
@@ -10605,7 +10759,7 @@ L10:;
     if (v147) { goto L12; }
     else { v10 = v146; goto L10; }
 L11:;
-    f51(v127, v5, v6);
+    f50(v127, v5, v6);
     goto L12;
 L12:;
     v148 = v127 + 2129u * 1u;
@@ -10656,10 +10810,10 @@ L18:;
     memory_move(v161, v157, 80u);
     goto L36;
 L19:;
-    f52(v161, v157, v156);
+    f51(v161, v157, v156);
     goto L36;
 L20:;
-    f53(v161, v157, v156);
+    f52(v161, v157, v156);
     goto L36;
 L21:;
     v167 = v127 + 1464u * 1u;
@@ -10686,7 +10840,7 @@ L24:;
     memory_move(v172, v157, 80u);
     goto L26;
 L25:;
-    f52(v172, v157, v156);
+    f51(v172, v157, v156);
     goto L26;
 L26:;
     store64(v168, v156);
@@ -10729,13 +10883,13 @@ L34:;
     store64(v183, 0u);
     goto L35;
 L35:;
-    f54(a4, v149);
+    f53(a4, v149);
     goto L36;
 L36:;
     return;
 }
 
-static void f51(address a0, address a1, u64 a2) {
+static void f50(address a0, address a1, u64 a2) {
     u64 v3, v4, v5, v7, v10, v12, v14, v15, v16, v21, v24, v25, v28, v29, v30, v35;
     u64 v37;
     address v6, v9, v11, v18, v19, v27, v32, v33;
@@ -10814,7 +10968,7 @@ L12:;
     return;
 }
 
-static void f52(address a0, address a1, u64 a2) {
+static void f51(address a0, address a1, u64 a2) {
     u64 v3, v4, v5, v6, v11;
     u8 v7, v10, v12;
     address v8, v9;
@@ -10840,7 +10994,7 @@ L3:;
     return;
 }
 
-static void f53(address a0, address a1, u64 a2) {
+static void f52(address a0, address a1, u64 a2) {
     u64 v3, v4, v5, v7, v10, v12, v14, v15, v16, v21, v24, v25, v28, v29, v30, v35;
     u64 v37;
     address v6, v9, v11, v18, v19, v27, v32, v33;
@@ -10919,7 +11073,7 @@ L12:;
     return;
 }
 
-static void f54(address a0, address a1) {
+static void f53(address a0, address a1) {
     u64 v2, v3, v4, v5, v6, v8, v17, v21, v26, v28, v29, v30, v33, v34, v35, v40;
     u64 v42, v43, v46, v47, v48, v53, v55, v56, v59, v60, v61, v66, v68, v69, v72, v73;
     u64 v74, v79, v81, v84, v86, v88, v89, v90;
@@ -11108,7 +11262,7 @@ L27:;
     memory_move(v87, v22, 80u);
     goto L29;
 L28:;
-    f52(v87, v22, v21);
+    f51(v87, v22, v21);
     goto L29;
 L29:;
     v88 = load64(v12);
@@ -11124,7 +11278,7 @@ L31:;
     return;
 }
 
-static void f55(address a0, u64 a1, address a2, address a3, u16 a4, address a5) {
+static void f54(address a0, u64 a1, address a2, address a3, u16 a4, address a5) {
     u64 v6, v8, v15, v17, v19, v22, v40, v41;
     address v7, v9, v11, v12, v13, v14, v16, v20, v21, v23, v25, v26, v28, v34, v36, v38;
     address v39;
@@ -11170,7 +11324,7 @@ L5:;
     memory_move(v26, v7, 80u);
     goto L7;
 L6:;
-    f52(v26, v7, v19);
+    f51(v26, v7, v19);
     goto L7;
 L7:;
     v27 = load8(a3);
@@ -11206,230 +11360,213 @@ L10:;
     return;
 }
 
-static void f56(address a0, u8 a1, u16 a2, address a3, address a4, address a5) {
-    u64 v6, v9, v13, v16, v30, v42, v44, v46, v57, v58, v68, v70, v88, v112;
-    address v7, v8, v10, v11, v12, v14, v15, v20, v24, v26, v29, v32, v35, v38, v39, v41;
-    address v47, v48, v51, v53, v56, v59, v61, v63, v65, v67, v69, v79, v80, v81, v82, v83;
-    address v84, v85, v87, v89, v91, v97, v99, v105, v107, v109, v110, v111, v116, v117, v118, v120;
-    address v122, v124, v125, v126, v128, v129, v134, v136;
-    u8 v17, v18, v19, v21, v22, v23, v25, v27, v28, v31, v33, v34, v36, v37, v40, v45;
-    u8 v49, v50, v52, v54, v55, v60, v62, v64, v66, v86, v90, v92, v98, v100, v106, v108;
-    u8 v113, v115;
-    u16 v43, v71, v72, v73, v74, v75, v76, v77, v78, v93, v94, v95, v96, v101, v102, v103;
-    u16 v104, v119, v121, v123, v127, v135;
-    u32 v114, v130, v131, v132, v133;
+static void f55(address a0, u8 a1, u16 a2, address a3, address a4, address a5) {
+    u64 v6, v9, v15, v18, v30, v32, v34, v45, v46, v56, v58, v76, v100;
+    address v7, v8, v10, v11, v14, v16, v17, v20, v23, v26, v27, v29, v35, v36, v39, v41;
+    address v44, v47, v49, v51, v53, v55, v57, v67, v68, v69, v70, v71, v72, v73, v75, v77;
+    address v79, v85, v87, v93, v95, v97, v98, v99, v104, v105, v106, v108, v110, v112, v113, v114;
+    address v116, v117, v122, v124;
+    u8 v12, v13, v19, v21, v22, v24, v25, v28, v33, v37, v38, v40, v42, v43, v48, v50;
+    u8 v52, v54, v74, v78, v80, v86, v88, v94, v96, v101, v103;
+    u16 v31, v59, v60, v61, v62, v63, v64, v65, v66, v81, v82, v83, v84, v89, v90, v91;
+    u16 v92, v107, v109, v111, v115, v123;
+    u32 v102, v118, v119, v120, v121;
     u64 block0[3];
     u64 block1[9];
     v10 = ADDRESS(block0);
     v11 = ADDRESS(block1);
-    v12 = a0 + 384u * 1u;
-    v13 = load64(v12);
-    v14 = load_address(a4);
-    v15 = v14 + 34u * 1u;
-    v16 = load64(v15);
-    v17 = v16 == v13;
-    if (v17) { goto L12; }
-    else { goto L1; }
+    v12 = (u8)((u32)a1 + (u32)255u);
+    v13 = v12 < 2u;
+    if (v13) { goto L1; }
+    else { goto L2; }
 L1:;
-    v18 = load8(v14);
-    v19 = (u8)((u32)v18 >> (4u & 7u));
-    v20 = v14 + 5u * 1u;
-    v21 = load8(v20);
-    v22 = (u8)((u32)v19 | (u32)v21);
-    v23 = v22 == 0u;
-    if (v23) { goto L2; }
-    else { goto L12; }
+    goto L15;
 L2:;
-    v24 = v14 + 4u * 1u;
-    v25 = load8(v24);
-    v26 = a0 + 8u * 1u;
-    v27 = load8(v26);
-    v28 = v25 == v27;
-    if (v28) { goto L3; }
-    else { goto L12; }
+    v14 = a0 + 384u * 1u;
+    v15 = load64(v14);
+    v16 = load_address(a4);
+    v17 = v16 + 34u * 1u;
+    v18 = load64(v17);
+    v19 = v18 == v15;
+    if (v19) { goto L11; }
+    else { goto L3; }
 L3:;
-    v29 = v14 + 20u * 1u;
-    v30 = load64(v29);
-    v31 = v30 == v13;
-    if (v31) { goto L12; }
+    v20 = v16 + 45u * 1u;
+    v21 = load8(v20);
+    v22 = v21 == 0u;
+    if (v22) { goto L11; }
     else { goto L4; }
 L4:;
-    v32 = v14 + 45u * 1u;
-    v33 = load8(v32);
-    v34 = v33 == 0u;
-    if (v34) { goto L12; }
+    v23 = a0 + 240u * 1u;
+    v24 = load8(v23);
+    v25 = v24 == 0u;
+    v26 = a0 + 248u * 1u;
+    if (v25) { v6 = 376u; v7 = v26; goto L6; }
     else { goto L5; }
 L5:;
-    v35 = a0 + 240u * 1u;
-    v36 = load8(v35);
-    v37 = v36 == 0u;
-    v38 = a0 + 248u * 1u;
-    if (v37) { v6 = 376u; v7 = v38; goto L7; }
-    else { goto L6; }
+    v27 = load_address(v26);
+    v6 = 256u; v7 = v27; goto L6;
 L6:;
-    v39 = load_address(v38);
-    v6 = 256u; v7 = v39; goto L7;
+    v28 = a2 == 0u;
+    if (v28) { goto L11; }
+    else { goto L7; }
 L7:;
-    v40 = a2 == 0u;
-    if (v40) { goto L12; }
-    else { goto L8; }
+    v29 = a0 + v6 * 1u;
+    v30 = load64(v29);
+    v31 = (u16)((u32)a2 + (u32)65535u);
+    v32 = (u64)v31;
+    v33 = v30 > v32;
+    if (v33) { goto L8; }
+    else { goto L11; }
 L8:;
-    v41 = a0 + v6 * 1u;
-    v42 = load64(v41);
-    v43 = (u16)((u32)a2 + (u32)65535u);
-    v44 = (u64)v43;
-    v45 = v42 > v44;
-    if (v45) { goto L9; }
-    else { goto L12; }
-L9:;
-    v46 = (u64)((u64)v44 << (4u & 63u));
-    v47 = v7 + v46 * 1u;
-    v48 = v47 + 8u * 1u;
-    v49 = load8(v48);
-    switch (v49) {
-    case 4u: goto L11;
-    case 5u: goto L11;
-    case 7u: goto L11;
-    case 8u: goto L11;
-    case 0u: goto L12;
-    case 1u: goto L12;
-    case 2u: goto L12;
-    case 3u: goto L12;
-    case 6u: goto L12;
-    default: goto L10;
+    v34 = (u64)((u64)v32 << (4u & 63u));
+    v35 = v7 + v34 * 1u;
+    v36 = v35 + 8u * 1u;
+    v37 = load8(v36);
+    switch (v37) {
+    case 4u: goto L10;
+    case 5u: goto L10;
+    case 7u: goto L10;
+    case 8u: goto L10;
+    case 0u: goto L11;
+    case 1u: goto L11;
+    case 2u: goto L11;
+    case 3u: goto L11;
+    case 6u: goto L11;
+    default: goto L9;
     }
-L10:;
+L9:;
     UNREACHABLE;
+L10:;
+    f56(a0, a2, a3, a5);
+    goto L11;
 L11:;
-    f57(a0, a2, a3, a5);
-    goto L12;
+    v38 = a1 == 9u;
+    if (v38) { goto L12; }
+    else { goto L15; }
 L12:;
-    v50 = a1 == 9u;
-    if (v50) { goto L13; }
-    else { goto L16; }
-L13:;
-    v51 = a4 + 16u * 1u;
+    v39 = a4 + 16u * 1u;
+    v40 = load8(v39);
+    v41 = a4 + 17u * 1u;
+    v42 = load8(v41);
+    v43 = v42 == 0u;
+    v44 = load_address(a4);
+    v45 = v43 ? 52u : 54u;
+    v46 = v43 ? 53u : 55u;
+    v47 = v44 + v45 * 1u;
+    v48 = load8(v47);
+    v49 = v44 + v46 * 1u;
+    v50 = load8(v49);
+    v51 = v44 + 42u * 1u;
     v52 = load8(v51);
-    v53 = a4 + 17u * 1u;
+    v53 = v44 + 43u * 1u;
     v54 = load8(v53);
-    v55 = v54 == 0u;
-    v56 = load_address(a4);
-    v57 = v55 ? 52u : 54u;
-    v58 = v55 ? 53u : 55u;
-    v59 = v56 + v57 * 1u;
-    v60 = load8(v59);
-    v61 = v56 + v58 * 1u;
-    v62 = load8(v61);
-    v63 = v56 + 42u * 1u;
-    v64 = load8(v63);
-    v65 = v56 + 43u * 1u;
-    v66 = load8(v65);
-    if (v55) { goto L14; }
-    else { v8 = ADDRESS(c148); v9 = 0u; goto L15; }
+    if (v43) { goto L13; }
+    else { v8 = ADDRESS(c155); v9 = 0u; goto L14; }
+L13:;
+    v55 = a4 + 8u * 1u;
+    v56 = load64(v55);
+    v57 = v44 + 54u * 1u;
+    v58 = (u64)((u64)v56 + (u64)UINT64_C(18446744073709551562));
+    v8 = v57; v9 = v58; goto L14;
 L14:;
-    v67 = a4 + 8u * 1u;
-    v68 = load64(v67);
-    v69 = v56 + 54u * 1u;
-    v70 = (u64)((u64)v68 + (u64)UINT64_C(18446744073709551562));
-    v8 = v69; v9 = v70; goto L15;
-L15:;
-    v71 = (u16)v64;
-    v72 = (u16)((u32)v71 << (8u & 15u));
-    v73 = (u16)v66;
-    v74 = (u16)((u32)v72 | (u32)v73);
-    v75 = (u16)v60;
-    v76 = (u16)((u32)v75 << (8u & 15u));
-    v77 = (u16)v62;
-    v78 = (u16)((u32)v76 | (u32)v77);
-    store8(v10, v52);
-    v79 = v10 + 1u * 1u;
-    store8(v79, 0u);
-    v80 = v10 + 2u * 1u;
-    store16(v80, v78);
-    v81 = v10 + 4u * 1u;
-    store16(v81, v74);
-    v82 = v10 + 6u * 1u;
-    store16(v82, 0u);
-    v83 = v10 + 8u * 1u;
-    store_address(v83, v8);
-    v84 = v10 + 16u * 1u;
-    store64(v84, v9);
-    v85 = v56 + 4u * 1u;
+    v59 = (u16)v52;
+    v60 = (u16)((u32)v59 << (8u & 15u));
+    v61 = (u16)v54;
+    v62 = (u16)((u32)v60 | (u32)v61);
+    v63 = (u16)v48;
+    v64 = (u16)((u32)v63 << (8u & 15u));
+    v65 = (u16)v50;
+    v66 = (u16)((u32)v64 | (u32)v65);
+    store8(v10, v40);
+    v67 = v10 + 1u * 1u;
+    store8(v67, 0u);
+    v68 = v10 + 2u * 1u;
+    store16(v68, v66);
+    v69 = v10 + 4u * 1u;
+    store16(v69, v62);
+    v70 = v10 + 6u * 1u;
+    store16(v70, 0u);
+    v71 = v10 + 8u * 1u;
+    store_address(v71, v8);
+    v72 = v10 + 16u * 1u;
+    store64(v72, v9);
+    v73 = v44 + 4u * 1u;
+    v74 = load8(v73);
+    v75 = v44 + 20u * 1u;
+    v76 = load64(v75);
+    v77 = v44 + 28u * 1u;
+    v78 = load8(v77);
+    v79 = v44 + 29u * 1u;
+    v80 = load8(v79);
+    v81 = (u16)v78;
+    v82 = (u16)((u32)v81 << (8u & 15u));
+    v83 = (u16)v80;
+    v84 = (u16)((u32)v82 | (u32)v83);
+    v85 = v44 + 30u * 1u;
     v86 = load8(v85);
-    v87 = v56 + 20u * 1u;
-    v88 = load64(v87);
-    v89 = v56 + 28u * 1u;
-    v90 = load8(v89);
-    v91 = v56 + 29u * 1u;
-    v92 = load8(v91);
-    v93 = (u16)v90;
-    v94 = (u16)((u32)v93 << (8u & 15u));
-    v95 = (u16)v92;
-    v96 = (u16)((u32)v94 | (u32)v95);
-    v97 = v56 + 30u * 1u;
-    v98 = load8(v97);
-    v99 = v56 + 31u * 1u;
-    v100 = load8(v99);
-    v101 = (u16)v98;
-    v102 = (u16)((u32)v101 << (8u & 15u));
-    v103 = (u16)v100;
-    v104 = (u16)((u32)v102 | (u32)v103);
-    v105 = v56 + 44u * 1u;
-    v106 = load8(v105);
-    v107 = v56 + 45u * 1u;
-    v108 = load8(v107);
-    v109 = v11 + 54u * 1u;
-    v110 = v11 + 56u * 1u;
-    v111 = v11 + 64u * 1u;
+    v87 = v44 + 31u * 1u;
+    v88 = load8(v87);
+    v89 = (u16)v86;
+    v90 = (u16)((u32)v89 << (8u & 15u));
+    v91 = (u16)v88;
+    v92 = (u16)((u32)v90 | (u32)v91);
+    v93 = v44 + 44u * 1u;
+    v94 = load8(v93);
+    v95 = v44 + 45u * 1u;
+    v96 = load8(v95);
+    v97 = v11 + 54u * 1u;
+    v98 = v11 + 56u * 1u;
+    v99 = v11 + 64u * 1u;
     memory_set(v11, 0u, 64u);
-    store_address(v111, a5);
-    v112 = load64(v12);
-    v113 = v52 > 2u;
-    v114 = v113 ? UINT32_C(262144) : UINT32_C(131072);
-    v115 = v106 > v108 ? (u8)((u32)v106 - (u32)v108) : 0u;
-    store16(v109, v78);
-    store16(v110, a2);
-    v116 = v11 + 48u * 1u;
+    store_address(v99, a5);
+    v100 = load64(v14);
+    v101 = v40 > 2u;
+    v102 = v101 ? UINT32_C(262144) : UINT32_C(131072);
+    v103 = v94 > v96 ? (u8)((u32)v94 - (u32)v96) : 0u;
+    store16(v97, v66);
+    store16(v98, a2);
+    v104 = v11 + 48u * 1u;
     store16(v11, 4621u);
-    v117 = v11 + 2u * 1u;
-    store16(v117, 13824u);
-    v118 = v11 + 4u * 1u;
-    v119 = (u16)v86;
-    store16(v118, v119);
-    v120 = v11 + 20u * 1u;
-    store64(v120, v112);
-    v121 = swap16(a2);
-    v122 = v11 + 28u * 1u;
-    store16(v122, v121);
-    v123 = swap16(v104);
-    v124 = v11 + 30u * 1u;
+    v105 = v11 + 2u * 1u;
+    store16(v105, 13824u);
+    v106 = v11 + 4u * 1u;
+    v107 = (u16)v74;
+    store16(v106, v107);
+    v108 = v11 + 20u * 1u;
+    store64(v108, v100);
+    v109 = swap16(a2);
+    v110 = v11 + 28u * 1u;
+    store16(v110, v109);
+    v111 = swap16(v92);
+    v112 = v11 + 30u * 1u;
+    store16(v112, v111);
+    v113 = v11 + 32u * 1u;
+    store16(v113, 32516u);
+    v114 = v11 + 34u * 1u;
+    store64(v114, v76);
+    v115 = swap16(v84);
+    v116 = v11 + 42u * 1u;
+    store16(v116, v115);
+    v117 = v11 + 44u * 1u;
+    v118 = (u32)v103;
+    v119 = (u32)((u32)v118 << (8u & 31u));
+    v120 = (u32)((u32)v119 | (u32)v102);
+    v121 = (u32)((u32)v120 | (u32)v118);
+    store32(v117, v121);
+    store16(v104, 256u);
+    v122 = v11 + 50u * 1u;
+    store16(v122, 512u);
+    v123 = swap16(v66);
+    v124 = v11 + 52u * 1u;
     store16(v124, v123);
-    v125 = v11 + 32u * 1u;
-    store16(v125, 32516u);
-    v126 = v11 + 34u * 1u;
-    store64(v126, v88);
-    v127 = swap16(v96);
-    v128 = v11 + 42u * 1u;
-    store16(v128, v127);
-    v129 = v11 + 44u * 1u;
-    v130 = (u32)v115;
-    v131 = (u32)((u32)v130 << (8u & 31u));
-    v132 = (u32)((u32)v131 | (u32)v114);
-    v133 = (u32)((u32)v132 | (u32)v130);
-    store32(v129, v133);
-    store16(v116, 256u);
-    v134 = v11 + 50u * 1u;
-    store16(v134, 512u);
-    v135 = swap16(v78);
-    v136 = v11 + 52u * 1u;
-    store16(v136, v135);
-    f58(a0, v10, v11);
-    goto L16;
-L16:;
+    f57(a0, v10, v11);
+    goto L15;
+L15:;
     return;
 }
 
-static void f57(address a0, u16 a1, address a2, address a3) {
+static void f56(address a0, u16 a1, address a2, address a3) {
     u64 v4, v6, v13, v21, v22, v24, v26, v31, v32, v43, v47, v48, v49;
     address v5, v7, v10, v11, v12, v17, v18, v19, v20, v27, v28, v30, v33, v41, v42, v46;
     u8 v8, v9, v16, v23, v25, v29, v34, v35, v44, v45, v50;
@@ -11520,7 +11657,7 @@ L11:;
     goto L13;
 L12:;
     v43 = (u64)v39;
-    f52(v42, a2, v43);
+    f51(v42, a2, v43);
     goto L13;
 L13:;
     v44 = load8(v20);
@@ -11540,7 +11677,7 @@ L15:;
     return;
 }
 
-static void f58(address a0, address a1, address a2) {
+static void f57(address a0, address a1, address a2) {
     address v3, v15, v16, v17, v20, v22, v23, v24, v25, v26, v27, v28, v29, v30, v31, v33;
     address v34, v36, v38, v39, v42, v43, v44, v49, v50, v52, v53, v54, v56, v57, v60, v61;
     address v62, v65, v67, v68, v70, v71, v72, v73, v76, v77, v78, v79, v84, v85, v90, v92;
@@ -11560,7 +11697,7 @@ static void f58(address a0, address a1, address a2) {
     v20 = a1 + 2u * 1u;
     v21 = load16(v20);
     switch (v21) {
-    case 0u: v3 = ADDRESS(c120); v4 = 19u; v5 = 0u; v6 = 1u; v7 = 7u; v8 = 0u; v9 = 0u; goto L21;
+    case 0u: v3 = ADDRESS(c126); v4 = 19u; v5 = 0u; v6 = 1u; v7 = 7u; v8 = 0u; v9 = 0u; goto L21;
     case 2u: goto L1;
     case 8192u: goto L2;
     case 8193u: goto L3;
@@ -11584,45 +11721,45 @@ static void f58(address a0, address a1, address a2) {
     default: goto L22;
     }
 L1:;
-    v3 = ADDRESS(c121); v4 = 16u; v5 = 1u; v6 = 0u; v7 = 3u; v8 = 1u; v9 = 0u; goto L21;
+    v3 = ADDRESS(c127); v4 = 16u; v5 = 1u; v6 = 0u; v7 = 3u; v8 = 1u; v9 = 0u; goto L21;
 L2:;
-    v3 = ADDRESS(c122); v4 = 16u; v5 = 1u; v6 = 0u; v7 = 1u; v8 = 2u; v9 = 0u; goto L21;
+    v3 = ADDRESS(c128); v4 = 16u; v5 = 1u; v6 = 0u; v7 = 1u; v8 = 2u; v9 = 0u; goto L21;
 L3:;
-    v3 = ADDRESS(c123); v4 = 16u; v5 = 1u; v6 = 0u; v7 = 1u; v8 = 3u; v9 = 0u; goto L21;
+    v3 = ADDRESS(c129); v4 = 16u; v5 = 1u; v6 = 0u; v7 = 1u; v8 = 3u; v9 = 0u; goto L21;
 L4:;
-    v3 = ADDRESS(c124); v4 = 15u; v5 = 1u; v6 = 0u; v7 = 1u; v8 = 4u; v9 = 0u; goto L21;
+    v3 = ADDRESS(c130); v4 = 15u; v5 = 1u; v6 = 0u; v7 = 1u; v8 = 4u; v9 = 0u; goto L21;
 L5:;
-    v3 = ADDRESS(c125); v4 = 24u; v5 = 1u; v6 = 0u; v7 = 1u; v8 = 5u; v9 = 0u; goto L21;
+    v3 = ADDRESS(c131); v4 = 24u; v5 = 1u; v6 = 0u; v7 = 1u; v8 = 5u; v9 = 0u; goto L21;
 L6:;
-    v3 = ADDRESS(c126); v4 = 13u; v5 = 0u; v6 = 1u; v7 = 1u; v8 = 6u; v9 = 0u; goto L21;
+    v3 = ADDRESS(c132); v4 = 13u; v5 = 0u; v6 = 1u; v7 = 1u; v8 = 6u; v9 = 0u; goto L21;
 L7:;
-    v3 = ADDRESS(c127); v4 = 9u; v5 = 1u; v6 = 0u; v7 = 3u; v8 = 7u; v9 = 0u; goto L21;
+    v3 = ADDRESS(c133); v4 = 9u; v5 = 1u; v6 = 0u; v7 = 3u; v8 = 7u; v9 = 0u; goto L21;
 L8:;
-    v3 = ADDRESS(c128); v4 = 9u; v5 = 1u; v6 = 0u; v7 = 3u; v8 = 8u; v9 = 0u; goto L21;
+    v3 = ADDRESS(c134); v4 = 9u; v5 = 1u; v6 = 0u; v7 = 3u; v8 = 8u; v9 = 0u; goto L21;
 L9:;
-    v3 = ADDRESS(c129); v4 = 6u; v5 = 1u; v6 = 0u; v7 = 3u; v8 = 9u; v9 = 0u; goto L21;
+    v3 = ADDRESS(c135); v4 = 6u; v5 = 1u; v6 = 0u; v7 = 3u; v8 = 9u; v9 = 0u; goto L21;
 L10:;
-    v3 = ADDRESS(c130); v4 = 10u; v5 = 1u; v6 = 0u; v7 = 1u; v8 = 10u; v9 = 0u; goto L21;
+    v3 = ADDRESS(c136); v4 = 10u; v5 = 1u; v6 = 0u; v7 = 1u; v8 = 10u; v9 = 0u; goto L21;
 L11:;
-    v3 = ADDRESS(c136); v4 = 21u; v5 = 0u; v6 = 1u; v7 = 3u; v8 = 11u; v9 = 0u; goto L21;
+    v3 = ADDRESS(c142); v4 = 21u; v5 = 0u; v6 = 1u; v7 = 3u; v8 = 11u; v9 = 0u; goto L21;
 L12:;
-    v3 = ADDRESS(c138); v4 = 24u; v5 = 0u; v6 = 1u; v7 = 3u; v8 = 11u; v9 = 1u; goto L21;
+    v3 = ADDRESS(c144); v4 = 24u; v5 = 0u; v6 = 1u; v7 = 3u; v8 = 11u; v9 = 1u; goto L21;
 L13:;
-    v3 = ADDRESS(c140); v4 = 17u; v5 = 0u; v6 = 1u; v7 = 3u; v8 = 11u; v9 = 2u; goto L21;
+    v3 = ADDRESS(c146); v4 = 17u; v5 = 0u; v6 = 1u; v7 = 3u; v8 = 11u; v9 = 2u; goto L21;
 L14:;
-    v3 = ADDRESS(c131); v4 = 14u; v5 = 0u; v6 = 1u; v7 = 1u; v8 = 12u; v9 = 0u; goto L21;
+    v3 = ADDRESS(c137); v4 = 14u; v5 = 0u; v6 = 1u; v7 = 1u; v8 = 12u; v9 = 0u; goto L21;
 L15:;
-    v3 = ADDRESS(c132); v4 = 11u; v5 = 0u; v6 = 1u; v7 = 4u; v8 = 13u; v9 = 0u; goto L21;
+    v3 = ADDRESS(c138); v4 = 11u; v5 = 0u; v6 = 1u; v7 = 4u; v8 = 13u; v9 = 0u; goto L21;
 L16:;
-    v3 = ADDRESS(c133); v4 = 12u; v5 = 0u; v6 = 1u; v7 = 4u; v8 = 14u; v9 = 0u; goto L21;
+    v3 = ADDRESS(c139); v4 = 12u; v5 = 0u; v6 = 1u; v7 = 4u; v8 = 14u; v9 = 0u; goto L21;
 L17:;
-    v3 = ADDRESS(c134); v4 = 14u; v5 = 1u; v6 = 0u; v7 = 3u; v8 = 15u; v9 = 0u; goto L21;
+    v3 = ADDRESS(c140); v4 = 14u; v5 = 1u; v6 = 0u; v7 = 3u; v8 = 15u; v9 = 0u; goto L21;
 L18:;
-    v3 = ADDRESS(c135); v4 = 14u; v5 = 1u; v6 = 0u; v7 = 3u; v8 = 16u; v9 = 0u; goto L21;
+    v3 = ADDRESS(c141); v4 = 14u; v5 = 1u; v6 = 0u; v7 = 3u; v8 = 16u; v9 = 0u; goto L21;
 L19:;
-    v3 = ADDRESS(c142); v4 = 15u; v5 = 0u; v6 = 1u; v7 = 3u; v8 = 11u; v9 = 3u; goto L21;
+    v3 = ADDRESS(c148); v4 = 15u; v5 = 0u; v6 = 1u; v7 = 3u; v8 = 11u; v9 = 3u; goto L21;
 L20:;
-    v3 = ADDRESS(c144); v4 = 27u; v5 = 0u; v6 = 1u; v7 = 3u; v8 = 11u; v9 = 4u; goto L21;
+    v3 = ADDRESS(c150); v4 = 27u; v5 = 0u; v6 = 1u; v7 = 3u; v8 = 11u; v9 = 4u; goto L21;
 L21:;
     memory_set(v15, 0u, 6u);
     memory_cpy(v17, v15, 6u);
@@ -11664,7 +11801,7 @@ L22:;
     v43 = v42 + 2u * 1u;
     store16(v43, 60u);
     v44 = v42 + 4u * 1u;
-    f35(a2, v32, v35, v37, v44);
+    f34(a2, v32, v35, v37, v44);
     v45 = load64(v39);
     v46 = (u64)((u64)v45 + (u64)1u);
     store64(v39, v46);
@@ -11703,7 +11840,7 @@ L28:;
     v61 = v60 + 2u * 1u;
     store16(v61, 60u);
     v62 = v60 + 4u * 1u;
-    f35(a2, v51, 6u, v55, v62);
+    f34(a2, v51, 6u, v55, v62);
     v63 = load64(v57);
     v64 = (u64)((u64)v63 + (u64)1u);
     store64(v57, v64);
@@ -11791,2142 +11928,662 @@ L38:;
     store64(v73, v95);
     goto L23;
 L39:;
-    f39(a0, v8, a2);
+    f38(a0, v8, a2);
     goto L23;
 L40:;
-    f41(a0, v16, a1, v14, v13, a2);
+    f40(a0, v16, a1, v14, v13, a2);
     goto L23;
 }
 
-static void f59(address a0, address a1, u16 a2, address a3, u64 a4, u8 a5, address a6, u64 a7) {
-    address v8, v12, v13, v14, v15, v16, v17, v18, v21, v22, v23, v25, v27, v30, v31, v33;
-    address v35, v37, v43, v45, v51, v53, v58, v60, v62, v64, v66, v68, v78, v79, v80, v81;
-    address v82, v83, v84, v85, v99, v100, v101, v102, v103, v104, v105, v106, v107, v108, v109, v110;
-    address v111, v112, v113, v114, v116, v117, v118, v121, v123, v126, v132, v133, v134, v135, v136, v137;
-    address v139, v148, v149, v153, v154, v157, v158, v161, v164, v166, v167, v168, v169, v172, v173, v174;
-    address v175, v176, v179, v182, v183, v184, v187, v189, v190, v191;
-    u64 v9, v10, v11, v24, v34, v56, v57, v67, v69, v86, v119, v122, v127, v129, v131, v140;
-    u64 v144, v145, v146, v151, v155, v160, v170, v180, v185, v188;
-    u8 v19, v20, v26, v28, v29, v32, v36, v38, v44, v46, v52, v54, v55, v59, v61, v63;
-    u8 v65, v87, v89, v115, v120, v125, v128, v130, v138, v141, v142, v143, v147, v150, v152, v156;
-    u8 v162, v163, v165, v171, v177, v178, v181, v186;
-    u16 v39, v40, v41, v42, v47, v48, v49, v50, v70, v71, v72, v73, v74, v75, v76, v77;
-    u16 v90, v91, v92, v93, v98, v124, v159;
-    u32 v88, v94, v95, v96, v97;
-    u64 block0[3];
-    u64 block1[10];
-    u64 block2[4];
+static u8 f58(address a0, address a1, u64 a2, address a3) {
+    u8 v4, v5, v6, v7, v8, v9, v10, v11, v18, v20, v26, v27, v28, v29, v30, v32;
+    u8 v33, v34, v36, v38, v44, v46, v47, v49, v51, v56, v58, v59, v61, v65, v69, v71;
+    u8 v72, v73, v74, v75, v76, v78, v80, v82, v84, v93, v97, v99, v101, v103, v122, v123;
+    u8 v125, v127, v129, v135, v136, v137, v138, v139, v140, v141, v142, v143, v144, v145, v146, v147;
+    u8 v149, v151, v152, v153, v154, v155, v156, v157, v161, v163, v165, v167;
+    address v12, v13, v14, v15, v16, v17, v19, v21, v22, v23, v24, v31, v35, v37, v48, v50;
+    address v57, v60, v64, v77, v79, v81, v83, v89, v90, v91, v92, v96, v98, v100, v102, v104;
+    address v106, v116, v117, v118, v119, v120, v121, v124, v126, v128, v130, v132, v158, v160, v162, v164;
+    address v166, v176, v177, v178, v179, v180, v181, v182, v183, v184, v185, v186, v187;
+    u64 v25, v43, v62, v63, v66, v67, v68, v70, v85, v86, v87, v88, v94, v95, v105, v107;
+    u64 v148, v150, v159;
+    u16 v39, v40, v41, v42, v45, v52, v53, v54, v55, v108, v109, v110, v111, v112, v113, v114;
+    u16 v115, v131, v133, v168, v169, v170, v171, v172, v173, v174, v175;
+    struct s1 v134;
+    u64 block0[1];
+    u64 block1[3];
+    u64 block2[2];
     u64 block3[3];
-    u64 block4[12];
+    u64 block4[5];
+    u64 block5[3];
     v12 = ADDRESS(block0);
     v13 = ADDRESS(block1);
     v14 = ADDRESS(block2);
     v15 = ADDRESS(block3);
     v16 = ADDRESS(block4);
-    memory_set(v16, 0u, 96u);
-    store_address(v15, a6);
-    v17 = v15 + 8u * 1u;
-    store64(v17, a7);
-    v18 = v15 + 16u * 1u;
-    store64(v18, 0u);
-    memory_set(v14, 0u, 32u);
-    f8(v14, a3, a4);
-    v19 = load8(v14);
-    v20 = v19 == 0u;
-    if (v20) { goto L1; }
-    else { goto L38; }
+    v17 = ADDRESS(block5);
+    v18 = load8(a3);
+    v19 = a3 + 1u * 1u;
+    v20 = load8(v19);
+    v21 = a3 + 8u * 1u;
+    v22 = a0 + 424u * 1u;
+    v23 = load_address(v22);
+    v24 = a0 + 432u * 1u;
+    v25 = load64(v24);
+    v26 = v25 == 0u;
+    if (v26) { v11 = 0u; goto L24; }
+    else { goto L1; }
 L1:;
-    v21 = v14 + 8u * 1u;
-    v22 = load_address(v21);
-    v23 = v14 + 16u * 1u;
-    v24 = load64(v23);
-    v25 = v14 + 24u * 1u;
-    v26 = load8(v25);
-    v27 = v14 + 25u * 1u;
-    v28 = load8(v27);
-    v29 = f60(a1, v21);
-    if (v29) { goto L2; }
-    else { goto L38; }
+    memory_set(v14, 0u, 12u);
+    memory_set(v16, 0u, 40u);
+    memory_set(v17, 0u, 24u);
+    memory_set(v12, 0u, 3u);
+    v27 = a2 < 54u;
+    if (v27) { goto L7; }
+    else { goto L2; }
 L2:;
-    v30 = v13 + 72u * 1u;
-    store64(v30, 0u);
-    v31 = v22 + 4u * 1u;
+    v28 = load8(a1);
+    v29 = (u8)((u32)v28 & (u32)15u);
+    v30 = v29 == 13u;
+    if (v30) { goto L3; }
+    else { goto L7; }
+L3:;
+    v31 = a1 + 1u * 1u;
     v32 = load8(v31);
-    v33 = v22 + 20u * 1u;
-    v34 = load64(v33);
-    v35 = v22 + 28u * 1u;
+    v33 = (u8)((u32)v32 & (u32)15u);
+    v34 = v33 == 2u;
+    if (v34) { goto L4; }
+    else { goto L7; }
+L4:;
+    v35 = a1 + 2u * 1u;
     v36 = load8(v35);
-    v37 = v22 + 29u * 1u;
+    v37 = a1 + 3u * 1u;
     v38 = load8(v37);
     v39 = (u16)v36;
     v40 = (u16)((u32)v39 << (8u & 15u));
     v41 = (u16)v38;
     v42 = (u16)((u32)v40 | (u32)v41);
-    v43 = v22 + 30u * 1u;
-    v44 = load8(v43);
-    v45 = v22 + 31u * 1u;
-    v46 = load8(v45);
-    v47 = (u16)v44;
-    v48 = (u16)((u32)v47 << (8u & 15u));
-    v49 = (u16)v46;
-    v50 = (u16)((u32)v48 | (u32)v49);
-    v51 = v22 + 44u * 1u;
-    v52 = load8(v51);
-    v53 = v22 + 45u * 1u;
-    v54 = load8(v53);
-    v55 = v28 == 0u;
-    v56 = v55 ? 52u : 54u;
-    v57 = v55 ? 53u : 55u;
-    v58 = v22 + v56 * 1u;
-    v59 = load8(v58);
-    v60 = v22 + v57 * 1u;
-    v61 = load8(v60);
-    v62 = v22 + 42u * 1u;
-    v63 = load8(v62);
-    v64 = v22 + 43u * 1u;
-    v65 = load8(v64);
-    v66 = v22 + 54u * 1u;
-    v67 = (u64)((u64)v24 + (u64)UINT64_C(18446744073709551562));
-    v68 = v55 ? v66 : ADDRESS(c148);
-    v69 = v55 ? v67 : 0u;
-    v70 = (u16)v63;
-    v71 = (u16)((u32)v70 << (8u & 15u));
-    v72 = (u16)v65;
-    v73 = (u16)((u32)v71 | (u32)v72);
-    v74 = (u16)v59;
-    v75 = (u16)((u32)v74 << (8u & 15u));
-    v76 = (u16)v61;
-    v77 = (u16)((u32)v75 | (u32)v76);
-    store8(v12, v26);
-    v78 = v12 + 1u * 1u;
-    store8(v78, 0u);
-    v79 = v12 + 2u * 1u;
-    store16(v79, v77);
-    v80 = v12 + 4u * 1u;
-    store16(v80, v73);
-    v81 = v12 + 6u * 1u;
-    store16(v81, 0u);
-    v82 = v12 + 8u * 1u;
-    store_address(v82, v68);
-    v83 = v12 + 16u * 1u;
-    store64(v83, v69);
-    v84 = v13 + 6u * 1u;
-    memory_set(v84, 0u, 14u);
-    v85 = a1 + 384u * 1u;
-    v86 = load64(v85);
-    v87 = v26 > 2u;
-    v88 = v87 ? UINT32_C(262144) : UINT32_C(131072);
-    v89 = v52 > v54 ? (u8)((u32)v52 - (u32)v54) : 0u;
-    v90 = (u16)v32;
-    v91 = swap16(a2);
-    v92 = swap16(v50);
-    v93 = swap16(v42);
-    v94 = (u32)v89;
-    v95 = (u32)((u32)v94 << (8u & 31u));
-    v96 = (u32)((u32)v95 | (u32)v88);
-    v97 = (u32)((u32)v96 | (u32)v94);
-    v98 = swap16(v77);
-    store16(v13, 4621u);
-    v99 = v13 + 2u * 1u;
-    store16(v99, 13824u);
-    v100 = v13 + 4u * 1u;
-    store16(v100, v90);
-    v101 = v13 + 20u * 1u;
-    store64(v101, v86);
-    v102 = v13 + 28u * 1u;
-    store16(v102, v91);
-    v103 = v13 + 30u * 1u;
-    store16(v103, v92);
-    v104 = v13 + 32u * 1u;
-    store16(v104, 32516u);
-    v105 = v13 + 34u * 1u;
-    store64(v105, v34);
-    v106 = v13 + 42u * 1u;
-    store16(v106, v93);
-    v107 = v13 + 44u * 1u;
-    store32(v107, v97);
-    v108 = v13 + 48u * 1u;
-    store16(v108, 256u);
-    v109 = v13 + 50u * 1u;
-    store16(v109, 512u);
-    v110 = v13 + 52u * 1u;
-    store16(v110, v98);
-    v111 = v13 + 54u * 1u;
-    store16(v111, v77);
-    v112 = v13 + 56u * 1u;
-    store16(v112, a2);
-    v113 = v13 + 58u * 1u;
-    v114 = v13 + 64u * 1u;
-    memory_set(v113, 0u, 6u);
-    store_address(v114, v15);
-    store8(v30, a5);
-    f61(a1, v12, v13);
-    v115 = load8(v113);
-    v116 = a1 + 392u * 1u;
-    v117 = load_address(v116);
-    v118 = a1 + 400u * 1u;
-    v119 = load64(v118);
-    v120 = v119 == 0u;
-    if (v120) { goto L36; }
-    else { v8 = v117; v9 = v119; v10 = 0u; goto L3; }
-L3:;
-    v121 = v8 + 2144u * 1u;
-    v122 = (u64)((u64)v9 + (u64)UINT64_C(18446744073709551615));
-    v123 = v8 + 2120u * 1u;
-    v124 = load16(v123);
-    v125 = v42 == v124;
-    if (v125) { goto L4; }
-    else { goto L5; }
-L4:;
-    v126 = v8 + 2112u * 1u;
-    v127 = load64(v126);
-    v128 = v34 == v127;
-    if (v128) { goto L6; }
+    v43 = (u64)v42;
+    v44 = a2 < v43;
+    v45 = (u16)((u32)v42 + (u32)64063u);
+    v46 = v45 < 64117u;
+    v47 = (u8)(((u32)v46 | (u32)v44) & UINT64_C(1));
+    if (v47) { goto L7; }
     else { goto L5; }
 L5:;
-    v129 = (u64)((u64)v10 + (u64)1u);
-    v130 = v122 == 0u;
-    if (v130) { goto L36; }
-    else { v8 = v121; v9 = v122; v10 = v129; goto L3; }
+    v48 = a1 + 48u * 1u;
+    v49 = load8(v48);
+    v50 = a1 + 49u * 1u;
+    v51 = load8(v50);
+    v52 = (u16)v49;
+    v53 = (u16)((u32)v52 << (8u & 15u));
+    v54 = (u16)v51;
+    v55 = (u16)((u32)v53 | (u32)v54);
+    v56 = v55 == 1u;
+    if (v56) { goto L6; }
+    else { goto L7; }
 L6:;
-    v131 = (u64)((u64)v10 * (u64)2144u);
-    v132 = v117 + v131 * 1u;
-    v133 = v132 + 2137u * 1u;
-    store8(v133, 1u);
-    v134 = v132 + 2122u * 1u;
-    store16(v134, v50);
-    v135 = v132 + 2128u * 1u;
-    store8(v135, v26);
-    v136 = v132 + 2124u * 1u;
-    store16(v136, v77);
-    v137 = v132 + 2126u * 1u;
-    store16(v137, v73);
-    v138 = v69 == 0u;
-    v139 = v132 + 1424u * 1u;
-    v140 = load64(v139);
-    v141 = v140 == 0u;
-    v142 = v138 ? v141 : 0u;
-    if (v142) { goto L12; }
+    v57 = a1 + 46u * 1u;
+    v58 = load8(v57);
+    v59 = (u8)((u32)v58 & (u32)15u);
+    v60 = a1 + 50u * 1u;
+    v61 = load8(v60);
+    v62 = (u64)v61;
+    v63 = (u64)((u64)v62 << (8u & 63u));
+    v64 = a1 + 51u * 1u;
+    v65 = load8(v64);
+    v66 = (u64)v65;
+    v67 = (u64)((u64)v63 | (u64)v66);
+    v68 = (u64)((u64)v67 + (u64)52u);
+    v69 = v68 == v43;
+    v70 = (u64)((u64)v43 & (u64)1u);
+    v71 = v70 == 0u;
+    v72 = (u8)(((u32)v71 & (u32)v69) & UINT64_C(1));
+    v73 = v59 < 5u;
+    v74 = v72 ? v73 : 0u;
+    if (v74) { v4 = v38; v5 = v36; v6 = v59; v7 = 0u; goto L10; }
     else { goto L7; }
 L7:;
-    v143 = v140 == v69;
-    if (v143) { goto L8; }
-    else { goto L11; }
-L8:;
-    v144 = (u64)v132;
-    v145 = (u64)v68;
-    v146 = (u64)((u64)v144 - (u64)v145);
-    v147 = v146 < v69;
-    if (v147) { v11 = 0u; goto L10; }
+    f8(v12, a1, a2);
+    v75 = load8(v12);
+    v76 = v75 == 0u;
+    if (v76) { goto L8; }
     else { goto L9; }
-L9:;
-    memory_move(v132, v68, v69);
-    goto L12;
-L10:;
-    v148 = v132 + v11 * 1u;
-    v149 = v68 + v11 * 1u;
-    v150 = load8(v149);
-    store8(v148, v150);
-    v151 = (u64)((u64)v11 + (u64)1u);
-    v152 = v151 == v69;
-    if (v152) { goto L12; }
-    else { v11 = v151; goto L10; }
-L11:;
-    f51(v132, v68, v69);
-    goto L12;
-L12:;
-    v153 = v132 + 2129u * 1u;
-    store8(v153, v115);
-    v154 = v132 + 1432u * 1u;
-    v155 = load64(v18);
-    v156 = v155 == 1u;
-    if (v156) { goto L13; }
-    else { goto L27; }
-L13:;
-    v157 = load_address(v15);
-    v158 = v157 + 2u * 1u;
-    v159 = load16(v158);
-    v160 = (u64)v159;
-    v161 = v157 + 4u * 1u;
-    v162 = load8(v154);
-    v163 = v162 == 0u;
-    v164 = v132 + 1440u * 1u;
-    v165 = (u8)(v159);
-    if (v163) { goto L14; }
-    else { goto L21; }
-L14:;
-    v166 = v132 + 1456u * 1u;
-    v167 = v132 + 1441u * 1u;
-    memory_set(v167, 0u, 7u);
-    v168 = v132 + 1448u * 1u;
-    store8(v164, v165);
-    store64(v168, 1u);
-    v169 = v132 + 2096u * 1u;
-    v170 = load64(v169);
-    v171 = v170 == v160;
-    if (v171) { goto L15; }
-    else { goto L20; }
-L15:;
-    switch (v159) {
-    case 54u: goto L16;
-    case 56u: goto L17;
-    case 80u: goto L18;
-    default: goto L19;
-    }
-L16:;
-    memory_move(v166, v161, 54u);
-    goto L36;
-L17:;
-    memory_move(v166, v161, 56u);
-    goto L36;
-L18:;
-    memory_move(v166, v161, 80u);
-    goto L36;
-L19:;
-    f52(v166, v161, v160);
-    goto L36;
-L20:;
-    f53(v166, v161, v160);
-    goto L36;
-L21:;
-    v172 = v132 + 1464u * 1u;
-    v173 = v132 + 1488u * 1u;
-    v174 = v132 + 1448u * 1u;
-    v175 = load_address(v164);
-    store8(v175, v165);
-    store64(v174, 1u);
-    v176 = load_address(v172);
-    switch (v159) {
-    case 54u: goto L22;
-    case 56u: goto L23;
-    case 80u: goto L24;
-    default: goto L25;
-    }
-L22:;
-    memory_move(v176, v161, 54u);
-    goto L26;
-L23:;
-    memory_move(v176, v161, 56u);
-    goto L26;
-L24:;
-    memory_move(v176, v161, 80u);
-    goto L26;
-L25:;
-    f52(v176, v161, v160);
-    goto L26;
-L26:;
-    store64(v173, v160);
-    goto L36;
-L27:;
-    v177 = load8(v154);
-    v178 = v177 == 0u;
-    v179 = v132 + 1448u * 1u;
-    v180 = load64(v179);
-    v181 = v180 == 0u;
-    if (v178) { goto L28; }
-    else { goto L32; }
-L28:;
-    v182 = v132 + 1456u * 1u;
-    if (v181) { goto L30; }
-    else { goto L29; }
-L29:;
-    v183 = v132 + 1440u * 1u;
-    memory_set(v183, 0u, v180);
-    store64(v179, 0u);
-    goto L30;
-L30:;
-    v184 = v132 + 2096u * 1u;
-    v185 = load64(v184);
-    v186 = v185 == 0u;
-    if (v186) { goto L35; }
-    else { goto L31; }
-L31:;
-    memory_set(v182, 0u, v185);
-    store64(v184, 0u);
-    goto L35;
-L32:;
-    v187 = v132 + 1488u * 1u;
-    if (v181) { goto L34; }
-    else { goto L33; }
-L33:;
-    store64(v179, 0u);
-    goto L34;
-L34:;
-    store64(v187, 0u);
-    goto L35;
-L35:;
-    f54(v15, v154);
-    goto L36;
-L36:;
-    v188 = load64(v18);
-    store8(v16, 5u);
-    v189 = v16 + 1u * 1u;
-    store8(v189, 0u);
-    v190 = v16 + 8u * 1u;
-    store64(v190, v188);
-    v191 = v16 + 16u * 1u;
-    memory_set(v191, 0u, 76u);
-    goto L37;
-L37:;
-    memory_cpy(a0, v16, 96u);
-    return;
-L38:;
-    f45(v16, a1, a2, a3, a4, a6, a7);
-    goto L37;
-}
-
-static u8 f60(address a0, address a1) {
-    address v2, v17, v18, v19, v20, v22, v25, v28, v30, v32, v34, v36, v38, v48, v49, v50;
-    address v51, v52, v53, v56, v58, v62, v66, v68, v71, v76, v80, v84, v86, v92, v93, v95;
-    address v127, v128, v129;
-    u64 v3, v26, v27, v37, v39, v57, v59, v72, v79, v81, v110, v111, v112, v113, v118, v119;
-    u64 v121, v122, v124, v125;
-    u8 v4, v5, v6, v7, v8, v9, v10, v11, v12, v13, v14, v15, v16, v21, v23, v24;
-    u8 v29, v31, v33, v35, v54, v55, v60, v61, v63, v64, v65, v67, v69, v70, v73, v74;
-    u8 v75, v77, v78, v83, v85, v87, v94, v96, v102, v103, v104, v105, v106, v107, v108, v109;
-    u8 v114, v115, v116, v117, v120, v123, v126, v130;
-    u16 v40, v41, v42, v43, v44, v45, v46, v47, v82, v88, v89, v90, v91, v97, v98, v99;
-    u16 v100;
-    struct s1 v101;
-    u64 block0[1];
-    u64 block1[3];
-    u64 block2[2];
-    v17 = ADDRESS(block0);
-    v18 = ADDRESS(block1);
-    v19 = ADDRESS(block2);
-    v20 = a1 + 16u * 1u;
-    v21 = load8(v20);
-    v22 = a1 + 17u * 1u;
-    v23 = load8(v22);
-    v24 = v23 == 0u;
-    v25 = load_address(a1);
-    v26 = v24 ? 52u : 54u;
-    v27 = v24 ? 53u : 55u;
-    v28 = v25 + v26 * 1u;
-    v29 = load8(v28);
-    v30 = v25 + v27 * 1u;
-    v31 = load8(v30);
-    v32 = v25 + 42u * 1u;
-    v33 = load8(v32);
-    v34 = v25 + 43u * 1u;
-    v35 = load8(v34);
-    if (v24) { goto L1; }
-    else { v2 = ADDRESS(c148); v3 = 0u; goto L2; }
-L1:;
-    v36 = a1 + 8u * 1u;
-    v37 = load64(v36);
-    v38 = v25 + 54u * 1u;
-    v39 = (u64)((u64)v37 + (u64)UINT64_C(18446744073709551562));
-    v2 = v38; v3 = v39; goto L2;
-L2:;
-    v40 = (u16)v33;
-    v41 = (u16)((u32)v40 << (8u & 15u));
-    v42 = (u16)v35;
-    v43 = (u16)((u32)v41 | (u32)v42);
-    v44 = (u16)v29;
-    v45 = (u16)((u32)v44 << (8u & 15u));
-    v46 = (u16)v31;
-    v47 = (u16)((u32)v45 | (u32)v46);
-    store8(v18, v21);
-    v48 = v18 + 1u * 1u;
-    store8(v48, 0u);
-    v49 = v18 + 2u * 1u;
-    store16(v49, v47);
-    v50 = v18 + 4u * 1u;
-    store16(v50, v43);
-    v51 = v18 + 6u * 1u;
-    store16(v51, 0u);
-    v52 = v18 + 8u * 1u;
-    store_address(v52, v2);
-    v53 = v18 + 16u * 1u;
-    store64(v53, v3);
-    v54 = (u8)((u32)v21 & (u32)253u);
-    v55 = v54 == 1u;
-    if (v55) { goto L5; }
-    else { v5 = 0u; goto L4; }
-L3:;
-    v5 = v4; goto L4;
-L4:;
-    return v5;
-L5:;
-    v56 = v25 + 34u * 1u;
-    v57 = load64(v56);
-    v58 = a0 + 384u * 1u;
-    v59 = load64(v58);
-    v60 = load8(v25);
-    v61 = (u8)((u32)v60 >> (4u & 7u));
-    v62 = v25 + 5u * 1u;
-    v63 = load8(v62);
-    v64 = (u8)((u32)v61 | (u32)v63);
-    v65 = v64 == 0u;
-    if (v65) { goto L6; }
-    else { v5 = 0u; goto L4; }
-L6:;
-    v66 = v25 + 4u * 1u;
-    v67 = load8(v66);
-    v68 = a0 + 8u * 1u;
-    v69 = load8(v68);
-    v70 = v67 == v69;
-    if (v70) { goto L7; }
-    else { v5 = 0u; goto L4; }
-L7:;
-    v71 = v25 + 20u * 1u;
-    v72 = load64(v71);
-    v73 = v72 != v59;
-    v74 = v57 == v59;
-    v75 = v73 ? v74 : 0u;
-    if (v75) { goto L8; }
-    else { v5 = 0u; goto L4; }
 L8:;
-    switch (v43) {
-    case 65535u: goto L10;
-    case 0u: v5 = 0u; goto L4;
-    default: goto L9;
-    }
+    v77 = v12 + 1u * 1u;
+    v78 = load8(v77);
+    v79 = v12 + 2u * 1u;
+    v80 = load8(v79);
+    v81 = a1 + 2u * 1u;
+    v82 = load8(v81);
+    v83 = a1 + 3u * 1u;
+    v84 = load8(v83);
+    v4 = v84; v5 = v82; v6 = v78; v7 = v80; goto L10;
 L9:;
-    v76 = a0 + 240u * 1u;
-    v77 = load8(v76);
-    v78 = v77 == 0u;
-    v79 = v78 ? 376u : 256u;
-    v80 = a0 + v79 * 1u;
-    v81 = load64(v80);
-    v82 = (u16)(v81);
-    v83 = v43 > v82;
-    if (v83) { v5 = 0u; goto L4; }
-    else { goto L10; }
+    v10 = 0u; goto L23;
 L10:;
-    v84 = v25 + 28u * 1u;
-    v85 = load8(v84);
-    v86 = v25 + 29u * 1u;
-    v87 = load8(v86);
-    v88 = (u16)v85;
-    v89 = (u16)((u32)v88 << (8u & 15u));
-    v90 = (u16)v87;
-    v91 = (u16)((u32)v89 | (u32)v90);
-    store64(v19, v72);
-    v92 = v19 + 8u * 1u;
-    store16(v92, v91);
-    v93 = v25 + 30u * 1u;
-    v94 = load8(v93);
-    v95 = v25 + 31u * 1u;
-    v96 = load8(v95);
-    v97 = (u16)v94;
-    v98 = (u16)((u32)v97 << (8u & 15u));
-    v99 = (u16)v96;
-    v100 = (u16)((u32)v98 | (u32)v99);
-    v101 = f48(v58, v19, v100, v18);
-    v102 = v101.m0;
-    v103 = v102 == 1u;
-    if (v103) { goto L11; }
-    else { v5 = 0u; goto L4; }
+    v85 = (u64)v5;
+    v86 = (u64)((u64)v85 << (8u & 63u));
+    v87 = (u64)v4;
+    v88 = (u64)((u64)v86 | (u64)v87);
+    store_address(v13, a1);
+    v89 = v13 + 8u * 1u;
+    store64(v89, v88);
+    v90 = v13 + 16u * 1u;
+    store8(v90, v6);
+    v91 = v13 + 17u * 1u;
+    store8(v91, v7);
+    v92 = v13 + 18u * 1u;
+    memory_set(v92, 0u, 6u);
+    v93 = v7 == 0u;
+    v94 = v93 ? 52u : 54u;
+    v95 = v93 ? 53u : 55u;
+    v96 = a1 + v94 * 1u;
+    v97 = load8(v96);
+    v98 = a1 + v95 * 1u;
+    v99 = load8(v98);
+    v100 = a1 + 42u * 1u;
+    v101 = load8(v100);
+    v102 = a1 + 43u * 1u;
+    v103 = load8(v102);
+    v104 = a1 + 54u * 1u;
+    v105 = (u64)((u64)v88 + (u64)UINT64_C(18446744073709551562));
+    v106 = v93 ? v104 : ADDRESS(c155);
+    v107 = v93 ? v105 : 0u;
+    v108 = (u16)v101;
+    v109 = (u16)((u32)v108 << (8u & 15u));
+    v110 = (u16)v103;
+    v111 = (u16)((u32)v109 | (u32)v110);
+    v112 = (u16)v97;
+    v113 = (u16)((u32)v112 << (8u & 15u));
+    v114 = (u16)v99;
+    v115 = (u16)((u32)v113 | (u32)v114);
+    store8(v15, v6);
+    v116 = v15 + 1u * 1u;
+    store8(v116, 0u);
+    v117 = v15 + 2u * 1u;
+    store16(v117, v115);
+    v118 = v15 + 4u * 1u;
+    store16(v118, v111);
+    v119 = v15 + 6u * 1u;
+    store16(v119, 0u);
+    v120 = v15 + 8u * 1u;
+    store_address(v120, v106);
+    v121 = v15 + 16u * 1u;
+    store64(v121, v107);
+    f59(v14, v23, v25, v15);
+    v122 = load8(v14);
+    v123 = v122 == 1u;
+    if (v123) { goto L11; }
+    else { v10 = 0u; goto L23; }
 L11:;
-    v104 = v101.m1;
-    switch (v47) {
-    case 0u: v6 = 0u; v7 = 2u; v8 = 0u; v9 = 0u; v10 = 0u; v11 = 0u; goto L32;
-    case 2u: goto L12;
-    case 8192u: goto L13;
-    case 8193u: goto L14;
-    case 8194u: goto L15;
-    case 8195u: goto L16;
-    case 8196u: goto L17;
-    case 8197u: goto L18;
-    case 8198u: goto L19;
-    case 8199u: goto L20;
-    case 8200u: goto L21;
-    case 8201u: goto L22;
-    case 8202u: goto L23;
-    case 8203u: goto L24;
-    case 8204u: goto L25;
-    case 8205u: goto L26;
-    case 8206u: goto L27;
-    case 8208u: goto L28;
-    case 8209u: goto L29;
-    case 24576u: goto L30;
-    case 24577u: goto L31;
-    default: v5 = 0u; goto L4;
-    }
+    v124 = v14 + 4u * 1u;
+    v125 = load8(v124);
+    v126 = v14 + 5u * 1u;
+    v127 = load8(v126);
+    v128 = v14 + 6u * 1u;
+    v129 = load8(v128);
+    v130 = v14 + 8u * 1u;
+    v131 = load16(v130);
+    v132 = v14 + 10u * 1u;
+    v133 = load16(v132);
+    v134 = f60(a0, v13);
+    v135 = v134.m0;
+    v136 = v135 == 1u;
+    if (v136) { goto L12; }
+    else { v10 = 0u; goto L23; }
 L12:;
-    v6 = 0u; v7 = 1u; v8 = 1u; v9 = 0u; v10 = 1u; v11 = 0u; goto L32;
-L13:;
-    v6 = 0u; v7 = 1u; v8 = 1u; v9 = 1u; v10 = 2u; v11 = 0u; goto L32;
-L14:;
-    v6 = 0u; v7 = 1u; v8 = 1u; v9 = 1u; v10 = 3u; v11 = 0u; goto L32;
-L15:;
-    v6 = 0u; v7 = 1u; v8 = 1u; v9 = 1u; v10 = 4u; v11 = 0u; goto L32;
-L16:;
-    v6 = 0u; v7 = 1u; v8 = 1u; v9 = 1u; v10 = 5u; v11 = 0u; goto L32;
-L17:;
-    v6 = 4u; v7 = 2u; v8 = 1u; v9 = 1u; v10 = 6u; v11 = 0u; goto L32;
-L18:;
-    v6 = 0u; v7 = 1u; v8 = 1u; v9 = 0u; v10 = 7u; v11 = 0u; goto L32;
-L19:;
-    v6 = 0u; v7 = 1u; v8 = 1u; v9 = 0u; v10 = 8u; v11 = 0u; goto L32;
-L20:;
-    v6 = 0u; v7 = 1u; v8 = 1u; v9 = 0u; v10 = 9u; v11 = 0u; goto L32;
-L21:;
-    v6 = 0u; v7 = 1u; v8 = 1u; v9 = 1u; v10 = 10u; v11 = 0u; goto L32;
-L22:;
-    v6 = 4u; v7 = 2u; v8 = 1u; v9 = 0u; v10 = 11u; v11 = 0u; goto L32;
-L23:;
-    v6 = 4u; v7 = 2u; v8 = 1u; v9 = 0u; v10 = 11u; v11 = 8u; goto L32;
-L24:;
-    v6 = 4u; v7 = 2u; v8 = 1u; v9 = 0u; v10 = 11u; v11 = 16u; goto L32;
-L25:;
-    v6 = 4u; v7 = 2u; v8 = 1u; v9 = 1u; v10 = 12u; v11 = 0u; goto L32;
-L26:;
-    v6 = 4u; v7 = 2u; v8 = 0u; v9 = 1u; v10 = 13u; v11 = 0u; goto L32;
-L27:;
-    v6 = 4u; v7 = 2u; v8 = 0u; v9 = 1u; v10 = 14u; v11 = 0u; goto L32;
-L28:;
-    v6 = 0u; v7 = 1u; v8 = 1u; v9 = 0u; v10 = 15u; v11 = 0u; goto L32;
-L29:;
-    v6 = 0u; v7 = 1u; v8 = 1u; v9 = 0u; v10 = 16u; v11 = 0u; goto L32;
-L30:;
-    v6 = 4u; v7 = 2u; v8 = 1u; v9 = 0u; v10 = 11u; v11 = 24u; goto L32;
-L31:;
-    v6 = 4u; v7 = 2u; v8 = 1u; v9 = 0u; v10 = 11u; v11 = 32u; goto L32;
-L32:;
-    switch (v21) {
-    case 2u: v5 = 0u; goto L4;
-    case 1u: goto L35;
-    case 3u: goto L33;
-    default: goto L34;
-    }
-L33:;
-    if (v8) { v5 = 0u; goto L4; }
-    else { v12 = v6; goto L36; }
-L34:;
-    UNREACHABLE;
-L35:;
-    if (v9) { v5 = 0u; goto L4; }
-    else { v12 = v7; goto L36; }
-L36:;
-    v105 = (u8)((u32)v12 & (u32)v104);
-    v106 = v105 == v12;
-    if (v106) { goto L37; }
-    else { v5 = 0u; goto L4; }
-L37:;
-    switch (v21) {
-    case 1u: goto L38;
-    case 3u: goto L46;
-    case 2u: goto L53;
-    default: goto L45;
-    }
-L38:;
-    switch (v10) {
-    case 0u: goto L40;
-    case 1u: goto L41;
-    case 7u: goto L44;
-    case 8u: goto L44;
-    case 9u: goto L44;
-    case 11u: goto L44;
-    case 15u: goto L44;
-    case 16u: goto L43;
-    case 2u: v5 = 0u; goto L4;
-    case 3u: v5 = 0u; goto L4;
-    case 4u: v5 = 0u; goto L4;
-    case 5u: v5 = 0u; goto L4;
-    case 6u: v5 = 0u; goto L4;
-    case 10u: v5 = 0u; goto L4;
-    case 12u: v5 = 0u; goto L4;
-    case 13u: v5 = 0u; goto L4;
-    case 14u: v5 = 0u; goto L4;
-    default: goto L39;
-    }
-L39:;
-    UNREACHABLE;
-L40:;
-    v107 = v3 == 0u;
-    if (v107) { goto L47; }
-    else { v5 = 0u; goto L4; }
-L41:;
-    v108 = v3 == 0u;
-    if (v108) { v5 = 0u; goto L4; }
-    else { goto L42; }
-L42:;
-    v109 = load8(v2);
-    v110 = (u64)v109;
-    v111 = (u64)((u64)v110 + (u64)1u);
-    v112 = (u64)((u64)v111 & (u64)1u);
-    v113 = (u64)((u64)v112 + (u64)v111);
-    v114 = v3 == v113;
-    if (v114) { goto L47; }
-    else { v5 = 0u; goto L4; }
-L43:;
-    v115 = v3 == 4u;
-    if (v115) { goto L47; }
-    else { v5 = 0u; goto L4; }
-L44:;
-    v116 = v3 == 2u;
-    if (v116) { goto L47; }
-    else { v5 = 0u; goto L4; }
-L45:;
-    UNREACHABLE;
-L46:;
-    v117 = v3 == 0u;
-    if (v117) { goto L53; }
-    else { v5 = 0u; goto L4; }
-L47:;
-    switch (v10) {
-    case 0u: v13 = 1u; v14 = v10; v15 = v10; v16 = v10; goto L55;
-    case 1u: goto L48;
-    case 7u: goto L49;
-    case 8u: goto L49;
-    case 9u: goto L49;
-    case 11u: goto L54;
-    case 15u: goto L50;
-    case 16u: goto L51;
-    case 2u: goto L52;
-    case 3u: goto L52;
-    case 4u: goto L52;
-    case 5u: goto L52;
-    case 6u: goto L52;
-    case 10u: goto L52;
-    case 12u: goto L52;
-    case 13u: goto L52;
-    case 14u: goto L52;
-    default: goto L39;
-    }
-L48:;
-    v13 = 2u; v14 = 128u; v15 = 0u; v16 = 0u; goto L55;
-L49:;
-    v13 = 3u; v14 = 0u; v15 = 0u; v16 = 0u; goto L55;
-L50:;
-    v13 = 5u; v14 = 23u; v15 = 49u; v16 = 254u; goto L55;
-L51:;
-    v13 = 8u; v14 = 0u; v15 = 0u; v16 = 0u; goto L55;
-L52:;
-    v13 = 0u; v14 = 0u; v15 = 0u; v16 = 0u; goto L55;
-L53:;
-    v4 = 1u; goto L3;
-L54:;
-    v118 = (u64)v11;
-    v119 = (u64)(((u64)UINT64_C(30165894151) >> (v118 & 63u)) & UINT64_C(1099511627775));
-    v120 = (u8)(v119);
-    v121 = (u64)v11;
-    v122 = (u64)(((u64)UINT64_C(34360263172) >> (v121 & 63u)) & UINT64_C(1099511627775));
-    v123 = (u8)(v122);
-    v124 = (u64)v11;
-    v125 = (u64)(((u64)UINT64_C(21474904580) >> (v124 & 63u)) & UINT64_C(1099511627775));
-    v126 = (u8)(v125);
-    v13 = v120; v14 = v123; v15 = v126; v16 = 0u; goto L55;
-L55:;
-    store8(v17, v13);
-    v127 = v17 + 1u * 1u;
-    store8(v127, v14);
-    v128 = v17 + 2u * 1u;
-    store8(v128, v15);
-    v129 = v17 + 3u * 1u;
-    store8(v129, v16);
-    v130 = f36(v17, v2, v3);
-    v4 = v130; goto L3;
-}
-
-static void f61(address a0, address a1, address a2) {
-    address v3, v10, v11, v12, v15, v17, v18, v19, v20, v21, v22, v23, v24, v28, v30, v31;
-    address v33, v34, v36, v38, v40, v41, v44, v45, v46, v49, v51, v52, v54, v55, v57, v59;
-    address v61, v62, v65, v66, v67, v70, v72, v73, v75, v76, v78, v80, v82, v83, v86, v87;
-    address v88;
-    u64 v4, v35, v42, v43, v47, v48, v56, v63, v64, v68, v69, v77, v84, v85, v89, v90;
-    u8 v5, v6, v7, v8, v9, v13, v14, v25, v26, v27, v29, v50, v71, v91;
-    u16 v16, v32, v37, v39, v53, v58, v60, v74, v79, v81;
-    u64 block0[1];
-    u64 block1[4];
-    u64 block2[1];
-    v10 = ADDRESS(block0);
-    v11 = ADDRESS(block1);
-    v12 = ADDRESS(block2);
-    v13 = load8(a1);
-    v14 = v13 != 0u;
-    v15 = a1 + 2u * 1u;
-    v16 = load16(v15);
-    switch (v16) {
-    case 0u: v3 = ADDRESS(c120); v4 = 19u; v5 = 0u; v6 = 1u; v7 = 7u; v8 = 0u; v9 = 0u; goto L21;
-    case 2u: goto L1;
-    case 8192u: goto L2;
-    case 8193u: goto L3;
-    case 8194u: goto L4;
-    case 8195u: goto L5;
-    case 8196u: goto L6;
-    case 8197u: goto L7;
-    case 8198u: goto L8;
-    case 8199u: goto L9;
-    case 8200u: goto L10;
-    case 8201u: goto L11;
-    case 8202u: goto L12;
-    case 8203u: goto L13;
-    case 8204u: goto L14;
-    case 8205u: goto L15;
-    case 8206u: goto L16;
-    case 8208u: goto L17;
-    case 8209u: goto L18;
-    case 24576u: goto L19;
-    case 24577u: goto L20;
-    default: goto L22;
-    }
-L1:;
-    v3 = ADDRESS(c121); v4 = 16u; v5 = 1u; v6 = 0u; v7 = 3u; v8 = 1u; v9 = 0u; goto L21;
-L2:;
-    v3 = ADDRESS(c122); v4 = 16u; v5 = 1u; v6 = 0u; v7 = 1u; v8 = 2u; v9 = 0u; goto L21;
-L3:;
-    v3 = ADDRESS(c123); v4 = 16u; v5 = 1u; v6 = 0u; v7 = 1u; v8 = 3u; v9 = 0u; goto L21;
-L4:;
-    v3 = ADDRESS(c124); v4 = 15u; v5 = 1u; v6 = 0u; v7 = 1u; v8 = 4u; v9 = 0u; goto L21;
-L5:;
-    v3 = ADDRESS(c125); v4 = 24u; v5 = 1u; v6 = 0u; v7 = 1u; v8 = 5u; v9 = 0u; goto L21;
-L6:;
-    v3 = ADDRESS(c126); v4 = 13u; v5 = 0u; v6 = 1u; v7 = 1u; v8 = 6u; v9 = 0u; goto L21;
-L7:;
-    v3 = ADDRESS(c127); v4 = 9u; v5 = 1u; v6 = 0u; v7 = 3u; v8 = 7u; v9 = 0u; goto L21;
-L8:;
-    v3 = ADDRESS(c128); v4 = 9u; v5 = 1u; v6 = 0u; v7 = 3u; v8 = 8u; v9 = 0u; goto L21;
-L9:;
-    v3 = ADDRESS(c129); v4 = 6u; v5 = 1u; v6 = 0u; v7 = 3u; v8 = 9u; v9 = 0u; goto L21;
-L10:;
-    v3 = ADDRESS(c130); v4 = 10u; v5 = 1u; v6 = 0u; v7 = 1u; v8 = 10u; v9 = 0u; goto L21;
-L11:;
-    v3 = ADDRESS(c136); v4 = 21u; v5 = 0u; v6 = 1u; v7 = 3u; v8 = 11u; v9 = 0u; goto L21;
-L12:;
-    v3 = ADDRESS(c138); v4 = 24u; v5 = 0u; v6 = 1u; v7 = 3u; v8 = 11u; v9 = 1u; goto L21;
-L13:;
-    v3 = ADDRESS(c140); v4 = 17u; v5 = 0u; v6 = 1u; v7 = 3u; v8 = 11u; v9 = 2u; goto L21;
-L14:;
-    v3 = ADDRESS(c131); v4 = 14u; v5 = 0u; v6 = 1u; v7 = 1u; v8 = 12u; v9 = 0u; goto L21;
-L15:;
-    v3 = ADDRESS(c132); v4 = 11u; v5 = 0u; v6 = 1u; v7 = 4u; v8 = 13u; v9 = 0u; goto L21;
-L16:;
-    v3 = ADDRESS(c133); v4 = 12u; v5 = 0u; v6 = 1u; v7 = 4u; v8 = 14u; v9 = 0u; goto L21;
-L17:;
-    v3 = ADDRESS(c134); v4 = 14u; v5 = 1u; v6 = 0u; v7 = 3u; v8 = 15u; v9 = 0u; goto L21;
-L18:;
-    v3 = ADDRESS(c135); v4 = 14u; v5 = 1u; v6 = 0u; v7 = 3u; v8 = 16u; v9 = 0u; goto L21;
-L19:;
-    v3 = ADDRESS(c142); v4 = 15u; v5 = 0u; v6 = 1u; v7 = 3u; v8 = 11u; v9 = 3u; goto L21;
-L20:;
-    v3 = ADDRESS(c144); v4 = 27u; v5 = 0u; v6 = 1u; v7 = 3u; v8 = 11u; v9 = 4u; goto L21;
-L21:;
-    memory_set(v10, 0u, 6u);
-    memory_cpy(v12, v10, 6u);
-    store16(v11, v16);
-    v17 = v11 + 2u * 1u;
-    memory_cpy(v17, v12, 6u);
-    v18 = v11 + 8u * 1u;
-    store_address(v18, v3);
-    v19 = v11 + 16u * 1u;
-    store64(v19, v4);
-    v20 = v11 + 24u * 1u;
-    store8(v20, v6);
-    v21 = v11 + 25u * 1u;
-    store8(v21, v7);
-    v22 = v11 + 26u * 1u;
-    store8(v22, v8);
-    v23 = v11 + 27u * 1u;
-    store8(v23, v9);
-    v24 = v11 + 28u * 1u;
-    store32(v24, 0u);
-    v25 = (u8)((u32)v7 & (u32)1u);
-    v26 = v25 == 0u;
-    v27 = (u8)(((u32)v14 | (u32)v26) & UINT64_C(1));
-    if (v5) { goto L24; }
-    else { goto L30; }
-L22:;
-    v28 = a2 + 72u * 1u;
-    v29 = load8(v28);
-    v30 = a2 + 58u * 1u;
-    store8(v30, 0u);
-    v31 = a2 + 56u * 1u;
-    v32 = load16(v31);
-    v33 = a2 + 64u * 1u;
-    v34 = load_address(v33);
-    v35 = (u64)v29;
-    v36 = ADDRESS(c373) + v35 * 2u;
-    v37 = load16(v36);
-    v38 = a2 + 54u * 1u;
-    v39 = load16(v38);
-    v40 = load_address(v34);
-    v41 = v34 + 16u * 1u;
-    v42 = load64(v41);
-    v43 = (u64)((u64)v42 * (u64)1476u);
-    v44 = v40 + v43 * 1u;
-    store16(v44, v32);
-    v45 = v44 + 2u * 1u;
-    store16(v45, 60u);
-    v46 = v44 + 4u * 1u;
-    f35(a2, v32, v37, v39, v46);
-    v47 = load64(v41);
-    v48 = (u64)((u64)v47 + (u64)1u);
-    store64(v41, v48);
-    goto L23;
-L23:;
-    return;
-L24:;
-    if (v27) { goto L25; }
-    else { goto L26; }
-L25:;
-    v49 = a2 + 72u * 1u;
-    v50 = load8(v49);
-    v51 = a2 + 58u * 1u;
-    store8(v51, 0u);
-    v52 = a2 + 56u * 1u;
-    v53 = load16(v52);
-    v54 = a2 + 64u * 1u;
-    v55 = load_address(v54);
-    v56 = (u64)v50;
-    v57 = ADDRESS(c373) + v56 * 2u;
-    v58 = load16(v57);
-    v59 = a2 + 54u * 1u;
-    v60 = load16(v59);
-    v61 = load_address(v55);
-    v62 = v55 + 16u * 1u;
-    v63 = load64(v62);
-    v64 = (u64)((u64)v63 * (u64)1476u);
-    v65 = v61 + v64 * 1u;
-    store16(v65, v53);
-    v66 = v65 + 2u * 1u;
-    store16(v66, 60u);
-    v67 = v65 + 4u * 1u;
-    f35(a2, v53, v58, v60, v67);
-    v68 = load64(v62);
-    v69 = (u64)((u64)v68 + (u64)1u);
-    store64(v62, v69);
-    goto L23;
-L26:;
-    switch (v8) {
-    case 7u: goto L28;
-    case 8u: goto L28;
-    case 9u: goto L28;
-    case 10u: goto L28;
-    case 15u: goto L28;
-    case 0u: goto L29;
-    case 1u: goto L29;
-    case 2u: goto L29;
-    case 3u: goto L29;
-    case 4u: goto L29;
-    case 5u: goto L29;
-    case 6u: goto L29;
-    case 11u: goto L29;
-    case 12u: goto L29;
-    case 13u: goto L29;
-    case 14u: goto L29;
-    case 16u: goto L29;
-    default: goto L27;
-    }
-L27:;
-    UNREACHABLE;
-L28:;
-    v70 = a2 + 72u * 1u;
-    v71 = load8(v70);
-    v72 = a2 + 58u * 1u;
-    store8(v72, 0u);
-    v73 = a2 + 56u * 1u;
-    v74 = load16(v73);
-    v75 = a2 + 64u * 1u;
-    v76 = load_address(v75);
-    v77 = (u64)v71;
-    v78 = ADDRESS(c373) + v77 * 2u;
-    v79 = load16(v78);
-    v80 = a2 + 54u * 1u;
-    v81 = load16(v80);
-    v82 = load_address(v76);
-    v83 = v76 + 16u * 1u;
-    v84 = load64(v83);
-    v85 = (u64)((u64)v84 * (u64)1476u);
-    v86 = v82 + v85 * 1u;
-    store16(v86, v74);
-    v87 = v86 + 2u * 1u;
-    store16(v87, 60u);
-    v88 = v86 + 4u * 1u;
-    f35(a2, v74, v79, v81, v88);
-    v89 = load64(v83);
-    v90 = (u64)((u64)v89 + (u64)1u);
-    store64(v83, v90);
-    goto L23;
-L29:;
-    f62(a0, v8, a2);
-    goto L23;
-L30:;
-    v91 = (u8)v27;
-    f63(a0, v11, a1, v91, a2);
-    goto L23;
-}
-
-static void f62(address a0, u8 a1, address a2) {
-    address v3, v5, v7, v8, v10, v11, v13, v15, v17, v18, v21, v22, v23, v26, v28, v29;
-    address v31, v32, v34, v36, v38, v39, v42, v43, v44;
-    u8 v4, v6, v27;
-    u16 v9, v14, v16, v30, v35, v37;
-    u64 v12, v19, v20, v24, v25, v33, v40, v41, v45, v46;
-    u64 block0[18];
-    v3 = ADDRESS(block0);
-    v4 = a1 == 1u;
-    if (v4) { goto L1; }
-    else { goto L2; }
-L1:;
-    v5 = a2 + 72u * 1u;
-    v6 = load8(v5);
-    v7 = a2 + 58u * 1u;
-    store8(v7, 0u);
-    v8 = a2 + 56u * 1u;
-    v9 = load16(v8);
-    v10 = a2 + 64u * 1u;
-    v11 = load_address(v10);
-    v12 = (u64)v6;
-    v13 = ADDRESS(c373) + v12 * 2u;
-    v14 = load16(v13);
-    v15 = a2 + 54u * 1u;
-    v16 = load16(v15);
-    v17 = load_address(v11);
-    v18 = v11 + 16u * 1u;
-    v19 = load64(v18);
-    v20 = (u64)((u64)v19 * (u64)1476u);
-    v21 = v17 + v20 * 1u;
-    store16(v21, v9);
-    v22 = v21 + 2u * 1u;
-    store16(v22, 60u);
-    v23 = v21 + 4u * 1u;
-    f35(a2, v9, v14, v16, v23);
-    v24 = load64(v18);
-    v25 = (u64)((u64)v24 + (u64)1u);
-    store64(v18, v25);
-    goto L3;
-L2:;
-    memory_set(v3, 0u, 144u);
-    f40(a0, a1, v3);
-    v26 = a2 + 72u * 1u;
-    v27 = load8(v26);
-    v28 = a2 + 58u * 1u;
-    store8(v28, 0u);
-    v29 = a2 + 56u * 1u;
-    v30 = load16(v29);
-    v31 = a2 + 64u * 1u;
-    v32 = load_address(v31);
-    v33 = (u64)v27;
-    v34 = ADDRESS(c373) + v33 * 2u;
-    v35 = load16(v34);
-    v36 = a2 + 54u * 1u;
-    v37 = load16(v36);
-    v38 = load_address(v32);
-    v39 = v32 + 16u * 1u;
-    v40 = load64(v39);
-    v41 = (u64)((u64)v40 * (u64)1476u);
-    v42 = v38 + v41 * 1u;
-    store16(v42, v30);
-    v43 = v42 + 2u * 1u;
-    store16(v43, 60u);
-    v44 = v42 + 4u * 1u;
-    f35(a2, v30, v35, v37, v44);
-    v45 = load64(v39);
-    v46 = (u64)((u64)v45 + (u64)1u);
-    store64(v39, v46);
-    goto L3;
-L3:;
-    return;
-}
-
-static void f63(address a0, address a1, address a2, u8 a3, address a4) {
-    u16 v5, v6, v9, v10, v12, v20, v21, v35, v39, v43, v47, v58, v61, v75, v79, v81;
-    u16 v85, v86, v94;
-    u64 v7, v17, v19, v31, v32, v37, v45, v52, v54, v55, v66, v68, v69, v77, v83, v89;
-    u64 v90, v95, v96, v97;
-    address v8, v11, v14, v18, v23, v25, v26, v27, v28, v29, v30, v36, v38, v44, v46, v53;
-    address v59, v62, v67, v76, v78, v82, v84, v87, v88, v91, v92, v93;
-    u8 v13, v15, v16, v22, v24, v33, v34, v40, v41, v42, v48, v49, v50, v51, v56, v57;
-    u8 v60, v63, v64, v65, v70, v71, v72, v73, v74, v80, v98;
-    v11 = a2 + 4u * 1u;
-    v12 = load16(v11);
-    v13 = v12 == 65535u;
-    if (v13) { goto L1; }
-    else { v5 = v12; v6 = v12; goto L2; }
-L1:;
-    v14 = a0 + 240u * 1u;
-    v15 = load8(v14);
-    v16 = v15 == 0u;
-    v17 = v16 ? 376u : 256u;
-    v18 = a0 + v17 * 1u;
-    v19 = load64(v18);
-    v20 = (u16)(v19);
-    v5 = v20; v6 = 1u; goto L2;
-L2:;
-    v21 = (u16)((u32)v5 + (u32)1u);
-    v22 = v6 < v21;
-    if (v22) { goto L3; }
-    else { goto L32; }
-L3:;
-    v23 = a1 + 26u * 1u;
-    v24 = (u8)((a3) & UINT64_C(1));
-    v25 = a0 + 240u * 1u;
-    v26 = a4 + 72u * 1u;
-    v27 = a4 + 58u * 1u;
-    v28 = a4 + 56u * 1u;
-    v29 = a4 + 64u * 1u;
-    v30 = a4 + 54u * 1u;
-    v31 = (u64)v6;
-    v32 = (u64)v21;
-    v7 = v31; goto L4;
-L4:;
-    v33 = load8(v23);
-    if (v24) { goto L5; }
-    else { goto L6; }
-L5:;
-    v34 = load8(v26);
-    store8(v27, 1u);
-    v35 = load16(v28);
-    v36 = load_address(v29);
-    v37 = (u64)v34;
-    v38 = ADDRESS(c373) + v37 * 2u;
-    v39 = load16(v38);
-    v8 = v36; v9 = v35; v10 = v39; goto L31;
-L6:;
-    v40 = load8(a2);
-    v41 = v40 == 3u;
-    if (v41) { goto L7; }
-    else { goto L8; }
-L7:;
-    v42 = load8(v26);
-    store8(v27, 1u);
-    v43 = load16(v28);
-    v44 = load_address(v29);
-    v45 = (u64)v42;
-    v46 = ADDRESS(c373) + v45 * 2u;
-    v47 = load16(v46);
-    v8 = v44; v9 = v43; v10 = v47; goto L31;
-L8:;
-    v48 = v33 == 6u;
-    if (v48) { goto L9; }
-    else { goto L27; }
-L9:;
-    v49 = v7 == 0u;
-    if (v49) { goto L19; }
-    else { goto L10; }
-L10:;
-    v50 = load8(v25);
-    v51 = v50 == 0u;
-    v52 = v51 ? 376u : 256u;
-    v53 = a0 + v52 * 1u;
-    v54 = load64(v53);
-    v55 = (u64)((u64)v7 + (u64)UINT64_C(18446744073709551615));
-    v56 = v55 < v54;
-    if (v56) { goto L11; }
-    else { goto L19; }
-L11:;
-    v57 = load8(v26);
-    store8(v27, 1u);
-    v58 = load16(v28);
-    v59 = load_address(v29);
-    switch (v57) {
-    case 0u: v8 = v59; v9 = v58; v10 = 1u; goto L31;
-    case 1u: goto L12;
-    case 2u: goto L13;
+    v137 = v134.m1;
+    switch (v6) {
+    case 0u: goto L13;
+    case 1u: goto L16;
     case 3u: goto L14;
-    case 4u: goto L15;
-    case 5u: goto L16;
-    case 6u: goto L17;
-    default: goto L18;
+    case 2u: goto L17;
+    case 4u: goto L17;
+    default: goto L15;
     }
-L12:;
-    v8 = v59; v9 = v58; v10 = 2u; goto L31;
 L13:;
-    v8 = v59; v9 = v58; v10 = 3u; goto L31;
+    v138 = (u8)((u32)v127 & (u32)1u);
+    v139 = v138 == 0u;
+    if (v139) { goto L17; }
+    else { goto L18; }
 L14:;
-    v8 = v59; v9 = v58; v10 = 4u; goto L31;
+    v140 = (u8)((u32)v127 & (u32)4u);
+    v141 = v140 == 0u;
+    if (v141) { goto L17; }
+    else { goto L18; }
 L15:;
-    v8 = v59; v9 = v58; v10 = 5u; goto L31;
+    UNREACHABLE;
 L16:;
-    v8 = v59; v9 = v58; v10 = 6u; goto L31;
+    v142 = (u8)((u32)v127 & (u32)2u);
+    v143 = v142 == 0u;
+    if (v143) { goto L17; }
+    else { goto L18; }
 L17:;
-    v8 = v59; v9 = v58; v10 = 65534u; goto L31;
+    v144 = v6 == 1u;
+    v145 = v144 ? 4u : 5u;
+    v8 = v145; v9 = 1u; goto L22;
 L18:;
-    UNREACHABLE;
+    v146 = (u8)((u32)v137 & (u32)v129);
+    v147 = v146 == v129;
+    if (v147) { goto L19; }
+    else { v8 = 5u; v9 = 1u; goto L22; }
 L19:;
-    v60 = load8(v26);
-    store8(v27, 1u);
-    v61 = load16(v28);
-    v62 = load_address(v29);
-    switch (v60) {
-    case 0u: v8 = v62; v9 = v61; v10 = 1u; goto L31;
-    case 1u: goto L20;
-    case 2u: goto L21;
-    case 3u: goto L22;
-    case 4u: goto L23;
-    case 5u: goto L24;
-    case 6u: goto L25;
-    default: goto L26;
-    }
+    v148 = (u64)v131;
+    v149 = v107 < v148;
+    if (v149) { v8 = 2u; v9 = 1u; goto L22; }
+    else { goto L20; }
 L20:;
-    v8 = v62; v9 = v61; v10 = 2u; goto L31;
+    v150 = (u64)v133;
+    v151 = v107 <= v150;
+    v152 = v107 < 131u;
+    v153 = (u8)(((u32)v152 & (u32)v151) & UINT64_C(1));
+    if (v153) { goto L21; }
+    else { v8 = 2u; v9 = 1u; goto L22; }
 L21:;
-    v8 = v62; v9 = v61; v10 = 3u; goto L31;
+    v154 = v125 == 1u;
+    v155 = v111 == 65535u;
+    v156 = v154 ? v155 : 0u;
+    v157 = (u8)v156;
+    v8 = 0u; v9 = v157; goto L22;
 L22:;
-    v8 = v62; v9 = v61; v10 = 4u; goto L31;
+    v158 = a1 + 20u * 1u;
+    v159 = load64(v158);
+    v160 = a1 + 28u * 1u;
+    v161 = load8(v160);
+    v162 = a1 + 29u * 1u;
+    v163 = load8(v162);
+    v164 = a1 + 30u * 1u;
+    v165 = load8(v164);
+    v166 = a1 + 31u * 1u;
+    v167 = load8(v166);
+    v168 = (u16)v165;
+    v169 = (u16)((u32)v168 << (8u & 15u));
+    v170 = (u16)v167;
+    v171 = (u16)((u32)v169 | (u32)v170);
+    v172 = (u16)v161;
+    v173 = (u16)((u32)v172 << (8u & 15u));
+    v174 = (u16)v163;
+    v175 = (u16)((u32)v173 | (u32)v174);
+    store64(v16, v159);
+    v176 = v16 + 8u * 1u;
+    store16(v176, v175);
+    v177 = v16 + 10u * 1u;
+    store16(v177, v171);
+    v178 = v16 + 12u * 1u;
+    store32(v178, 0u);
+    v179 = v16 + 16u * 1u;
+    store8(v179, v6);
+    v180 = v16 + 17u * 1u;
+    store8(v180, 0u);
+    v181 = v16 + 18u * 1u;
+    store16(v181, v115);
+    v182 = v16 + 20u * 1u;
+    store16(v182, v111);
+    v183 = v16 + 22u * 1u;
+    store16(v183, 0u);
+    v184 = v16 + 24u * 1u;
+    store_address(v184, v106);
+    v185 = v16 + 32u * 1u;
+    store64(v185, v107);
+    store8(v17, v18);
+    v186 = v17 + 1u * 1u;
+    store8(v186, v20);
+    v187 = v17 + 8u * 1u;
+    memory_cpy(v187, v21, 16u);
+    f61(a0, v16, v9, v8, v17);
+    v10 = 1u; goto L23;
 L23:;
-    v8 = v62; v9 = v61; v10 = 5u; goto L31;
+    v11 = v10; goto L24;
 L24:;
-    v8 = v62; v9 = v61; v10 = 6u; goto L31;
-L25:;
-    v8 = v62; v9 = v61; v10 = 65534u; goto L31;
-L26:;
-    UNREACHABLE;
-L27:;
-    v63 = v7 == 0u;
-    if (v63) { goto L30; }
-    else { goto L28; }
-L28:;
-    v64 = load8(v25);
-    v65 = v64 == 0u;
-    v66 = v65 ? 376u : 256u;
-    v67 = a0 + v66 * 1u;
-    v68 = load64(v67);
-    v69 = (u64)((u64)v7 + (u64)UINT64_C(18446744073709551615));
-    v70 = v69 < v68;
-    v71 = (u8)((u32)v33 + (u32)245u);
-    v72 = v71 < 2u;
-    v73 = v70 ? v72 : 0u;
-    if (v73) { goto L29; }
-    else { goto L30; }
-L29:;
-    v74 = load8(v26);
-    store8(v27, 1u);
-    v75 = load16(v28);
-    v76 = load_address(v29);
-    v77 = (u64)v74;
-    v78 = ADDRESS(c373) + v77 * 2u;
-    v79 = load16(v78);
-    v8 = v76; v9 = v75; v10 = v79; goto L31;
-L30:;
-    v80 = load8(v26);
-    store8(v27, 1u);
-    v81 = load16(v28);
-    v82 = load_address(v29);
-    v83 = (u64)v80;
-    v84 = ADDRESS(c373) + v83 * 2u;
-    v85 = load16(v84);
-    v8 = v82; v9 = v81; v10 = v85; goto L31;
-L31:;
-    v86 = load16(v30);
-    v87 = load_address(v8);
-    v88 = v8 + 16u * 1u;
-    v89 = load64(v88);
-    v90 = (u64)((u64)v89 * (u64)1476u);
-    v91 = v87 + v90 * 1u;
-    store16(v91, v9);
-    v92 = v91 + 2u * 1u;
-    store16(v92, 60u);
-    v93 = v91 + 4u * 1u;
-    v94 = (u16)(v7);
-    f35(a4, v94, v10, v86, v93);
-    v95 = load64(v88);
-    v96 = (u64)((u64)v95 + (u64)1u);
-    store64(v88, v96);
-    v97 = (u64)((u64)v7 + (u64)1u);
-    v98 = v97 == v32;
-    if (v98) { goto L32; }
-    else { v7 = v97; goto L4; }
-L32:;
+    return v11;
+}
+
+static void f59(address a0, address a1, u64 a2, address a3) {
+    address v4, v7, v8, v11, v19;
+    u64 v5, v12;
+    u8 v6, v10, v14, v15, v16, v17;
+    u16 v9, v13, v18;
+    u64 block0[2];
+    v7 = ADDRESS(block0);
+    memory_set(v7, 0u, 10u);
+    v8 = a3 + 2u * 1u;
+    v9 = load16(v8);
+    v4 = a1; v5 = a2; goto L1;
+L1:;
+    v10 = v5 == 0u;
+    if (v10) { v6 = 0u; goto L6; }
+    else { goto L2; }
+L2:;
+    v11 = v4 + 10u * 1u;
+    v12 = (u64)((u64)v5 + (u64)UINT64_C(18446744073709551615));
+    v13 = load16(v4);
+    v14 = v13 == v9;
+    if (v14) { goto L3; }
+    else { v4 = v11; v5 = v12; goto L1; }
+L3:;
+    v15 = load8(a3);
+    v16 = (u8)((u32)v15 & (u32)253u);
+    v17 = v16 == 1u;
+    if (v17) { goto L4; }
+    else { v6 = 0u; goto L6; }
+L4:;
+    switch (v9) {
+    case 0u: v6 = 0u; goto L6;
+    case 2u: v6 = 0u; goto L6;
+    case 8192u: v6 = 0u; goto L6;
+    case 8193u: v6 = 0u; goto L6;
+    case 8194u: v6 = 0u; goto L6;
+    case 8195u: v6 = 0u; goto L6;
+    case 8196u: v6 = 0u; goto L6;
+    case 8197u: v6 = 0u; goto L6;
+    case 8198u: v6 = 0u; goto L6;
+    case 8199u: v6 = 0u; goto L6;
+    case 8200u: v6 = 0u; goto L6;
+    case 8201u: v6 = 0u; goto L6;
+    case 8202u: v6 = 0u; goto L6;
+    case 8203u: v6 = 0u; goto L6;
+    case 8204u: v6 = 0u; goto L6;
+    case 8205u: v6 = 0u; goto L6;
+    case 8206u: v6 = 0u; goto L6;
+    case 8208u: v6 = 0u; goto L6;
+    case 8209u: v6 = 0u; goto L6;
+    case 24576u: v6 = 0u; goto L6;
+    case 24577u: v6 = 0u; goto L6;
+    default: goto L5;
+    }
+L5:;
+    memory_cpy(v7, v4, 10u);
+    v6 = 1u; goto L6;
+L6:;
+    v18 = (u16)v6;
+    store16(a0, v18);
+    v19 = a0 + 2u * 1u;
+    memory_cpy(v19, v7, 10u);
     return;
 }
 
-static void f64(address a0, address a1, u16 a2, address a3, u64 a4, address a5, u64 a6, address a7, u64 a8) {
-    u64 v9, v11, v12, v13, v15, v16, v18, v19, v21, v39, v40, v50, v52, v54, v71, v73;
-    u64 v86, v94, v96, v111, v113, v115, v119, v121, v128, v129, v135, v136, v138, v142, v153, v157;
-    u64 v158, v163, v164, v198, v218, v219, v220, v225, v230, v243, v244, v254, v256, v258, v275, v277;
-    u64 v290, v298, v300, v335, v347, v349;
-    address v10, v14, v22, v23, v24, v25, v26, v27, v28, v29, v32, v33, v35, v38, v41, v43;
-    address v45, v47, v49, v51, v53, v63, v64, v65, v66, v67, v68, v70, v72, v76, v80, v82;
-    address v85, v91, v95, v101, v104, v107, v108, v110, v116, v117, v120, v125, v126, v127, v133, v134;
-    address v139, v140, v143, v151, v152, v156, v169, v171, v174, v176, v182, v184, v199, v202, v203, v204;
-    address v205, v206, v207, v208, v209, v210, v211, v212, v213, v214, v215, v216, v217, v222, v223, v231;
-    address v232, v233, v236, v237, v239, v242, v245, v247, v249, v251, v253, v255, v257, v267, v268, v269;
-    address v270, v271, v272, v274, v276, v280, v284, v286, v289, v295, v299, v305, v307, v309, v311, v321;
-    address v322, v323, v324, v325, v326, v327, v328, v329, v330, v331, v333, v334, v336, v337, v338, v339;
-    address v340, v341, v343, v345, v346, v348, v350, v352, v353, v355, v356, v357, v358, v359, v360, v361;
-    u16 v17, v55, v56, v57, v58, v59, v60, v61, v62, v97, v112, v122, v123, v146, v147, v148;
-    u16 v149, v150, v165, v166, v167, v168, v178, v179, v180, v181, v186, v187, v188, v189, v190, v191;
-    u16 v192, v193, v197, v200, v201, v227, v228, v229, v259, v260, v261, v262, v263, v264, v265, v266;
-    u16 v301, v313, v314, v315, v316, v317, v318, v319, v320;
-    u8 v20, v30, v31, v34, v36, v37, v42, v44, v46, v48, v69, v74, v75, v77, v78, v79;
-    u8 v81, v83, v84, v87, v88, v89, v90, v92, v93, v98, v99, v100, v102, v103, v105, v106;
-    u8 v109, v114, v118, v124, v130, v131, v132, v137, v141, v144, v145, v154, v155, v159, v160, v161;
-    u8 v162, v170, v172, v173, v175, v177, v183, v185, v221, v224, v226, v234, v235, v238, v240, v241;
-    u8 v246, v248, v250, v252, v273, v278, v279, v281, v282, v283, v285, v287, v288, v291, v292, v293;
-    u8 v294, v296, v297, v302, v303, v304, v306, v308, v310, v312, v342, v344;
-    u32 v194, v195, v196, v332, v351, v354;
+static struct s1 f60(address a0, address a1) {
+    address v2, v6, v7, v8, v10, v13, v16, v18, v20, v22, v24, v26, v36, v37, v38, v39;
+    address v40, v41, v44, v46, v50, v54, v56, v59, v64, v68, v72, v74, v80, v81, v83;
+    u64 v3, v14, v15, v25, v27, v45, v47, v60, v67, v69;
+    u8 v4, v5, v9, v11, v12, v17, v19, v21, v23, v42, v43, v48, v49, v51, v52, v53;
+    u8 v55, v57, v58, v61, v62, v63, v65, v66, v71, v73, v75, v82, v84, v90, v91, v92;
+    u8 v93, v94;
+    u16 v28, v29, v30, v31, v32, v33, v34, v35, v70, v76, v77, v78, v79, v85, v86, v87;
+    u16 v88;
+    struct s1 v89, v95, v96;
     u64 block0[3];
-    u64 block1[3];
-    u64 block2[4];
-    u64 block3[5];
-    u64 block4[3];
-    u64 block5[3];
-    u64 block6[4];
-    u64 block7[12];
-    v22 = ADDRESS(block0);
-    v23 = ADDRESS(block1);
-    v24 = ADDRESS(block2);
-    v25 = ADDRESS(block3);
-    v26 = ADDRESS(block4);
-    v27 = ADDRESS(block5);
-    v28 = ADDRESS(block6);
-    v29 = ADDRESS(block7);
-    memory_set(v29, 0u, 96u);
-    memory_set(v28, 0u, 32u);
-    f8(v28, a3, a4);
-    v30 = load8(v28);
-    v31 = v30 == 0u;
-    if (v31) { goto L1; }
-    else { goto L39; }
+    u64 block1[2];
+    v6 = ADDRESS(block0);
+    v7 = ADDRESS(block1);
+    v8 = a1 + 16u * 1u;
+    v9 = load8(v8);
+    v10 = a1 + 17u * 1u;
+    v11 = load8(v10);
+    v12 = v11 == 0u;
+    v13 = load_address(a1);
+    v14 = v12 ? 52u : 54u;
+    v15 = v12 ? 53u : 55u;
+    v16 = v13 + v14 * 1u;
+    v17 = load8(v16);
+    v18 = v13 + v15 * 1u;
+    v19 = load8(v18);
+    v20 = v13 + 42u * 1u;
+    v21 = load8(v20);
+    v22 = v13 + 43u * 1u;
+    v23 = load8(v22);
+    if (v12) { goto L1; }
+    else { v2 = ADDRESS(c155); v3 = 0u; goto L2; }
 L1:;
-    v32 = v28 + 8u * 1u;
-    memory_cpy(v27, v32, 24u);
-    v33 = v27 + 16u * 1u;
-    v34 = load8(v33);
-    v35 = v27 + 17u * 1u;
-    v36 = load8(v35);
-    v37 = v36 == 0u;
-    v38 = load_address(v27);
-    v39 = v37 ? 52u : 54u;
-    v40 = v37 ? 53u : 55u;
-    v41 = v38 + v39 * 1u;
-    v42 = load8(v41);
-    v43 = v38 + v40 * 1u;
-    v44 = load8(v43);
-    v45 = v38 + 42u * 1u;
-    v46 = load8(v45);
-    v47 = v38 + 43u * 1u;
-    v48 = load8(v47);
-    v49 = v27 + 8u * 1u;
-    v50 = load64(v49);
-    v51 = v38 + 54u * 1u;
-    v52 = (u64)((u64)v50 + (u64)UINT64_C(18446744073709551562));
-    v53 = v37 ? v51 : ADDRESS(c148);
-    v54 = v37 ? v52 : 0u;
-    v55 = (u16)v46;
-    v56 = (u16)((u32)v55 << (8u & 15u));
-    v57 = (u16)v48;
-    v58 = (u16)((u32)v56 | (u32)v57);
-    v59 = (u16)v42;
-    v60 = (u16)((u32)v59 << (8u & 15u));
-    v61 = (u16)v44;
-    v62 = (u16)((u32)v60 | (u32)v61);
-    store8(v26, v34);
-    v63 = v26 + 1u * 1u;
-    store8(v63, 0u);
-    v64 = v26 + 2u * 1u;
-    store16(v64, v62);
-    v65 = v26 + 4u * 1u;
-    store16(v65, v58);
-    v66 = v26 + 6u * 1u;
-    store16(v66, 0u);
-    v67 = v26 + 8u * 1u;
-    store_address(v67, v53);
-    v68 = v26 + 16u * 1u;
-    store64(v68, v54);
-    v69 = f65(v26);
-    if (v69) { goto L2; }
-    else { goto L8; }
+    v24 = a1 + 8u * 1u;
+    v25 = load64(v24);
+    v26 = v13 + 54u * 1u;
+    v27 = (u64)((u64)v25 + (u64)UINT64_C(18446744073709551562));
+    v2 = v26; v3 = v27; goto L2;
 L2:;
-    v70 = v38 + 34u * 1u;
-    v71 = load64(v70);
-    v72 = a1 + 384u * 1u;
-    v73 = load64(v72);
-    v74 = load8(v38);
-    v75 = (u8)((u32)v74 >> (4u & 7u));
-    v76 = v38 + 5u * 1u;
-    v77 = load8(v76);
-    v78 = (u8)((u32)v75 | (u32)v77);
-    v79 = v78 == 0u;
-    if (v79) { goto L3; }
-    else { goto L8; }
+    v28 = (u16)v21;
+    v29 = (u16)((u32)v28 << (8u & 15u));
+    v30 = (u16)v23;
+    v31 = (u16)((u32)v29 | (u32)v30);
+    v32 = (u16)v17;
+    v33 = (u16)((u32)v32 << (8u & 15u));
+    v34 = (u16)v19;
+    v35 = (u16)((u32)v33 | (u32)v34);
+    store8(v6, v9);
+    v36 = v6 + 1u * 1u;
+    store8(v36, 0u);
+    v37 = v6 + 2u * 1u;
+    store16(v37, v35);
+    v38 = v6 + 4u * 1u;
+    store16(v38, v31);
+    v39 = v6 + 6u * 1u;
+    store16(v39, 0u);
+    v40 = v6 + 8u * 1u;
+    store_address(v40, v2);
+    v41 = v6 + 16u * 1u;
+    store64(v41, v3);
+    v42 = (u8)((u32)v9 & (u32)253u);
+    v43 = v42 == 1u;
+    if (v43) { goto L3; }
+    else { v4 = 0u; v5 = 0u; goto L9; }
 L3:;
-    v80 = v38 + 4u * 1u;
-    v81 = load8(v80);
-    v82 = a1 + 8u * 1u;
-    v83 = load8(v82);
-    v84 = v81 == v83;
-    if (v84) { goto L4; }
-    else { goto L8; }
+    v44 = v13 + 34u * 1u;
+    v45 = load64(v44);
+    v46 = a0 + 384u * 1u;
+    v47 = load64(v46);
+    v48 = load8(v13);
+    v49 = (u8)((u32)v48 >> (4u & 7u));
+    v50 = v13 + 5u * 1u;
+    v51 = load8(v50);
+    v52 = (u8)((u32)v49 | (u32)v51);
+    v53 = v52 == 0u;
+    if (v53) { goto L4; }
+    else { v4 = 0u; v5 = 0u; goto L9; }
 L4:;
-    v85 = v38 + 20u * 1u;
-    v86 = load64(v85);
-    v87 = v86 == v73;
-    if (v87) { goto L8; }
-    else { goto L5; }
+    v54 = v13 + 4u * 1u;
+    v55 = load8(v54);
+    v56 = a0 + 8u * 1u;
+    v57 = load8(v56);
+    v58 = v55 == v57;
+    if (v58) { goto L5; }
+    else { v4 = 0u; v5 = 0u; goto L9; }
 L5:;
-    v88 = v71 == v73;
-    v89 = v71 == UINT64_C(18446744073709551615);
-    v90 = (u8)(((u32)v89 | (u32)v88) & UINT64_C(1));
-    if (v90) { goto L6; }
-    else { goto L8; }
+    v59 = v13 + 20u * 1u;
+    v60 = load64(v59);
+    v61 = v60 != v47;
+    v62 = v45 == v47;
+    v63 = v61 ? v62 : 0u;
+    if (v63) { goto L6; }
+    else { v4 = 0u; v5 = 0u; goto L9; }
 L6:;
-    switch (v58) {
-    case 65535u: goto L9;
-    case 0u: goto L8;
+    switch (v31) {
+    case 65535u: goto L8;
+    case 0u: v4 = 0u; v5 = 0u; goto L9;
     default: goto L7;
     }
 L7:;
-    v91 = a1 + 240u * 1u;
-    v92 = load8(v91);
-    v93 = v92 == 0u;
-    v94 = v93 ? 376u : 256u;
-    v95 = a1 + v94 * 1u;
-    v96 = load64(v95);
-    v97 = (u16)(v96);
-    v98 = v58 > v97;
-    if (v98) { goto L8; }
-    else { goto L9; }
+    v64 = a0 + 240u * 1u;
+    v65 = load8(v64);
+    v66 = v65 == 0u;
+    v67 = v66 ? 376u : 256u;
+    v68 = a0 + v67 * 1u;
+    v69 = load64(v68);
+    v70 = (u16)(v69);
+    v71 = v31 > v70;
+    if (v71) { v4 = 0u; v5 = 0u; goto L9; }
+    else { goto L8; }
 L8:;
-    goto L39;
+    v72 = v13 + 28u * 1u;
+    v73 = load8(v72);
+    v74 = v13 + 29u * 1u;
+    v75 = load8(v74);
+    v76 = (u16)v73;
+    v77 = (u16)((u32)v76 << (8u & 15u));
+    v78 = (u16)v75;
+    v79 = (u16)((u32)v77 | (u32)v78);
+    store64(v7, v60);
+    v80 = v7 + 8u * 1u;
+    store16(v80, v79);
+    v81 = v13 + 30u * 1u;
+    v82 = load8(v81);
+    v83 = v13 + 31u * 1u;
+    v84 = load8(v83);
+    v85 = (u16)v82;
+    v86 = (u16)((u32)v85 << (8u & 15u));
+    v87 = (u16)v84;
+    v88 = (u16)((u32)v86 | (u32)v87);
+    v89 = f47(v46, v7, v88, v6);
+    v90 = v89.m0;
+    v91 = v90 == 1u;
+    v92 = v89.m1;
+    v93 = (u8)v91;
+    v94 = v91 ? v92 : 0u;
+    v4 = v94; v5 = v93; goto L9;
 L9:;
-    v99 = f66(a1, v27);
-    v100 = v99 == 0u;
-    if (v100) { goto L10; }
-    else { goto L39; }
-L10:;
-    if (v88) { v16 = 0u; v17 = v62; v18 = v86; v19 = v71; v20 = v81; goto L34; }
-    else { goto L11; }
-L11:;
-    v101 = v38 + 45u * 1u;
-    v102 = load8(v101);
-    v103 = v102 == 0u;
-    if (v103) { v16 = 0u; v17 = v62; v18 = v86; v19 = v73; v20 = v81; goto L34; }
-    else { goto L12; }
-L12:;
-    v104 = a1 + 240u * 1u;
-    v105 = load8(v104);
-    v106 = v105 == 0u;
-    v107 = a1 + 248u * 1u;
-    if (v106) { v9 = 376u; v10 = v107; goto L14; }
-    else { goto L13; }
-L13:;
-    v108 = load_address(v107);
-    v9 = 256u; v10 = v108; goto L14;
-L14:;
-    v109 = a2 == 0u;
-    if (v109) { v16 = 0u; v17 = v62; v18 = v86; v19 = v73; v20 = v81; goto L34; }
-    else { goto L15; }
-L15:;
-    v110 = a1 + v9 * 1u;
-    v111 = load64(v110);
-    v112 = (u16)((u32)a2 + (u32)65535u);
-    v113 = (u64)v112;
-    v114 = v111 > v113;
-    if (v114) { goto L16; }
-    else { v16 = 0u; v17 = v62; v18 = v86; v19 = v73; v20 = v81; goto L34; }
-L16:;
-    v115 = (u64)((u64)v113 << (4u & 63u));
-    v116 = v10 + v115 * 1u;
-    v117 = v116 + 8u * 1u;
-    v118 = load8(v117);
-    switch (v118) {
-    case 4u: goto L18;
-    case 5u: goto L18;
-    case 7u: goto L18;
-    case 8u: goto L18;
-    case 0u: v16 = 0u; v17 = v62; v18 = v86; v19 = v73; v20 = v81; goto L34;
-    case 1u: v16 = 0u; v17 = v62; v18 = v86; v19 = v73; v20 = v81; goto L34;
-    case 2u: v16 = 0u; v17 = v62; v18 = v86; v19 = v73; v20 = v81; goto L34;
-    case 3u: v16 = 0u; v17 = v62; v18 = v86; v19 = v73; v20 = v81; goto L34;
-    case 6u: v16 = 0u; v17 = v62; v18 = v86; v19 = v73; v20 = v81; goto L34;
-    default: goto L17;
-    }
-L17:;
-    UNREACHABLE;
-L18:;
-    v119 = v106 ? 376u : 256u;
-    v120 = a1 + v119 * 1u;
-    v121 = load64(v120);
-    v122 = (u16)(v121);
-    v123 = (u16)((u32)v122 + (u32)1u);
-    v124 = v123 > 1u;
-    if (v124) { goto L19; }
-    else { v16 = 0u; v17 = v62; v18 = v86; v19 = v73; v20 = v81; goto L34; }
-L19:;
-    v125 = a3 + 2u * 1u;
-    v126 = a3 + 3u * 1u;
-    v127 = a3 + 45u * 1u;
-    v128 = (u64)a2;
-    v129 = (u64)v123;
-    v11 = 0u; v12 = 1u; goto L20;
-L20:;
-    v130 = v12 == v128;
-    if (v130) { v15 = v11; goto L32; }
-    else { goto L21; }
-L21:;
-    v131 = load8(v104);
-    v132 = v131 == 0u;
-    if (v132) { v13 = 376u; v14 = v107; goto L23; }
-    else { goto L22; }
-L22:;
-    v133 = load_address(v107);
-    v13 = 256u; v14 = v133; goto L23;
-L23:;
-    v134 = a1 + v13 * 1u;
-    v135 = load64(v134);
-    v136 = (u64)((u64)v12 + (u64)UINT64_C(18446744073709551615));
-    v137 = v135 > v136;
-    if (v137) { goto L24; }
-    else { v15 = v11; goto L32; }
-L24:;
-    v138 = (u64)((u64)v136 << (4u & 63u));
-    v139 = v14 + v138 * 1u;
-    v140 = v139 + 8u * 1u;
-    v141 = load8(v140);
-    switch (v141) {
-    case 4u: goto L26;
-    case 5u: goto L26;
-    case 7u: goto L26;
-    case 8u: goto L26;
-    case 0u: v15 = v11; goto L32;
-    case 1u: v15 = v11; goto L32;
-    case 2u: v15 = v11; goto L32;
-    case 3u: v15 = v11; goto L32;
-    case 6u: v15 = v11; goto L32;
-    default: goto L25;
-    }
-L25:;
-    UNREACHABLE;
-L26:;
-    v142 = (u64)((u64)v11 * (u64)1476u);
-    v143 = a7 + v142 * 1u;
-    v144 = load8(v125);
-    v145 = load8(v126);
-    v146 = (u16)v144;
-    v147 = (u16)((u32)v146 << (8u & 15u));
-    v148 = (u16)v145;
-    v149 = (u16)((u32)v147 | (u32)v148);
-    v150 = (u16)(v12);
-    store16(v143, v150);
-    v151 = v143 + 2u * 1u;
-    store16(v151, v149);
-    v152 = v143 + 4u * 1u;
-    switch (v149) {
-    case 54u: goto L27;
-    case 56u: goto L28;
-    case 80u: goto L29;
-    default: goto L30;
-    }
-L27:;
-    memory_move(v152, a3, 54u);
-    goto L31;
-L28:;
-    memory_move(v152, a3, 56u);
-    goto L31;
-L29:;
-    memory_move(v152, a3, 80u);
-    goto L31;
-L30:;
-    v153 = (u64)v149;
-    f52(v152, a3, v153);
-    goto L31;
-L31:;
-    v154 = load8(v127);
-    v155 = (u8)((u32)v154 + (u32)255u);
-    v156 = v143 + 49u * 1u;
-    store8(v156, v155);
-    v157 = (u64)((u64)v11 + (u64)1u);
-    v15 = v157; goto L32;
-L32:;
-    v158 = (u64)((u64)v12 + (u64)1u);
-    v159 = v158 == v129;
-    if (v159) { goto L33; }
-    else { v11 = v15; v12 = v158; goto L20; }
-L33:;
-    v160 = load8(v41);
-    v161 = load8(v43);
-    v162 = load8(v80);
-    v163 = load64(v72);
-    v164 = load64(v85);
-    v165 = (u16)v160;
-    v166 = (u16)((u32)v165 << (8u & 15u));
-    v167 = (u16)v161;
-    v168 = (u16)((u32)v166 | (u32)v167);
-    v16 = v15; v17 = v168; v18 = v164; v19 = v163; v20 = v162; goto L34;
-L34:;
-    v169 = v38 + 44u * 1u;
-    v170 = load8(v169);
-    v171 = v38 + 45u * 1u;
-    v172 = load8(v171);
-    v173 = v170 > v172 ? (u8)((u32)v170 - (u32)v172) : 0u;
-    v174 = v38 + 30u * 1u;
-    v175 = load8(v174);
-    v176 = v38 + 31u * 1u;
-    v177 = load8(v176);
-    v178 = (u16)v175;
-    v179 = (u16)((u32)v178 << (8u & 15u));
-    v180 = (u16)v177;
-    v181 = (u16)((u32)v179 | (u32)v180);
-    v182 = v38 + 28u * 1u;
-    v183 = load8(v182);
-    v184 = v38 + 29u * 1u;
-    v185 = load8(v184);
-    v186 = (u16)v183;
-    v187 = (u16)((u32)v186 << (8u & 15u));
-    v188 = (u16)v185;
-    v189 = (u16)((u32)v187 | (u32)v188);
-    v190 = (u16)v20;
-    v191 = swap16(a2);
-    v192 = swap16(v181);
-    v193 = swap16(v189);
-    v194 = (u32)v173;
-    v195 = (u32)((u32)v194 * (u32)257u);
-    v196 = (u32)((u32)v195 | (u32)UINT32_C(131072));
-    v197 = swap16(v17);
-    v198 = (u64)((u64)v16 * (u64)1476u);
-    v199 = a7 + v198 * 1u;
-    store16(v199, a2);
-    v200 = (u16)(a6);
-    v201 = (u16)((u32)v200 + (u32)54u);
-    v202 = v199 + 2u * 1u;
-    store16(v202, v201);
-    v203 = v199 + 4u * 1u;
-    v204 = v199 + 58u * 1u;
-    store16(v203, 4621u);
-    v205 = v199 + 6u * 1u;
-    store16(v205, 13824u);
-    v206 = v199 + 8u * 1u;
-    store16(v206, v190);
-    v207 = v199 + 10u * 1u;
-    memory_set(v207, 0u, 14u);
-    v208 = v199 + 24u * 1u;
-    store64(v208, v19);
-    v209 = v199 + 32u * 1u;
-    store16(v209, v191);
-    v210 = v199 + 34u * 1u;
-    store16(v210, v192);
-    v211 = v199 + 36u * 1u;
-    store16(v211, 32516u);
-    v212 = v199 + 38u * 1u;
-    store64(v212, v18);
-    v213 = v199 + 46u * 1u;
-    store16(v213, v193);
-    v214 = v199 + 48u * 1u;
-    store32(v214, v196);
-    v215 = v199 + 52u * 1u;
-    store16(v215, 256u);
-    v216 = v199 + 54u * 1u;
-    store16(v216, 512u);
-    v217 = v199 + 56u * 1u;
-    store16(v217, v197);
-    v218 = (u64)v204;
-    v219 = (u64)a5;
-    v220 = (u64)((u64)v218 - (u64)v219);
-    v221 = v220 < a6;
-    if (v221) { v21 = 0u; goto L36; }
-    else { goto L35; }
-L35:;
-    memory_move(v204, a5, a6);
-    goto L37;
-L36:;
-    v222 = v204 + v21 * 1u;
-    v223 = a5 + v21 * 1u;
-    v224 = load8(v223);
-    store8(v222, v224);
-    v225 = (u64)((u64)v21 + (u64)1u);
-    v226 = v225 == a6;
-    if (v226) { goto L37; }
-    else { v21 = v225; goto L36; }
-L37:;
-    v227 = swap16(v201);
-    store16(v205, v227);
-    store16(v209, v191);
-    v228 = (u16)((u32)v200 + (u32)2u);
-    v229 = swap16(v228);
-    store16(v216, v229);
-    v230 = (u64)((u64)v16 + (u64)1u);
-    store8(a0, 9u);
-    v231 = a0 + 1u * 1u;
-    v232 = a0 + 8u * 1u;
-    memory_set(v231, 0u, 7u);
-    store64(v232, v230);
-    v233 = a0 + 16u * 1u;
-    memory_set(v233, 0u, 80u);
-    goto L38;
-L38:;
-    return;
-L39:;
-    memory_set(v24, 0u, 32u);
-    f8(v24, a3, a4);
-    v234 = load8(v24);
-    v235 = v234 == 0u;
-    if (v235) { goto L40; }
-    else { goto L50; }
-L40:;
-    v236 = v24 + 8u * 1u;
-    memory_cpy(v23, v236, 24u);
-    v237 = v23 + 16u * 1u;
-    v238 = load8(v237);
-    v239 = v23 + 17u * 1u;
-    v240 = load8(v239);
-    v241 = v240 == 0u;
-    v242 = load_address(v23);
-    v243 = v241 ? 52u : 54u;
-    v244 = v241 ? 53u : 55u;
-    v245 = v242 + v243 * 1u;
-    v246 = load8(v245);
-    v247 = v242 + v244 * 1u;
-    v248 = load8(v247);
-    v249 = v242 + 42u * 1u;
-    v250 = load8(v249);
-    v251 = v242 + 43u * 1u;
-    v252 = load8(v251);
-    v253 = v23 + 8u * 1u;
-    v254 = load64(v253);
-    v255 = v242 + 54u * 1u;
-    v256 = (u64)((u64)v254 + (u64)UINT64_C(18446744073709551562));
-    v257 = v241 ? v255 : ADDRESS(c148);
-    v258 = v241 ? v256 : 0u;
-    v259 = (u16)v250;
-    v260 = (u16)((u32)v259 << (8u & 15u));
-    v261 = (u16)v252;
-    v262 = (u16)((u32)v260 | (u32)v261);
-    v263 = (u16)v246;
-    v264 = (u16)((u32)v263 << (8u & 15u));
-    v265 = (u16)v248;
-    v266 = (u16)((u32)v264 | (u32)v265);
-    store8(v22, v238);
-    v267 = v22 + 1u * 1u;
-    store8(v267, 0u);
-    v268 = v22 + 2u * 1u;
-    store16(v268, v266);
-    v269 = v22 + 4u * 1u;
-    store16(v269, v262);
-    v270 = v22 + 6u * 1u;
-    store16(v270, 0u);
-    v271 = v22 + 8u * 1u;
-    store_address(v271, v257);
-    v272 = v22 + 16u * 1u;
-    store64(v272, v258);
-    v273 = f65(v22);
-    if (v273) { goto L41; }
-    else { goto L47; }
-L41:;
-    v274 = v242 + 34u * 1u;
-    v275 = load64(v274);
-    v276 = a1 + 384u * 1u;
-    v277 = load64(v276);
-    v278 = load8(v242);
-    v279 = (u8)((u32)v278 >> (4u & 7u));
-    v280 = v242 + 5u * 1u;
-    v281 = load8(v280);
-    v282 = (u8)((u32)v279 | (u32)v281);
-    v283 = v282 == 0u;
-    if (v283) { goto L42; }
-    else { goto L47; }
-L42:;
-    v284 = v242 + 4u * 1u;
-    v285 = load8(v284);
-    v286 = a1 + 8u * 1u;
-    v287 = load8(v286);
-    v288 = v285 == v287;
-    if (v288) { goto L43; }
-    else { goto L47; }
-L43:;
-    v289 = v242 + 20u * 1u;
-    v290 = load64(v289);
-    v291 = v290 == v277;
-    if (v291) { goto L47; }
-    else { goto L44; }
-L44:;
-    v292 = v275 == v277;
-    v293 = v275 == UINT64_C(18446744073709551615);
-    v294 = (u8)(((u32)v293 | (u32)v292) & UINT64_C(1));
-    if (v294) { goto L45; }
-    else { goto L47; }
-L45:;
-    switch (v262) {
-    case 65535u: goto L48;
-    case 0u: goto L47;
-    default: goto L46;
-    }
-L46:;
-    v295 = a1 + 240u * 1u;
-    v296 = load8(v295);
-    v297 = v296 == 0u;
-    v298 = v297 ? 376u : 256u;
-    v299 = a1 + v298 * 1u;
-    v300 = load64(v299);
-    v301 = (u16)(v300);
-    v302 = v262 > v301;
-    if (v302) { goto L47; }
-    else { goto L48; }
-L47:;
-    goto L50;
-L48:;
-    v303 = f66(a1, v23);
-    v304 = v303 == 1u;
-    if (v304) { goto L49; }
-    else { goto L50; }
-L49:;
-    v305 = v242 + 28u * 1u;
-    v306 = load8(v305);
-    v307 = v242 + 29u * 1u;
-    v308 = load8(v307);
-    v309 = v242 + 30u * 1u;
-    v310 = load8(v309);
-    v311 = v242 + 31u * 1u;
-    v312 = load8(v311);
-    v313 = (u16)v310;
-    v314 = (u16)((u32)v313 << (8u & 15u));
-    v315 = (u16)v312;
-    v316 = (u16)((u32)v314 | (u32)v315);
-    v317 = (u16)v306;
-    v318 = (u16)((u32)v317 << (8u & 15u));
-    v319 = (u16)v308;
-    v320 = (u16)((u32)v318 | (u32)v319);
-    store64(v25, v290);
-    v321 = v25 + 8u * 1u;
-    store16(v321, v320);
-    v322 = v25 + 10u * 1u;
-    store16(v322, v316);
-    v323 = v25 + 12u * 1u;
-    store32(v323, 0u);
-    v324 = v25 + 16u * 1u;
-    store8(v324, v238);
-    v325 = v25 + 17u * 1u;
-    store8(v325, 0u);
-    v326 = v25 + 18u * 1u;
-    store16(v326, v266);
-    v327 = v25 + 20u * 1u;
-    store16(v327, v262);
-    v328 = v25 + 22u * 1u;
-    store16(v328, 0u);
-    v329 = v25 + 24u * 1u;
-    store_address(v329, v257);
-    v330 = v25 + 32u * 1u;
-    store64(v330, v258);
-    f67(a1, v25, a5, a6);
-    f45(v29, a1, a2, a3, a4, a7, a8);
-    v331 = v29 + 24u * 1u;
-    v332 = load32(v331);
-    v333 = v29 + 28u * 1u;
-    v334 = v29 + 8u * 1u;
-    v335 = load64(v334);
-    store8(a0, 5u);
-    v336 = a0 + 1u * 1u;
-    v337 = a0 + 8u * 1u;
-    memory_set(v336, 0u, 7u);
-    store64(v337, v335);
-    v338 = a0 + 16u * 1u;
-    store64(v338, 0u);
-    v339 = a0 + 24u * 1u;
-    store32(v339, v332);
-    v340 = a0 + 28u * 1u;
-    memory_cpy(v340, v333, 64u);
-    v341 = a0 + 92u * 1u;
-    store32(v341, 0u);
-    goto L38;
-L50:;
-    f45(v29, a1, a2, a3, a4, a7, a8);
-    v342 = load8(v29);
-    v343 = v29 + 1u * 1u;
-    v344 = load8(v343);
-    v345 = v29 + 2u * 1u;
-    v346 = v29 + 8u * 1u;
-    v347 = load64(v346);
-    v348 = v29 + 16u * 1u;
-    v349 = load64(v348);
-    v350 = v29 + 24u * 1u;
-    v351 = load32(v350);
-    v352 = v29 + 28u * 1u;
-    v353 = v29 + 92u * 1u;
-    v354 = load32(v353);
-    store8(a0, v342);
-    v355 = a0 + 1u * 1u;
-    store8(v355, v344);
-    v356 = a0 + 2u * 1u;
-    memory_cpy(v356, v345, 6u);
-    v357 = a0 + 8u * 1u;
-    store64(v357, v347);
-    v358 = a0 + 16u * 1u;
-    store64(v358, v349);
-    v359 = a0 + 24u * 1u;
-    store32(v359, v351);
-    v360 = a0 + 28u * 1u;
-    memory_cpy(v360, v352, 64u);
-    v361 = a0 + 92u * 1u;
-    store32(v361, v354);
-    goto L38;
+    v95 = (struct s1){ 0 };
+    v95.m0 = v5;
+    v96 = v95;
+    v96.m1 = v4;
+    return v96;
 }
 
-static u8 f65(address a0) {
-    u8 v1, v2, v3;
-    address v4;
-    u16 v5;
-    v2 = load8(a0);
-    v3 = v2 == 0u;
-    if (v3) { goto L1; }
-    else { v1 = 0u; goto L3; }
-L1:;
-    v4 = a0 + 2u * 1u;
-    v5 = load16(v4);
-    switch (v5) {
-    case 0u: goto L2;
-    case 2u: goto L2;
-    case 8192u: goto L2;
-    case 8193u: goto L2;
-    case 8194u: goto L2;
-    case 8195u: goto L2;
-    case 8196u: goto L2;
-    case 8197u: goto L2;
-    case 8198u: goto L2;
-    case 8199u: goto L2;
-    case 8200u: goto L2;
-    case 8201u: goto L2;
-    case 8202u: goto L2;
-    case 8203u: goto L2;
-    case 8204u: goto L2;
-    case 8205u: goto L2;
-    case 8206u: goto L2;
-    case 8208u: goto L2;
-    case 8209u: goto L2;
-    case 24576u: goto L2;
-    case 24577u: goto L2;
-    default: v1 = 1u; goto L3;
-    }
-L2:;
-    v1 = 0u; goto L3;
-L3:;
-    return v1;
-}
-
-static u8 f66(address a0, address a1) {
-    address v2, v5, v6, v7, v8, v10, v12, v17, v20, v22, v24, v30, v31, v33, v39, v41;
-    address v46, v48, v50, v52, v59, v60, v61, v62, v63, v64;
-    u64 v3, v9, v18, v21, v44, v45, v51, v53;
-    u8 v4, v11, v13, v19, v23, v25, v32, v34, v40, v42, v43, v47, v49, v66;
-    u16 v14, v15, v16, v26, v27, v28, v29, v35, v36, v37, v38, v54, v55, v56, v57, v58;
-    struct s1 v65;
-    u64 block0[2];
-    u64 block1[3];
-    v5 = ADDRESS(block0);
-    v6 = ADDRESS(block1);
-    v7 = load_address(a1);
-    v8 = v7 + 34u * 1u;
-    v9 = load64(v8);
-    v10 = v7 + 42u * 1u;
-    v11 = load8(v10);
-    v12 = v7 + 43u * 1u;
-    v13 = load8(v12);
-    v14 = (u16)v11;
-    v15 = (u16)((u32)v14 << (8u & 15u));
-    v16 = (u16)v13;
-    v17 = a0 + 384u * 1u;
-    v18 = load64(v17);
-    v19 = v9 == v18;
-    if (v19) { goto L1; }
-    else { v4 = 0u; goto L4; }
-L1:;
-    v20 = v7 + 20u * 1u;
-    v21 = load64(v20);
-    v22 = v7 + 28u * 1u;
-    v23 = load8(v22);
-    v24 = v7 + 29u * 1u;
-    v25 = load8(v24);
-    v26 = (u16)v23;
-    v27 = (u16)((u32)v26 << (8u & 15u));
-    v28 = (u16)v25;
-    v29 = (u16)((u32)v27 | (u32)v28);
-    store64(v5, v21);
-    v30 = v5 + 8u * 1u;
-    store16(v30, v29);
-    v31 = v7 + 30u * 1u;
-    v32 = load8(v31);
-    v33 = v7 + 31u * 1u;
-    v34 = load8(v33);
-    v35 = (u16)v32;
-    v36 = (u16)((u32)v35 << (8u & 15u));
-    v37 = (u16)v34;
-    v38 = (u16)((u32)v36 | (u32)v37);
-    v39 = a1 + 16u * 1u;
-    v40 = load8(v39);
-    v41 = a1 + 17u * 1u;
-    v42 = load8(v41);
-    v43 = v42 == 0u;
-    v44 = v43 ? 52u : 54u;
-    v45 = v43 ? 53u : 55u;
-    v46 = v7 + v44 * 1u;
-    v47 = load8(v46);
-    v48 = v7 + v45 * 1u;
-    v49 = load8(v48);
-    if (v43) { goto L2; }
-    else { v2 = ADDRESS(c148); v3 = 0u; goto L3; }
-L2:;
-    v50 = a1 + 8u * 1u;
-    v51 = load64(v50);
-    v52 = v7 + 54u * 1u;
-    v53 = (u64)((u64)v51 + (u64)UINT64_C(18446744073709551562));
-    v2 = v52; v3 = v53; goto L3;
-L3:;
-    v54 = (u16)((u32)v15 | (u32)v16);
-    v55 = (u16)v47;
-    v56 = (u16)((u32)v55 << (8u & 15u));
-    v57 = (u16)v49;
-    v58 = (u16)((u32)v56 | (u32)v57);
-    store8(v6, v40);
-    v59 = v6 + 1u * 1u;
-    store8(v59, 0u);
-    v60 = v6 + 2u * 1u;
-    store16(v60, v58);
-    v61 = v6 + 4u * 1u;
-    store16(v61, v54);
-    v62 = v6 + 6u * 1u;
-    store16(v62, 0u);
-    v63 = v6 + 8u * 1u;
-    store_address(v63, v2);
-    v64 = v6 + 16u * 1u;
-    store64(v64, v3);
-    v65 = f48(v17, v5, v38, v6);
-    v66 = v65.m0;
-    v4 = v66; goto L4;
-L4:;
-    return v4;
-}
-
-static void f67(address a0, address a1, address a2, u64 a3) {
-    u8 v4, v25, v28, v31, v32;
-    address v5, v6, v7, v8, v9, v10, v11, v12, v13, v14, v15, v16, v17, v18, v19, v20;
-    address v21, v22, v23, v24, v26, v29, v30, v33, v34, v35, v36, v37, v38, v39, v40, v41;
-    address v42, v43, v44, v45, v46, v47, v48, v49, v50, v51, v52, v53, v54, v55, v56, v57;
-    u16 v27, v58;
-    u64 block0[19];
-    u64 block1[18];
-    u64 block2[19];
-    u64 block3[20];
-    u64 block4[20];
-    u64 block5[20];
-    u64 block6[20];
+static void f61(address a0, address a1, u8 a2, u8 a3, address a4) {
+    u8 v5, v6, v7, v8, v9, v10, v11, v12, v18, v20, v29, v31, v36, v37, v43, v44;
+    u8 v45;
+    address v13, v14, v15, v16, v17, v19, v21, v22, v23, v25, v26, v27, v28, v30, v32, v33;
+    address v34, v38, v39, v40, v41, v42, v46, v47, v48, v49, v50, v51, v52, v53, v54, v55;
+    address v57, v58, v59;
+    u64 v24, v35;
+    u16 v56;
+    u64 block0[18];
+    u64 block1[19];
+    u64 block2[18];
+    u64 block3[19];
+    u64 block4[19];
+    u64 block5[19];
+    u64 block6[19];
     u64 block7[20];
-    u64 block8[20];
-    u64 block9[19];
-    u64 block10[162];
-    u64 block11[19];
-    u64 block12[20];
-    u64 block13[20];
-    u64 block14[20];
-    u64 block15[20];
-    u64 block16[20];
-    u64 block17[20];
-    u64 block18[19];
-    v5 = ADDRESS(block0);
-    v6 = ADDRESS(block1);
-    v7 = ADDRESS(block2);
-    v8 = ADDRESS(block3);
-    v9 = ADDRESS(block4);
-    v10 = ADDRESS(block5);
-    v11 = ADDRESS(block6);
-    v12 = ADDRESS(block7);
-    v13 = ADDRESS(block8);
-    v14 = ADDRESS(block9);
-    v15 = ADDRESS(block10);
-    v16 = ADDRESS(block11);
-    v17 = ADDRESS(block12);
-    v18 = ADDRESS(block13);
-    v19 = ADDRESS(block14);
-    v20 = ADDRESS(block15);
-    v21 = ADDRESS(block16);
-    v22 = ADDRESS(block17);
-    v23 = ADDRESS(block18);
-    memory_set(v15, 0u, 1296u);
-    memory_set(v16, 0u, 150u);
-    memory_set(v17, 0u, 159u);
-    memory_set(v18, 0u, 159u);
-    memory_set(v19, 0u, 159u);
-    memory_set(v20, 0u, 159u);
-    memory_set(v21, 0u, 159u);
-    memory_set(v22, 0u, 159u);
-    memory_set(v23, 0u, 151u);
-    v24 = a1 + 16u * 1u;
-    v25 = load8(v24);
-    v26 = a1 + 18u * 1u;
-    v27 = load16(v26);
-    memory_set(v7, 0u, 150u);
-    memory_set(v8, 0u, 159u);
-    memory_set(v9, 0u, 159u);
-    memory_set(v10, 0u, 159u);
-    memory_set(v11, 0u, 159u);
-    memory_set(v12, 0u, 159u);
-    memory_set(v13, 0u, 159u);
-    memory_set(v14, 0u, 151u);
-    v28 = a3 < 131u;
-    if (v28) { goto L1; }
+    v13 = ADDRESS(block0);
+    v14 = ADDRESS(block1);
+    v15 = ADDRESS(block2);
+    v16 = ADDRESS(block3);
+    v17 = ADDRESS(block4);
+    v18 = load8(a4);
+    v19 = a4 + 1u * 1u;
+    v20 = load8(v19);
+    v21 = a4 + 8u * 1u;
+    v22 = load_address(v21);
+    v23 = a4 + 16u * 1u;
+    v24 = load64(v23);
+    v25 = ADDRESS(block5);
+    v26 = ADDRESS(block6);
+    v27 = ADDRESS(block7);
+    memory_set(v25, 0u, 6u);
+    memory_set(v26, 0u, 150u);
+    v28 = a1 + 16u * 1u;
+    memory_set(v17, 0u, 150u);
+    v29 = (u8)((a2) & UINT64_C(1));
+    if (v29) { goto L1; }
     else { goto L2; }
 L1:;
-    memory_set(v6, 0u, 136u);
-    memory_cpy(v6, a2, a3);
-    v29 = v6 + 136u * 1u;
-    store64(v29, a3);
-    memory_set(v5, 0u, 6u);
-    v30 = v5 + 6u * 1u;
-    memory_cpy(v30, v6, 144u);
-    memory_cpy(v7, v5, 150u);
-    v4 = 0u; goto L3;
+    v30 = v26 + 6u * 1u;
+    memory_set(v30, 0u, 144u);
+    v11 = 2u; v12 = a3; goto L17;
 L2:;
-    memory_set(v7, 0u, 150u);
-    v4 = 2u; goto L3;
+    switch (v18) {
+    case 0u: goto L3;
+    case 1u: v9 = 2u; v10 = v20; goto L15;
+    case 2u: goto L9;
+    default: goto L16;
+    }
 L3:;
-    v31 = v25 > 2u;
-    v32 = v31 ? 4u : 2u;
-    memory_cpy(v16, v7, 150u);
-    memory_cpy(v17, v8, 159u);
-    memory_cpy(v18, v9, 159u);
-    memory_cpy(v19, v10, 159u);
-    memory_cpy(v20, v11, 159u);
-    memory_cpy(v21, v12, 159u);
-    memory_cpy(v22, v13, 159u);
-    memory_cpy(v23, v14, 151u);
-    store8(v15, v32);
-    v33 = v15 + 1u * 1u;
-    store8(v33, 0u);
-    v34 = v15 + 2u * 1u;
-    store16(v34, v27);
-    v35 = v15 + 4u * 1u;
-    store32(v35, 0u);
-    v36 = v15 + 8u * 1u;
-    store64(v36, 0u);
-    v37 = v15 + 16u * 1u;
-    store8(v37, v4);
-    v38 = v15 + 17u * 1u;
-    store8(v38, 0u);
-    v39 = v15 + 18u * 1u;
-    memory_cpy(v39, v16, 150u);
-    v40 = v15 + 168u * 1u;
-    store64(v40, 0u);
-    v41 = v15 + 176u * 1u;
-    store8(v41, 1u);
-    v42 = v15 + 177u * 1u;
-    memory_cpy(v42, v17, 159u);
-    v43 = v15 + 336u * 1u;
-    store8(v43, 1u);
-    v44 = v15 + 337u * 1u;
-    memory_cpy(v44, v18, 159u);
-    v45 = v15 + 496u * 1u;
-    store8(v45, 1u);
-    v46 = v15 + 497u * 1u;
-    memory_cpy(v46, v19, 159u);
-    v47 = v15 + 656u * 1u;
-    store8(v47, 1u);
-    v48 = v15 + 657u * 1u;
-    memory_cpy(v48, v20, 159u);
-    v49 = v15 + 816u * 1u;
-    store8(v49, 1u);
-    v50 = v15 + 817u * 1u;
-    memory_cpy(v50, v21, 159u);
-    v51 = v15 + 976u * 1u;
-    store8(v51, 1u);
-    v52 = v15 + 977u * 1u;
-    memory_cpy(v52, v22, 159u);
-    v53 = v15 + 1136u * 1u;
-    store8(v53, 1u);
-    v54 = v15 + 1137u * 1u;
-    memory_cpy(v54, v23, 151u);
-    v55 = v15 + 1288u * 1u;
-    store64(v55, 1u);
-    v56 = v15 + 8u * 1u;
-    v57 = a1 + 10u * 1u;
-    v58 = load16(v57);
-    f68(a0, a1, v58, v24, v56, 1u);
+    v31 = load8(v28);
+    v32 = a1 + 24u * 1u;
+    v33 = load_address(v32);
+    v34 = a1 + 32u * 1u;
+    v35 = load64(v34);
+    memory_set(v16, 0u, 150u);
+    v36 = v31 == 3u;
+    if (v36) { v6 = 1u; goto L8; }
+    else { goto L4; }
+L4:;
+    v37 = v35 > 130u;
+    if (v37) { goto L5; }
+    else { goto L6; }
+L5:;
+    v38 = v16 + 6u * 1u;
+    memory_set(v38, 0u, 144u);
+    v5 = 2u; goto L7;
+L6:;
+    memory_set(v15, 0u, 136u);
+    memory_cpy(v15, v33, v35);
+    v39 = v15 + 136u * 1u;
+    store64(v39, v35);
+    v40 = v16 + 6u * 1u;
+    memory_cpy(v40, v15, 144u);
+    v5 = 0u; goto L7;
+L7:;
+    v6 = v5; goto L8;
+L8:;
+    v41 = v16 + 6u * 1u;
+    v42 = v17 + 6u * 1u;
+    memory_cpy(v42, v41, 144u);
+    v9 = v6; v10 = 0u; goto L15;
+L9:;
+    v43 = load8(v28);
+    memory_set(v14, 0u, 150u);
+    v44 = v43 == 3u;
+    if (v44) { v8 = 1u; goto L14; }
+    else { goto L10; }
+L10:;
+    v45 = v24 > 130u;
+    if (v45) { goto L11; }
+    else { goto L12; }
+L11:;
+    v46 = v14 + 6u * 1u;
+    memory_set(v46, 0u, 144u);
+    v7 = 2u; goto L13;
+L12:;
+    memory_set(v13, 0u, 136u);
+    memory_cpy(v13, v22, v24);
+    v47 = v13 + 136u * 1u;
+    store64(v47, v24);
+    v48 = v14 + 6u * 1u;
+    memory_cpy(v48, v13, 144u);
+    v7 = 0u; goto L13;
+L13:;
+    v8 = v7; goto L14;
+L14:;
+    v49 = v14 + 6u * 1u;
+    v50 = v17 + 6u * 1u;
+    memory_cpy(v50, v49, 144u);
+    v9 = v8; v10 = 0u; goto L15;
+L15:;
+    v51 = v17 + 6u * 1u;
+    v52 = v26 + 6u * 1u;
+    memory_cpy(v52, v51, 144u);
+    v11 = v9; v12 = v10; goto L17;
+L16:;
+    UNREACHABLE;
+L17:;
+    v53 = v25 + 6u * 1u;
+    v54 = v26 + 6u * 1u;
+    memory_cpy(v53, v54, 144u);
+    v55 = a1 + 10u * 1u;
+    v56 = load16(v55);
+    v57 = v27 + 8u * 1u;
+    store64(v27, 0u);
+    store8(v57, v11);
+    v58 = v27 + 9u * 1u;
+    store8(v58, v12);
+    v59 = v27 + 10u * 1u;
+    memory_cpy(v59, v25, 150u);
+    f62(a0, a1, v56, v28, v27, 1u);
     return;
 }
 
-static void f68(address a0, address a1, u16 a2, address a3, address a4, u64 a5) {
+static void f62(address a0, address a1, u16 a2, address a3, address a4, u64 a5) {
     address v6, v16, v22, v23, v24, v25, v28, v30, v32, v35, v42, v43, v44, v46, v47, v49;
     address v50, v52, v53, v54, v55, v58, v67, v68, v76, v77, v79, v81, v85, v88, v91, v92;
     address v93, v96, v97, v98, v99, v100, v101, v102, v103, v104, v105, v106, v107, v108, v109, v110;
@@ -14032,7 +12689,7 @@ L9:;
     if (v71) { goto L11; }
     else { v9 = v70; goto L9; }
 L10:;
-    f51(v42, v54, v56);
+    f50(v42, v54, v56);
     goto L11;
 L11:;
     v72 = a5 == 0u;
@@ -14168,7 +12825,7 @@ L23:;
     v165 = load8(v164);
     switch (v165) {
     case 0u: goto L24;
-    case 1u: v12 = 0u; v13 = v165; v14 = v84; v15 = 0u; v16 = ADDRESS(c148); v17 = 0u; goto L34;
+    case 1u: v12 = 0u; v13 = v165; v14 = v84; v15 = 0u; v16 = ADDRESS(c155); v17 = 0u; goto L34;
     case 2u: goto L25;
     default: goto L33;
     }
@@ -14181,7 +12838,7 @@ L25:;
     v169 = v158 + 9u * 1u;
     v170 = load8(v169);
     switch (v170) {
-    case 0u: v12 = 1u; v13 = 2u; v14 = 1u; v15 = v84; v16 = ADDRESS(c148); v17 = 0u; goto L34;
+    case 0u: v12 = 1u; v13 = 2u; v14 = 1u; v15 = v84; v16 = ADDRESS(c155); v17 = 0u; goto L34;
     case 1u: goto L26;
     case 2u: goto L27;
     case 3u: goto L28;
@@ -14191,17 +12848,17 @@ L25:;
     default: goto L32;
     }
 L26:;
-    v12 = 1u; v13 = 2u; v14 = 2u; v15 = v84; v16 = ADDRESS(c148); v17 = 0u; goto L34;
+    v12 = 1u; v13 = 2u; v14 = 2u; v15 = v84; v16 = ADDRESS(c155); v17 = 0u; goto L34;
 L27:;
-    v12 = 1u; v13 = 2u; v14 = 3u; v15 = v84; v16 = ADDRESS(c148); v17 = 0u; goto L34;
+    v12 = 1u; v13 = 2u; v14 = 3u; v15 = v84; v16 = ADDRESS(c155); v17 = 0u; goto L34;
 L28:;
-    v12 = 1u; v13 = 2u; v14 = 4u; v15 = v84; v16 = ADDRESS(c148); v17 = 0u; goto L34;
+    v12 = 1u; v13 = 2u; v14 = 4u; v15 = v84; v16 = ADDRESS(c155); v17 = 0u; goto L34;
 L29:;
-    v12 = 1u; v13 = 2u; v14 = 5u; v15 = v84; v16 = ADDRESS(c148); v17 = 0u; goto L34;
+    v12 = 1u; v13 = 2u; v14 = 5u; v15 = v84; v16 = ADDRESS(c155); v17 = 0u; goto L34;
 L30:;
-    v12 = 1u; v13 = 2u; v14 = 6u; v15 = v84; v16 = ADDRESS(c148); v17 = 0u; goto L34;
+    v12 = 1u; v13 = 2u; v14 = 6u; v15 = v84; v16 = ADDRESS(c155); v17 = 0u; goto L34;
 L31:;
-    v12 = 1u; v13 = 2u; v14 = 65534u; v15 = v84; v16 = ADDRESS(c148); v17 = 0u; goto L34;
+    v12 = 1u; v13 = 2u; v14 = 65534u; v15 = v84; v16 = ADDRESS(c155); v17 = 0u; goto L34;
 L32:;
     UNREACHABLE;
 L33:;
@@ -14253,16 +12910,16 @@ L38:;
 L39:;
     v184 = v117 + v173 * 1u;
     v185 = (u64)v184;
-    v186 = (u64)((u64)v185 - (u64)(ADDRESS(c146) + 8u * 1u));
+    v186 = (u64)((u64)v185 - (u64)(ADDRESS(c152) + 8u * 1u));
     v187 = v186 < v181;
     if (v187) { v19 = 0u; goto L41; }
     else { goto L40; }
 L40:;
-    memory_cpy(v184, (ADDRESS(c146) + 8u * 1u), v181);
+    memory_cpy(v184, (ADDRESS(c152) + 8u * 1u), v181);
     goto L42;
 L41:;
     v188 = v184 + v19 * 1u;
-    v189 = (ADDRESS(c146) + 8u * 1u) + v19 * 1u;
+    v189 = (ADDRESS(c152) + 8u * 1u) + v19 * 1u;
     v190 = load8(v189);
     store8(v188, v190);
     v191 = (u64)((u64)v19 + (u64)1u);
@@ -14401,7 +13058,7 @@ L55:;
 L56:;
     v252 = load_address(v115);
     v253 = load64(v116);
-    v254 = f69(v22, v252, v253);
+    v254 = f63(v22, v252, v253);
     v255 = (u8)(v254);
     v256 = load64(v88);
     v257 = load_address(v114);
@@ -14424,7 +13081,7 @@ L59:;
     return;
 }
 
-static u64 f69(address a0, address a1, u64 a2) {
+static u64 f63(address a0, address a1, u64 a2) {
     u64 v3, v4, v11, v13, v14, v15, v16, v17, v18, v19, v22, v39, v40, v41, v65, v77;
     u64 v78, v79, v103, v139;
     address v5, v6, v7, v10, v21, v23, v30, v31, v33, v37, v38, v44, v45, v47, v48, v50;
@@ -14464,7 +13121,7 @@ L3:;
     if (v20) { v4 = 0u; goto L5; }
     else { goto L4; }
 L4:;
-    memory_cpy(v5, (ADDRESS(c146) + 8u * 1u), v19);
+    memory_cpy(v5, (ADDRESS(c152) + 8u * 1u), v19);
     store64(v6, v19);
     v4 = v19; goto L5;
 L5:;
@@ -14660,13 +13317,2316 @@ L18:;
     memory_cpy(v140, v5, 80u);
     goto L20;
 L19:;
-    f52(v140, v5, v139);
+    f51(v140, v5, v139);
     goto L20;
 L20:;
     return v19;
 }
 
-static void f70(address a0, address a1, u64 a2) {
+static void f64(address a0, address a1, u16 a2, address a3, u64 a4, u8 a5, address a6, u64 a7) {
+    u8 v8, v9, v10, v11, v24, v25, v26, v27, v29, v30, v31, v33, v35, v41, v43, v44;
+    u8 v46, v48, v53, v55, v56, v58, v62, v66, v68, v69, v70, v71, v72, v73, v75, v77;
+    u8 v79, v81, v90, v93, v97, v99, v105, v107, v113, v115, v116, v120, v122, v124, v126, v148;
+    u8 v150, v176, v181, v186, v189, v191, v199, v202, v203, v204, v208, v211, v213, v217, v223, v224;
+    u8 v226, v232, v238, v239, v242, v247;
+    address v12, v16, v17, v18, v19, v20, v21, v22, v23, v28, v32, v34, v45, v47, v54, v57;
+    address v61, v74, v76, v78, v80, v86, v87, v88, v89, v91, v92, v94, v96, v98, v104, v106;
+    address v112, v114, v119, v121, v123, v125, v127, v129, v139, v140, v141, v142, v143, v144, v145, v146;
+    address v160, v161, v162, v163, v164, v165, v166, v167, v168, v169, v170, v171, v172, v173, v174, v175;
+    address v177, v178, v179, v182, v184, v187, v193, v194, v195, v196, v197, v198, v200, v209, v210, v214;
+    address v215, v218, v219, v222, v225, v227, v228, v229, v230, v233, v234, v235, v236, v237, v240, v243;
+    address v244, v245, v248, v250, v251, v252;
+    u64 v13, v14, v15, v40, v59, v60, v63, v64, v65, v67, v82, v83, v84, v85, v95, v117;
+    u64 v118, v128, v130, v147, v180, v183, v188, v190, v192, v201, v205, v206, v207, v212, v216, v221;
+    u64 v231, v241, v246, v249;
+    u16 v36, v37, v38, v39, v42, v49, v50, v51, v52, v100, v101, v102, v103, v108, v109, v110;
+    u16 v111, v131, v132, v133, v134, v135, v136, v137, v138, v151, v152, v153, v154, v159, v185, v220;
+    u32 v149, v155, v156, v157, v158;
+    u64 block0[3];
+    u64 block1[10];
+    u64 block2[1];
+    u64 block3[3];
+    u64 block4[3];
+    u64 block5[12];
+    v16 = ADDRESS(block0);
+    v17 = ADDRESS(block1);
+    v18 = ADDRESS(block2);
+    v19 = ADDRESS(block3);
+    v20 = ADDRESS(block4);
+    v21 = ADDRESS(block5);
+    memory_set(v21, 0u, 96u);
+    store_address(v20, a6);
+    v22 = v20 + 8u * 1u;
+    store64(v22, a7);
+    v23 = v20 + 16u * 1u;
+    store64(v23, 0u);
+    memory_set(v18, 0u, 3u);
+    v24 = a4 < 54u;
+    if (v24) { goto L6; }
+    else { goto L1; }
+L1:;
+    v25 = load8(a3);
+    v26 = (u8)((u32)v25 & (u32)15u);
+    v27 = v26 == 13u;
+    if (v27) { goto L2; }
+    else { goto L6; }
+L2:;
+    v28 = a3 + 1u * 1u;
+    v29 = load8(v28);
+    v30 = (u8)((u32)v29 & (u32)15u);
+    v31 = v30 == 2u;
+    if (v31) { goto L3; }
+    else { goto L6; }
+L3:;
+    v32 = a3 + 2u * 1u;
+    v33 = load8(v32);
+    v34 = a3 + 3u * 1u;
+    v35 = load8(v34);
+    v36 = (u16)v33;
+    v37 = (u16)((u32)v36 << (8u & 15u));
+    v38 = (u16)v35;
+    v39 = (u16)((u32)v37 | (u32)v38);
+    v40 = (u64)v39;
+    v41 = a4 < v40;
+    v42 = (u16)((u32)v39 + (u32)64063u);
+    v43 = v42 < 64117u;
+    v44 = (u8)(((u32)v43 | (u32)v41) & UINT64_C(1));
+    if (v44) { goto L6; }
+    else { goto L4; }
+L4:;
+    v45 = a3 + 48u * 1u;
+    v46 = load8(v45);
+    v47 = a3 + 49u * 1u;
+    v48 = load8(v47);
+    v49 = (u16)v46;
+    v50 = (u16)((u32)v49 << (8u & 15u));
+    v51 = (u16)v48;
+    v52 = (u16)((u32)v50 | (u32)v51);
+    v53 = v52 == 1u;
+    if (v53) { goto L5; }
+    else { goto L6; }
+L5:;
+    v54 = a3 + 46u * 1u;
+    v55 = load8(v54);
+    v56 = (u8)((u32)v55 & (u32)15u);
+    v57 = a3 + 50u * 1u;
+    v58 = load8(v57);
+    v59 = (u64)v58;
+    v60 = (u64)((u64)v59 << (8u & 63u));
+    v61 = a3 + 51u * 1u;
+    v62 = load8(v61);
+    v63 = (u64)v62;
+    v64 = (u64)((u64)v60 | (u64)v63);
+    v65 = (u64)((u64)v64 + (u64)52u);
+    v66 = v65 == v40;
+    v67 = (u64)((u64)v40 & (u64)1u);
+    v68 = v67 == 0u;
+    v69 = (u8)(((u32)v68 & (u32)v66) & UINT64_C(1));
+    v70 = v56 < 5u;
+    v71 = v69 ? v70 : 0u;
+    if (v71) { v8 = v35; v9 = v33; v10 = v56; v11 = 0u; goto L9; }
+    else { goto L6; }
+L6:;
+    f8(v18, a3, a4);
+    v72 = load8(v18);
+    v73 = v72 == 0u;
+    if (v73) { goto L7; }
+    else { goto L8; }
+L7:;
+    v74 = v18 + 1u * 1u;
+    v75 = load8(v74);
+    v76 = v18 + 2u * 1u;
+    v77 = load8(v76);
+    v78 = a3 + 2u * 1u;
+    v79 = load8(v78);
+    v80 = a3 + 3u * 1u;
+    v81 = load8(v80);
+    v8 = v81; v9 = v79; v10 = v75; v11 = v77; goto L9;
+L8:;
+    goto L46;
+L9:;
+    v82 = (u64)v9;
+    v83 = (u64)((u64)v82 << (8u & 63u));
+    v84 = (u64)v8;
+    v85 = (u64)((u64)v83 | (u64)v84);
+    store_address(v19, a3);
+    v86 = v19 + 8u * 1u;
+    store64(v86, v85);
+    v87 = v19 + 16u * 1u;
+    store8(v87, v10);
+    v88 = v19 + 17u * 1u;
+    store8(v88, v11);
+    v89 = v19 + 18u * 1u;
+    memory_set(v89, 0u, 6u);
+    v90 = f65(a1, ADDRESS(c155), 0u, v19);
+    if (v90) { goto L10; }
+    else { goto L46; }
+L10:;
+    v91 = v17 + 72u * 1u;
+    store64(v91, 0u);
+    v92 = a3 + 4u * 1u;
+    v93 = load8(v92);
+    v94 = a3 + 20u * 1u;
+    v95 = load64(v94);
+    v96 = a3 + 28u * 1u;
+    v97 = load8(v96);
+    v98 = a3 + 29u * 1u;
+    v99 = load8(v98);
+    v100 = (u16)v97;
+    v101 = (u16)((u32)v100 << (8u & 15u));
+    v102 = (u16)v99;
+    v103 = (u16)((u32)v101 | (u32)v102);
+    v104 = a3 + 30u * 1u;
+    v105 = load8(v104);
+    v106 = a3 + 31u * 1u;
+    v107 = load8(v106);
+    v108 = (u16)v105;
+    v109 = (u16)((u32)v108 << (8u & 15u));
+    v110 = (u16)v107;
+    v111 = (u16)((u32)v109 | (u32)v110);
+    v112 = a3 + 44u * 1u;
+    v113 = load8(v112);
+    v114 = a3 + 45u * 1u;
+    v115 = load8(v114);
+    v116 = v11 == 0u;
+    v117 = v116 ? 52u : 54u;
+    v118 = v116 ? 53u : 55u;
+    v119 = a3 + v117 * 1u;
+    v120 = load8(v119);
+    v121 = a3 + v118 * 1u;
+    v122 = load8(v121);
+    v123 = a3 + 42u * 1u;
+    v124 = load8(v123);
+    v125 = a3 + 43u * 1u;
+    v126 = load8(v125);
+    v127 = a3 + 54u * 1u;
+    v128 = (u64)((u64)v85 + (u64)UINT64_C(18446744073709551562));
+    v129 = v116 ? v127 : ADDRESS(c155);
+    v130 = v116 ? v128 : 0u;
+    v131 = (u16)v124;
+    v132 = (u16)((u32)v131 << (8u & 15u));
+    v133 = (u16)v126;
+    v134 = (u16)((u32)v132 | (u32)v133);
+    v135 = (u16)v120;
+    v136 = (u16)((u32)v135 << (8u & 15u));
+    v137 = (u16)v122;
+    v138 = (u16)((u32)v136 | (u32)v137);
+    store8(v16, v10);
+    v139 = v16 + 1u * 1u;
+    store8(v139, 0u);
+    v140 = v16 + 2u * 1u;
+    store16(v140, v138);
+    v141 = v16 + 4u * 1u;
+    store16(v141, v134);
+    v142 = v16 + 6u * 1u;
+    store16(v142, 0u);
+    v143 = v16 + 8u * 1u;
+    store_address(v143, v129);
+    v144 = v16 + 16u * 1u;
+    store64(v144, v130);
+    v145 = v17 + 6u * 1u;
+    memory_set(v145, 0u, 14u);
+    v146 = a1 + 384u * 1u;
+    v147 = load64(v146);
+    v148 = v10 > 2u;
+    v149 = v148 ? UINT32_C(262144) : UINT32_C(131072);
+    v150 = v113 > v115 ? (u8)((u32)v113 - (u32)v115) : 0u;
+    v151 = (u16)v93;
+    v152 = swap16(a2);
+    v153 = swap16(v111);
+    v154 = swap16(v103);
+    v155 = (u32)v150;
+    v156 = (u32)((u32)v155 << (8u & 31u));
+    v157 = (u32)((u32)v156 | (u32)v149);
+    v158 = (u32)((u32)v157 | (u32)v155);
+    v159 = swap16(v138);
+    store16(v17, 4621u);
+    v160 = v17 + 2u * 1u;
+    store16(v160, 13824u);
+    v161 = v17 + 4u * 1u;
+    store16(v161, v151);
+    v162 = v17 + 20u * 1u;
+    store64(v162, v147);
+    v163 = v17 + 28u * 1u;
+    store16(v163, v152);
+    v164 = v17 + 30u * 1u;
+    store16(v164, v153);
+    v165 = v17 + 32u * 1u;
+    store16(v165, 32516u);
+    v166 = v17 + 34u * 1u;
+    store64(v166, v95);
+    v167 = v17 + 42u * 1u;
+    store16(v167, v154);
+    v168 = v17 + 44u * 1u;
+    store32(v168, v158);
+    v169 = v17 + 48u * 1u;
+    store16(v169, 256u);
+    v170 = v17 + 50u * 1u;
+    store16(v170, 512u);
+    v171 = v17 + 52u * 1u;
+    store16(v171, v159);
+    v172 = v17 + 54u * 1u;
+    store16(v172, v138);
+    v173 = v17 + 56u * 1u;
+    store16(v173, a2);
+    v174 = v17 + 58u * 1u;
+    v175 = v17 + 64u * 1u;
+    memory_set(v174, 0u, 6u);
+    store_address(v175, v20);
+    store8(v91, a5);
+    f66(a1, v16, v17);
+    v176 = load8(v174);
+    v177 = a1 + 392u * 1u;
+    v178 = load_address(v177);
+    v179 = a1 + 400u * 1u;
+    v180 = load64(v179);
+    v181 = v180 == 0u;
+    if (v181) { goto L44; }
+    else { v12 = v178; v13 = v180; v14 = 0u; goto L11; }
+L11:;
+    v182 = v12 + 2144u * 1u;
+    v183 = (u64)((u64)v13 + (u64)UINT64_C(18446744073709551615));
+    v184 = v12 + 2120u * 1u;
+    v185 = load16(v184);
+    v186 = v103 == v185;
+    if (v186) { goto L12; }
+    else { goto L13; }
+L12:;
+    v187 = v12 + 2112u * 1u;
+    v188 = load64(v187);
+    v189 = v95 == v188;
+    if (v189) { goto L14; }
+    else { goto L13; }
+L13:;
+    v190 = (u64)((u64)v14 + (u64)1u);
+    v191 = v183 == 0u;
+    if (v191) { goto L44; }
+    else { v12 = v182; v13 = v183; v14 = v190; goto L11; }
+L14:;
+    v192 = (u64)((u64)v14 * (u64)2144u);
+    v193 = v178 + v192 * 1u;
+    v194 = v193 + 2137u * 1u;
+    store8(v194, 1u);
+    v195 = v193 + 2122u * 1u;
+    store16(v195, v111);
+    v196 = v193 + 2128u * 1u;
+    store8(v196, v10);
+    v197 = v193 + 2124u * 1u;
+    store16(v197, v138);
+    v198 = v193 + 2126u * 1u;
+    store16(v198, v134);
+    v199 = v130 == 0u;
+    v200 = v193 + 1424u * 1u;
+    v201 = load64(v200);
+    v202 = v201 == 0u;
+    v203 = v199 ? v202 : 0u;
+    if (v203) { goto L20; }
+    else { goto L15; }
+L15:;
+    v204 = v201 == v130;
+    if (v204) { goto L16; }
+    else { goto L19; }
+L16:;
+    v205 = (u64)v193;
+    v206 = (u64)v129;
+    v207 = (u64)((u64)v205 - (u64)v206);
+    v208 = v207 < v130;
+    if (v208) { v15 = 0u; goto L18; }
+    else { goto L17; }
+L17:;
+    memory_move(v193, v129, v130);
+    goto L20;
+L18:;
+    v209 = v193 + v15 * 1u;
+    v210 = v129 + v15 * 1u;
+    v211 = load8(v210);
+    store8(v209, v211);
+    v212 = (u64)((u64)v15 + (u64)1u);
+    v213 = v212 == v130;
+    if (v213) { goto L20; }
+    else { v15 = v212; goto L18; }
+L19:;
+    f50(v193, v129, v130);
+    goto L20;
+L20:;
+    v214 = v193 + 2129u * 1u;
+    store8(v214, v176);
+    v215 = v193 + 1432u * 1u;
+    v216 = load64(v23);
+    v217 = v216 == 1u;
+    if (v217) { goto L21; }
+    else { goto L35; }
+L21:;
+    v218 = load_address(v20);
+    v219 = v218 + 2u * 1u;
+    v220 = load16(v219);
+    v221 = (u64)v220;
+    v222 = v218 + 4u * 1u;
+    v223 = load8(v215);
+    v224 = v223 == 0u;
+    v225 = v193 + 1440u * 1u;
+    v226 = (u8)(v220);
+    if (v224) { goto L22; }
+    else { goto L29; }
+L22:;
+    v227 = v193 + 1456u * 1u;
+    v228 = v193 + 1441u * 1u;
+    memory_set(v228, 0u, 7u);
+    v229 = v193 + 1448u * 1u;
+    store8(v225, v226);
+    store64(v229, 1u);
+    v230 = v193 + 2096u * 1u;
+    v231 = load64(v230);
+    v232 = v231 == v221;
+    if (v232) { goto L23; }
+    else { goto L28; }
+L23:;
+    switch (v220) {
+    case 54u: goto L24;
+    case 56u: goto L25;
+    case 80u: goto L26;
+    default: goto L27;
+    }
+L24:;
+    memory_move(v227, v222, 54u);
+    goto L44;
+L25:;
+    memory_move(v227, v222, 56u);
+    goto L44;
+L26:;
+    memory_move(v227, v222, 80u);
+    goto L44;
+L27:;
+    f51(v227, v222, v221);
+    goto L44;
+L28:;
+    f52(v227, v222, v221);
+    goto L44;
+L29:;
+    v233 = v193 + 1464u * 1u;
+    v234 = v193 + 1488u * 1u;
+    v235 = v193 + 1448u * 1u;
+    v236 = load_address(v225);
+    store8(v236, v226);
+    store64(v235, 1u);
+    v237 = load_address(v233);
+    switch (v220) {
+    case 54u: goto L30;
+    case 56u: goto L31;
+    case 80u: goto L32;
+    default: goto L33;
+    }
+L30:;
+    memory_move(v237, v222, 54u);
+    goto L34;
+L31:;
+    memory_move(v237, v222, 56u);
+    goto L34;
+L32:;
+    memory_move(v237, v222, 80u);
+    goto L34;
+L33:;
+    f51(v237, v222, v221);
+    goto L34;
+L34:;
+    store64(v234, v221);
+    goto L44;
+L35:;
+    v238 = load8(v215);
+    v239 = v238 == 0u;
+    v240 = v193 + 1448u * 1u;
+    v241 = load64(v240);
+    v242 = v241 == 0u;
+    if (v239) { goto L36; }
+    else { goto L40; }
+L36:;
+    v243 = v193 + 1456u * 1u;
+    if (v242) { goto L38; }
+    else { goto L37; }
+L37:;
+    v244 = v193 + 1440u * 1u;
+    memory_set(v244, 0u, v241);
+    store64(v240, 0u);
+    goto L38;
+L38:;
+    v245 = v193 + 2096u * 1u;
+    v246 = load64(v245);
+    v247 = v246 == 0u;
+    if (v247) { goto L43; }
+    else { goto L39; }
+L39:;
+    memory_set(v243, 0u, v246);
+    store64(v245, 0u);
+    goto L43;
+L40:;
+    v248 = v193 + 1488u * 1u;
+    if (v242) { goto L42; }
+    else { goto L41; }
+L41:;
+    store64(v240, 0u);
+    goto L42;
+L42:;
+    store64(v248, 0u);
+    goto L43;
+L43:;
+    f53(v20, v215);
+    goto L44;
+L44:;
+    v249 = load64(v23);
+    store8(v21, 5u);
+    v250 = v21 + 1u * 1u;
+    store8(v250, 0u);
+    v251 = v21 + 8u * 1u;
+    store64(v251, v249);
+    v252 = v21 + 16u * 1u;
+    memory_set(v252, 0u, 76u);
+    goto L45;
+L45:;
+    memory_cpy(a0, v21, 96u);
+    return;
+L46:;
+    f44(v21, a1, a2, a3, a4, a6, a7);
+    goto L45;
+}
+
+static u8 f65(address a0, address a1, u64 a2, address a3) {
+    address v4, v19, v20, v21, v26, v28, v31, v34, v36, v38, v40, v42, v44, v54, v55, v56;
+    address v57, v58, v59, v62, v64, v66, v68, v70, v117, v118, v119;
+    u64 v5, v32, v33, v43, v45, v80, v83, v99, v100, v101, v102, v108, v109, v111, v112, v114;
+    u64 v115;
+    u8 v6, v7, v8, v9, v10, v11, v12, v13, v14, v15, v16, v17, v18, v23, v24, v25;
+    u8 v27, v29, v30, v35, v37, v39, v41, v60, v61, v63, v65, v67, v72, v73, v74, v75;
+    u8 v76, v77, v78, v79, v81, v82, v84, v85, v86, v87, v88, v89, v90, v91, v92, v93;
+    u8 v94, v95, v96, v97, v98, v103, v104, v105, v106, v107, v110, v113, v116, v120;
+    struct s1 v22;
+    u16 v46, v47, v48, v49, v50, v51, v52, v53, v69, v71;
+    u64 block0[1];
+    u64 block1[2];
+    u64 block2[3];
+    v19 = ADDRESS(block0);
+    v20 = ADDRESS(block1);
+    v21 = ADDRESS(block2);
+    v22 = f60(a0, a3);
+    v23 = v22.m0;
+    v24 = v23 == 1u;
+    if (v24) { goto L1; }
+    else { v18 = 0u; goto L62; }
+L1:;
+    v25 = v22.m1;
+    v26 = a3 + 16u * 1u;
+    v27 = load8(v26);
+    v28 = a3 + 17u * 1u;
+    v29 = load8(v28);
+    v30 = v29 == 0u;
+    v31 = load_address(a3);
+    v32 = v30 ? 52u : 54u;
+    v33 = v30 ? 53u : 55u;
+    v34 = v31 + v32 * 1u;
+    v35 = load8(v34);
+    v36 = v31 + v33 * 1u;
+    v37 = load8(v36);
+    v38 = v31 + 42u * 1u;
+    v39 = load8(v38);
+    v40 = v31 + 43u * 1u;
+    v41 = load8(v40);
+    if (v30) { goto L2; }
+    else { v4 = ADDRESS(c155); v5 = 0u; goto L3; }
+L2:;
+    v42 = a3 + 8u * 1u;
+    v43 = load64(v42);
+    v44 = v31 + 54u * 1u;
+    v45 = (u64)((u64)v43 + (u64)UINT64_C(18446744073709551562));
+    v4 = v44; v5 = v45; goto L3;
+L3:;
+    v46 = (u16)v39;
+    v47 = (u16)((u32)v46 << (8u & 15u));
+    v48 = (u16)v41;
+    v49 = (u16)((u32)v47 | (u32)v48);
+    v50 = (u16)v35;
+    v51 = (u16)((u32)v50 << (8u & 15u));
+    v52 = (u16)v37;
+    v53 = (u16)((u32)v51 | (u32)v52);
+    store8(v21, v27);
+    v54 = v21 + 1u * 1u;
+    store8(v54, 0u);
+    v55 = v21 + 2u * 1u;
+    store16(v55, v53);
+    v56 = v21 + 4u * 1u;
+    store16(v56, v49);
+    v57 = v21 + 6u * 1u;
+    store16(v57, 0u);
+    v58 = v21 + 8u * 1u;
+    store_address(v58, v4);
+    v59 = v21 + 16u * 1u;
+    store64(v59, v5);
+    memory_set(v20, 0u, 12u);
+    f59(v20, a1, a2, v21);
+    v60 = load8(v20);
+    v61 = v60 == 1u;
+    if (v61) { goto L4; }
+    else { goto L12; }
+L4:;
+    v62 = v20 + 4u * 1u;
+    v63 = load8(v62);
+    v64 = v20 + 5u * 1u;
+    v65 = load8(v64);
+    v66 = v20 + 6u * 1u;
+    v67 = load8(v66);
+    v68 = v20 + 8u * 1u;
+    v69 = load16(v68);
+    v70 = v20 + 10u * 1u;
+    v71 = load16(v70);
+    switch (v27) {
+    case 0u: goto L5;
+    case 1u: goto L8;
+    case 3u: goto L6;
+    case 2u: v17 = 0u; goto L61;
+    case 4u: v17 = 0u; goto L61;
+    default: goto L7;
+    }
+L5:;
+    v72 = (u8)((u32)v65 & (u32)1u);
+    v73 = v72 == 0u;
+    if (v73) { v17 = 0u; goto L61; }
+    else { goto L9; }
+L6:;
+    v74 = (u8)((u32)v65 & (u32)4u);
+    v75 = v74 == 0u;
+    if (v75) { v17 = 0u; goto L61; }
+    else { goto L9; }
+L7:;
+    UNREACHABLE;
+L8:;
+    v76 = (u8)((u32)v65 & (u32)2u);
+    v77 = v76 == 0u;
+    if (v77) { v17 = 0u; goto L61; }
+    else { goto L9; }
+L9:;
+    v78 = (u8)((u32)v67 & (u32)v25);
+    v79 = v78 != v67;
+    v80 = (u64)v69;
+    v81 = v5 < v80;
+    v82 = v79 ? 1u : v81;
+    if (v82) { v17 = 0u; goto L61; }
+    else { goto L10; }
+L10:;
+    v83 = (u64)v71;
+    v84 = v5 <= v83;
+    v85 = v5 < 131u;
+    v86 = (u8)(((u32)v85 & (u32)v84) & UINT64_C(1));
+    if (v86) { goto L11; }
+    else { v17 = 0u; goto L61; }
+L11:;
+    v87 = v63 != 1u;
+    v88 = v49 != 65535u;
+    v89 = v87 ? 1u : v88;
+    v17 = v89; goto L61;
+L12:;
+    switch (v53) {
+    case 0u: v6 = 0u; v7 = 2u; v8 = 0u; v9 = 7u; v10 = 0u; v11 = 0u; goto L33;
+    case 2u: goto L13;
+    case 8192u: goto L14;
+    case 8193u: goto L15;
+    case 8194u: goto L16;
+    case 8195u: goto L17;
+    case 8196u: goto L18;
+    case 8197u: goto L19;
+    case 8198u: goto L20;
+    case 8199u: goto L21;
+    case 8200u: goto L22;
+    case 8201u: goto L23;
+    case 8202u: goto L24;
+    case 8203u: goto L25;
+    case 8204u: goto L26;
+    case 8205u: goto L27;
+    case 8206u: goto L28;
+    case 8208u: goto L29;
+    case 8209u: goto L30;
+    case 24576u: goto L31;
+    case 24577u: goto L32;
+    default: v17 = 0u; goto L61;
+    }
+L13:;
+    v6 = 0u; v7 = 1u; v8 = 1u; v9 = 3u; v10 = 1u; v11 = 0u; goto L33;
+L14:;
+    v6 = 0u; v7 = 1u; v8 = 1u; v9 = 1u; v10 = 2u; v11 = 0u; goto L33;
+L15:;
+    v6 = 0u; v7 = 1u; v8 = 1u; v9 = 1u; v10 = 3u; v11 = 0u; goto L33;
+L16:;
+    v6 = 0u; v7 = 1u; v8 = 1u; v9 = 1u; v10 = 4u; v11 = 0u; goto L33;
+L17:;
+    v6 = 0u; v7 = 1u; v8 = 1u; v9 = 1u; v10 = 5u; v11 = 0u; goto L33;
+L18:;
+    v6 = 4u; v7 = 2u; v8 = 1u; v9 = 1u; v10 = 6u; v11 = 0u; goto L33;
+L19:;
+    v6 = 0u; v7 = 1u; v8 = 1u; v9 = 3u; v10 = 7u; v11 = 0u; goto L33;
+L20:;
+    v6 = 0u; v7 = 1u; v8 = 1u; v9 = 3u; v10 = 8u; v11 = 0u; goto L33;
+L21:;
+    v6 = 0u; v7 = 1u; v8 = 1u; v9 = 3u; v10 = 9u; v11 = 0u; goto L33;
+L22:;
+    v6 = 0u; v7 = 1u; v8 = 1u; v9 = 1u; v10 = 10u; v11 = 0u; goto L33;
+L23:;
+    v6 = 4u; v7 = 2u; v8 = 1u; v9 = 3u; v10 = 11u; v11 = 0u; goto L33;
+L24:;
+    v6 = 4u; v7 = 2u; v8 = 1u; v9 = 3u; v10 = 11u; v11 = 8u; goto L33;
+L25:;
+    v6 = 4u; v7 = 2u; v8 = 1u; v9 = 3u; v10 = 11u; v11 = 16u; goto L33;
+L26:;
+    v6 = 4u; v7 = 2u; v8 = 1u; v9 = 1u; v10 = 12u; v11 = 0u; goto L33;
+L27:;
+    v6 = 4u; v7 = 2u; v8 = 0u; v9 = 4u; v10 = 13u; v11 = 0u; goto L33;
+L28:;
+    v6 = 4u; v7 = 2u; v8 = 0u; v9 = 4u; v10 = 14u; v11 = 0u; goto L33;
+L29:;
+    v6 = 0u; v7 = 1u; v8 = 1u; v9 = 3u; v10 = 15u; v11 = 0u; goto L33;
+L30:;
+    v6 = 0u; v7 = 1u; v8 = 1u; v9 = 3u; v10 = 16u; v11 = 0u; goto L33;
+L31:;
+    v6 = 4u; v7 = 2u; v8 = 1u; v9 = 3u; v10 = 11u; v11 = 24u; goto L33;
+L32:;
+    v6 = 4u; v7 = 2u; v8 = 1u; v9 = 3u; v10 = 11u; v11 = 32u; goto L33;
+L33:;
+    switch (v27) {
+    case 0u: goto L34;
+    case 1u: goto L37;
+    case 3u: goto L35;
+    case 2u: v17 = 0u; goto L61;
+    case 4u: v17 = 0u; goto L61;
+    default: goto L36;
+    }
+L34:;
+    v90 = (u8)((u32)v9 & (u32)1u);
+    v91 = v90 == 0u;
+    if (v91) { v17 = 0u; goto L61; }
+    else { v12 = 0u; goto L38; }
+L35:;
+    if (v8) { v17 = 0u; goto L61; }
+    else { v12 = v6; goto L38; }
+L36:;
+    UNREACHABLE;
+L37:;
+    v92 = (u8)((u32)v9 & (u32)2u);
+    v93 = v92 == 0u;
+    if (v93) { v17 = 0u; goto L61; }
+    else { v12 = v7; goto L38; }
+L38:;
+    v94 = (u8)((u32)v12 & (u32)v25);
+    v95 = v94 == v12;
+    if (v95) { goto L39; }
+    else { v17 = 0u; goto L61; }
+L39:;
+    switch (v27) {
+    case 1u: goto L40;
+    case 3u: goto L48;
+    case 0u: goto L51;
+    case 2u: goto L51;
+    default: goto L47;
+    }
+L40:;
+    switch (v10) {
+    case 0u: goto L42;
+    case 1u: goto L43;
+    case 7u: goto L46;
+    case 8u: goto L46;
+    case 9u: goto L46;
+    case 11u: goto L46;
+    case 15u: goto L46;
+    case 16u: goto L45;
+    case 2u: v17 = 0u; goto L61;
+    case 3u: v17 = 0u; goto L61;
+    case 4u: v17 = 0u; goto L61;
+    case 5u: v17 = 0u; goto L61;
+    case 6u: v17 = 0u; goto L61;
+    case 10u: v17 = 0u; goto L61;
+    case 12u: v17 = 0u; goto L61;
+    case 13u: v17 = 0u; goto L61;
+    case 14u: v17 = 0u; goto L61;
+    default: goto L41;
+    }
+L41:;
+    UNREACHABLE;
+L42:;
+    v96 = v5 == 0u;
+    if (v96) { goto L50; }
+    else { v17 = 0u; goto L61; }
+L43:;
+    v97 = v5 == 0u;
+    if (v97) { v17 = 0u; goto L61; }
+    else { goto L44; }
+L44:;
+    v98 = load8(v4);
+    v99 = (u64)v98;
+    v100 = (u64)((u64)v99 + (u64)1u);
+    v101 = (u64)((u64)v100 & (u64)1u);
+    v102 = (u64)((u64)v101 + (u64)v100);
+    v103 = v5 == v102;
+    if (v103) { goto L50; }
+    else { v17 = 0u; goto L61; }
+L45:;
+    v104 = v5 == 4u;
+    if (v104) { goto L50; }
+    else { v17 = 0u; goto L61; }
+L46:;
+    v105 = v5 == 2u;
+    if (v105) { goto L50; }
+    else { v17 = 0u; goto L61; }
+L47:;
+    UNREACHABLE;
+L48:;
+    v106 = v5 == 0u;
+    if (v106) { goto L49; }
+    else { v17 = 0u; goto L61; }
+L49:;
+    goto L58;
+L50:;
+    goto L52;
+L51:;
+    v107 = v27 == 1u;
+    if (v107) { goto L52; }
+    else { goto L58; }
+L52:;
+    switch (v10) {
+    case 0u: v13 = 1u; v14 = v10; v15 = v10; v16 = v10; goto L60;
+    case 1u: goto L53;
+    case 7u: goto L54;
+    case 8u: goto L54;
+    case 9u: goto L54;
+    case 11u: goto L59;
+    case 15u: goto L55;
+    case 16u: goto L56;
+    case 2u: goto L57;
+    case 3u: goto L57;
+    case 4u: goto L57;
+    case 5u: goto L57;
+    case 6u: goto L57;
+    case 10u: goto L57;
+    case 12u: goto L57;
+    case 13u: goto L57;
+    case 14u: goto L57;
+    default: goto L41;
+    }
+L53:;
+    v13 = 2u; v14 = 128u; v15 = 0u; v16 = 0u; goto L60;
+L54:;
+    v13 = 3u; v14 = 0u; v15 = 0u; v16 = 0u; goto L60;
+L55:;
+    v13 = 5u; v14 = 23u; v15 = 49u; v16 = 254u; goto L60;
+L56:;
+    v13 = 8u; v14 = 0u; v15 = 0u; v16 = 0u; goto L60;
+L57:;
+    v13 = 0u; v14 = 0u; v15 = 0u; v16 = 0u; goto L60;
+L58:;
+    v17 = 1u; goto L61;
+L59:;
+    v108 = (u64)v11;
+    v109 = (u64)(((u64)UINT64_C(30165894151) >> (v108 & 63u)) & UINT64_C(1099511627775));
+    v110 = (u8)(v109);
+    v111 = (u64)v11;
+    v112 = (u64)(((u64)UINT64_C(34360263172) >> (v111 & 63u)) & UINT64_C(1099511627775));
+    v113 = (u8)(v112);
+    v114 = (u64)v11;
+    v115 = (u64)(((u64)UINT64_C(21474904580) >> (v114 & 63u)) & UINT64_C(1099511627775));
+    v116 = (u8)(v115);
+    v13 = v110; v14 = v113; v15 = v116; v16 = 0u; goto L60;
+L60:;
+    store8(v19, v13);
+    v117 = v19 + 1u * 1u;
+    store8(v117, v14);
+    v118 = v19 + 2u * 1u;
+    store8(v118, v15);
+    v119 = v19 + 3u * 1u;
+    store8(v119, v16);
+    v120 = f35(v19, v4, v5);
+    v17 = v120; goto L61;
+L61:;
+    v18 = v17; goto L62;
+L62:;
+    return v18;
+}
+
+static void f66(address a0, address a1, address a2) {
+    address v3, v10, v11, v12, v15, v17, v18, v19, v20, v21, v22, v23, v24, v28, v30, v31;
+    address v33, v34, v36, v38, v40, v41, v44, v45, v46, v49, v51, v52, v54, v55, v57, v59;
+    address v61, v62, v65, v66, v67, v70, v72, v73, v75, v76, v78, v80, v82, v83, v86, v87;
+    address v88;
+    u64 v4, v35, v42, v43, v47, v48, v56, v63, v64, v68, v69, v77, v84, v85, v89, v90;
+    u8 v5, v6, v7, v8, v9, v13, v14, v25, v26, v27, v29, v50, v71, v91;
+    u16 v16, v32, v37, v39, v53, v58, v60, v74, v79, v81;
+    u64 block0[1];
+    u64 block1[4];
+    u64 block2[1];
+    v10 = ADDRESS(block0);
+    v11 = ADDRESS(block1);
+    v12 = ADDRESS(block2);
+    v13 = load8(a1);
+    v14 = v13 != 0u;
+    v15 = a1 + 2u * 1u;
+    v16 = load16(v15);
+    switch (v16) {
+    case 0u: v3 = ADDRESS(c126); v4 = 19u; v5 = 0u; v6 = 1u; v7 = 7u; v8 = 0u; v9 = 0u; goto L21;
+    case 2u: goto L1;
+    case 8192u: goto L2;
+    case 8193u: goto L3;
+    case 8194u: goto L4;
+    case 8195u: goto L5;
+    case 8196u: goto L6;
+    case 8197u: goto L7;
+    case 8198u: goto L8;
+    case 8199u: goto L9;
+    case 8200u: goto L10;
+    case 8201u: goto L11;
+    case 8202u: goto L12;
+    case 8203u: goto L13;
+    case 8204u: goto L14;
+    case 8205u: goto L15;
+    case 8206u: goto L16;
+    case 8208u: goto L17;
+    case 8209u: goto L18;
+    case 24576u: goto L19;
+    case 24577u: goto L20;
+    default: goto L22;
+    }
+L1:;
+    v3 = ADDRESS(c127); v4 = 16u; v5 = 1u; v6 = 0u; v7 = 3u; v8 = 1u; v9 = 0u; goto L21;
+L2:;
+    v3 = ADDRESS(c128); v4 = 16u; v5 = 1u; v6 = 0u; v7 = 1u; v8 = 2u; v9 = 0u; goto L21;
+L3:;
+    v3 = ADDRESS(c129); v4 = 16u; v5 = 1u; v6 = 0u; v7 = 1u; v8 = 3u; v9 = 0u; goto L21;
+L4:;
+    v3 = ADDRESS(c130); v4 = 15u; v5 = 1u; v6 = 0u; v7 = 1u; v8 = 4u; v9 = 0u; goto L21;
+L5:;
+    v3 = ADDRESS(c131); v4 = 24u; v5 = 1u; v6 = 0u; v7 = 1u; v8 = 5u; v9 = 0u; goto L21;
+L6:;
+    v3 = ADDRESS(c132); v4 = 13u; v5 = 0u; v6 = 1u; v7 = 1u; v8 = 6u; v9 = 0u; goto L21;
+L7:;
+    v3 = ADDRESS(c133); v4 = 9u; v5 = 1u; v6 = 0u; v7 = 3u; v8 = 7u; v9 = 0u; goto L21;
+L8:;
+    v3 = ADDRESS(c134); v4 = 9u; v5 = 1u; v6 = 0u; v7 = 3u; v8 = 8u; v9 = 0u; goto L21;
+L9:;
+    v3 = ADDRESS(c135); v4 = 6u; v5 = 1u; v6 = 0u; v7 = 3u; v8 = 9u; v9 = 0u; goto L21;
+L10:;
+    v3 = ADDRESS(c136); v4 = 10u; v5 = 1u; v6 = 0u; v7 = 1u; v8 = 10u; v9 = 0u; goto L21;
+L11:;
+    v3 = ADDRESS(c142); v4 = 21u; v5 = 0u; v6 = 1u; v7 = 3u; v8 = 11u; v9 = 0u; goto L21;
+L12:;
+    v3 = ADDRESS(c144); v4 = 24u; v5 = 0u; v6 = 1u; v7 = 3u; v8 = 11u; v9 = 1u; goto L21;
+L13:;
+    v3 = ADDRESS(c146); v4 = 17u; v5 = 0u; v6 = 1u; v7 = 3u; v8 = 11u; v9 = 2u; goto L21;
+L14:;
+    v3 = ADDRESS(c137); v4 = 14u; v5 = 0u; v6 = 1u; v7 = 1u; v8 = 12u; v9 = 0u; goto L21;
+L15:;
+    v3 = ADDRESS(c138); v4 = 11u; v5 = 0u; v6 = 1u; v7 = 4u; v8 = 13u; v9 = 0u; goto L21;
+L16:;
+    v3 = ADDRESS(c139); v4 = 12u; v5 = 0u; v6 = 1u; v7 = 4u; v8 = 14u; v9 = 0u; goto L21;
+L17:;
+    v3 = ADDRESS(c140); v4 = 14u; v5 = 1u; v6 = 0u; v7 = 3u; v8 = 15u; v9 = 0u; goto L21;
+L18:;
+    v3 = ADDRESS(c141); v4 = 14u; v5 = 1u; v6 = 0u; v7 = 3u; v8 = 16u; v9 = 0u; goto L21;
+L19:;
+    v3 = ADDRESS(c148); v4 = 15u; v5 = 0u; v6 = 1u; v7 = 3u; v8 = 11u; v9 = 3u; goto L21;
+L20:;
+    v3 = ADDRESS(c150); v4 = 27u; v5 = 0u; v6 = 1u; v7 = 3u; v8 = 11u; v9 = 4u; goto L21;
+L21:;
+    memory_set(v10, 0u, 6u);
+    memory_cpy(v12, v10, 6u);
+    store16(v11, v16);
+    v17 = v11 + 2u * 1u;
+    memory_cpy(v17, v12, 6u);
+    v18 = v11 + 8u * 1u;
+    store_address(v18, v3);
+    v19 = v11 + 16u * 1u;
+    store64(v19, v4);
+    v20 = v11 + 24u * 1u;
+    store8(v20, v6);
+    v21 = v11 + 25u * 1u;
+    store8(v21, v7);
+    v22 = v11 + 26u * 1u;
+    store8(v22, v8);
+    v23 = v11 + 27u * 1u;
+    store8(v23, v9);
+    v24 = v11 + 28u * 1u;
+    store32(v24, 0u);
+    v25 = (u8)((u32)v7 & (u32)1u);
+    v26 = v25 == 0u;
+    v27 = (u8)(((u32)v14 | (u32)v26) & UINT64_C(1));
+    if (v5) { goto L24; }
+    else { goto L30; }
+L22:;
+    v28 = a2 + 72u * 1u;
+    v29 = load8(v28);
+    v30 = a2 + 58u * 1u;
+    store8(v30, 0u);
+    v31 = a2 + 56u * 1u;
+    v32 = load16(v31);
+    v33 = a2 + 64u * 1u;
+    v34 = load_address(v33);
+    v35 = (u64)v29;
+    v36 = ADDRESS(c379) + v35 * 2u;
+    v37 = load16(v36);
+    v38 = a2 + 54u * 1u;
+    v39 = load16(v38);
+    v40 = load_address(v34);
+    v41 = v34 + 16u * 1u;
+    v42 = load64(v41);
+    v43 = (u64)((u64)v42 * (u64)1476u);
+    v44 = v40 + v43 * 1u;
+    store16(v44, v32);
+    v45 = v44 + 2u * 1u;
+    store16(v45, 60u);
+    v46 = v44 + 4u * 1u;
+    f34(a2, v32, v37, v39, v46);
+    v47 = load64(v41);
+    v48 = (u64)((u64)v47 + (u64)1u);
+    store64(v41, v48);
+    goto L23;
+L23:;
+    return;
+L24:;
+    if (v27) { goto L25; }
+    else { goto L26; }
+L25:;
+    v49 = a2 + 72u * 1u;
+    v50 = load8(v49);
+    v51 = a2 + 58u * 1u;
+    store8(v51, 0u);
+    v52 = a2 + 56u * 1u;
+    v53 = load16(v52);
+    v54 = a2 + 64u * 1u;
+    v55 = load_address(v54);
+    v56 = (u64)v50;
+    v57 = ADDRESS(c379) + v56 * 2u;
+    v58 = load16(v57);
+    v59 = a2 + 54u * 1u;
+    v60 = load16(v59);
+    v61 = load_address(v55);
+    v62 = v55 + 16u * 1u;
+    v63 = load64(v62);
+    v64 = (u64)((u64)v63 * (u64)1476u);
+    v65 = v61 + v64 * 1u;
+    store16(v65, v53);
+    v66 = v65 + 2u * 1u;
+    store16(v66, 60u);
+    v67 = v65 + 4u * 1u;
+    f34(a2, v53, v58, v60, v67);
+    v68 = load64(v62);
+    v69 = (u64)((u64)v68 + (u64)1u);
+    store64(v62, v69);
+    goto L23;
+L26:;
+    switch (v8) {
+    case 7u: goto L28;
+    case 8u: goto L28;
+    case 9u: goto L28;
+    case 10u: goto L28;
+    case 15u: goto L28;
+    case 0u: goto L29;
+    case 1u: goto L29;
+    case 2u: goto L29;
+    case 3u: goto L29;
+    case 4u: goto L29;
+    case 5u: goto L29;
+    case 6u: goto L29;
+    case 11u: goto L29;
+    case 12u: goto L29;
+    case 13u: goto L29;
+    case 14u: goto L29;
+    case 16u: goto L29;
+    default: goto L27;
+    }
+L27:;
+    UNREACHABLE;
+L28:;
+    v70 = a2 + 72u * 1u;
+    v71 = load8(v70);
+    v72 = a2 + 58u * 1u;
+    store8(v72, 0u);
+    v73 = a2 + 56u * 1u;
+    v74 = load16(v73);
+    v75 = a2 + 64u * 1u;
+    v76 = load_address(v75);
+    v77 = (u64)v71;
+    v78 = ADDRESS(c379) + v77 * 2u;
+    v79 = load16(v78);
+    v80 = a2 + 54u * 1u;
+    v81 = load16(v80);
+    v82 = load_address(v76);
+    v83 = v76 + 16u * 1u;
+    v84 = load64(v83);
+    v85 = (u64)((u64)v84 * (u64)1476u);
+    v86 = v82 + v85 * 1u;
+    store16(v86, v74);
+    v87 = v86 + 2u * 1u;
+    store16(v87, 60u);
+    v88 = v86 + 4u * 1u;
+    f34(a2, v74, v79, v81, v88);
+    v89 = load64(v83);
+    v90 = (u64)((u64)v89 + (u64)1u);
+    store64(v83, v90);
+    goto L23;
+L29:;
+    f67(a0, v8, a2);
+    goto L23;
+L30:;
+    v91 = (u8)v27;
+    f68(a0, v11, a1, v91, a2);
+    goto L23;
+}
+
+static void f67(address a0, u8 a1, address a2) {
+    address v3, v5, v7, v8, v10, v11, v13, v15, v17, v18, v21, v22, v23, v26, v28, v29;
+    address v31, v32, v34, v36, v38, v39, v42, v43, v44;
+    u8 v4, v6, v27;
+    u16 v9, v14, v16, v30, v35, v37;
+    u64 v12, v19, v20, v24, v25, v33, v40, v41, v45, v46;
+    u64 block0[18];
+    v3 = ADDRESS(block0);
+    v4 = a1 == 1u;
+    if (v4) { goto L1; }
+    else { goto L2; }
+L1:;
+    v5 = a2 + 72u * 1u;
+    v6 = load8(v5);
+    v7 = a2 + 58u * 1u;
+    store8(v7, 0u);
+    v8 = a2 + 56u * 1u;
+    v9 = load16(v8);
+    v10 = a2 + 64u * 1u;
+    v11 = load_address(v10);
+    v12 = (u64)v6;
+    v13 = ADDRESS(c379) + v12 * 2u;
+    v14 = load16(v13);
+    v15 = a2 + 54u * 1u;
+    v16 = load16(v15);
+    v17 = load_address(v11);
+    v18 = v11 + 16u * 1u;
+    v19 = load64(v18);
+    v20 = (u64)((u64)v19 * (u64)1476u);
+    v21 = v17 + v20 * 1u;
+    store16(v21, v9);
+    v22 = v21 + 2u * 1u;
+    store16(v22, 60u);
+    v23 = v21 + 4u * 1u;
+    f34(a2, v9, v14, v16, v23);
+    v24 = load64(v18);
+    v25 = (u64)((u64)v24 + (u64)1u);
+    store64(v18, v25);
+    goto L3;
+L2:;
+    memory_set(v3, 0u, 144u);
+    f39(a0, a1, v3);
+    v26 = a2 + 72u * 1u;
+    v27 = load8(v26);
+    v28 = a2 + 58u * 1u;
+    store8(v28, 0u);
+    v29 = a2 + 56u * 1u;
+    v30 = load16(v29);
+    v31 = a2 + 64u * 1u;
+    v32 = load_address(v31);
+    v33 = (u64)v27;
+    v34 = ADDRESS(c379) + v33 * 2u;
+    v35 = load16(v34);
+    v36 = a2 + 54u * 1u;
+    v37 = load16(v36);
+    v38 = load_address(v32);
+    v39 = v32 + 16u * 1u;
+    v40 = load64(v39);
+    v41 = (u64)((u64)v40 * (u64)1476u);
+    v42 = v38 + v41 * 1u;
+    store16(v42, v30);
+    v43 = v42 + 2u * 1u;
+    store16(v43, 60u);
+    v44 = v42 + 4u * 1u;
+    f34(a2, v30, v35, v37, v44);
+    v45 = load64(v39);
+    v46 = (u64)((u64)v45 + (u64)1u);
+    store64(v39, v46);
+    goto L3;
+L3:;
+    return;
+}
+
+static void f68(address a0, address a1, address a2, u8 a3, address a4) {
+    u16 v5, v6, v9, v10, v12, v20, v21, v35, v39, v43, v47, v58, v61, v75, v79, v81;
+    u16 v85, v86, v94;
+    u64 v7, v17, v19, v31, v32, v37, v45, v52, v54, v55, v66, v68, v69, v77, v83, v89;
+    u64 v90, v95, v96, v97;
+    address v8, v11, v14, v18, v23, v25, v26, v27, v28, v29, v30, v36, v38, v44, v46, v53;
+    address v59, v62, v67, v76, v78, v82, v84, v87, v88, v91, v92, v93;
+    u8 v13, v15, v16, v22, v24, v33, v34, v40, v41, v42, v48, v49, v50, v51, v56, v57;
+    u8 v60, v63, v64, v65, v70, v71, v72, v73, v74, v80, v98;
+    v11 = a2 + 4u * 1u;
+    v12 = load16(v11);
+    v13 = v12 == 65535u;
+    if (v13) { goto L1; }
+    else { v5 = v12; v6 = v12; goto L2; }
+L1:;
+    v14 = a0 + 240u * 1u;
+    v15 = load8(v14);
+    v16 = v15 == 0u;
+    v17 = v16 ? 376u : 256u;
+    v18 = a0 + v17 * 1u;
+    v19 = load64(v18);
+    v20 = (u16)(v19);
+    v5 = v20; v6 = 1u; goto L2;
+L2:;
+    v21 = (u16)((u32)v5 + (u32)1u);
+    v22 = v6 < v21;
+    if (v22) { goto L3; }
+    else { goto L32; }
+L3:;
+    v23 = a1 + 26u * 1u;
+    v24 = (u8)((a3) & UINT64_C(1));
+    v25 = a0 + 240u * 1u;
+    v26 = a4 + 72u * 1u;
+    v27 = a4 + 58u * 1u;
+    v28 = a4 + 56u * 1u;
+    v29 = a4 + 64u * 1u;
+    v30 = a4 + 54u * 1u;
+    v31 = (u64)v6;
+    v32 = (u64)v21;
+    v7 = v31; goto L4;
+L4:;
+    v33 = load8(v23);
+    if (v24) { goto L5; }
+    else { goto L6; }
+L5:;
+    v34 = load8(v26);
+    store8(v27, 1u);
+    v35 = load16(v28);
+    v36 = load_address(v29);
+    v37 = (u64)v34;
+    v38 = ADDRESS(c379) + v37 * 2u;
+    v39 = load16(v38);
+    v8 = v36; v9 = v35; v10 = v39; goto L31;
+L6:;
+    v40 = load8(a2);
+    v41 = v40 == 3u;
+    if (v41) { goto L7; }
+    else { goto L8; }
+L7:;
+    v42 = load8(v26);
+    store8(v27, 1u);
+    v43 = load16(v28);
+    v44 = load_address(v29);
+    v45 = (u64)v42;
+    v46 = ADDRESS(c379) + v45 * 2u;
+    v47 = load16(v46);
+    v8 = v44; v9 = v43; v10 = v47; goto L31;
+L8:;
+    v48 = v33 == 6u;
+    if (v48) { goto L9; }
+    else { goto L27; }
+L9:;
+    v49 = v7 == 0u;
+    if (v49) { goto L19; }
+    else { goto L10; }
+L10:;
+    v50 = load8(v25);
+    v51 = v50 == 0u;
+    v52 = v51 ? 376u : 256u;
+    v53 = a0 + v52 * 1u;
+    v54 = load64(v53);
+    v55 = (u64)((u64)v7 + (u64)UINT64_C(18446744073709551615));
+    v56 = v55 < v54;
+    if (v56) { goto L11; }
+    else { goto L19; }
+L11:;
+    v57 = load8(v26);
+    store8(v27, 1u);
+    v58 = load16(v28);
+    v59 = load_address(v29);
+    switch (v57) {
+    case 0u: v8 = v59; v9 = v58; v10 = 1u; goto L31;
+    case 1u: goto L12;
+    case 2u: goto L13;
+    case 3u: goto L14;
+    case 4u: goto L15;
+    case 5u: goto L16;
+    case 6u: goto L17;
+    default: goto L18;
+    }
+L12:;
+    v8 = v59; v9 = v58; v10 = 2u; goto L31;
+L13:;
+    v8 = v59; v9 = v58; v10 = 3u; goto L31;
+L14:;
+    v8 = v59; v9 = v58; v10 = 4u; goto L31;
+L15:;
+    v8 = v59; v9 = v58; v10 = 5u; goto L31;
+L16:;
+    v8 = v59; v9 = v58; v10 = 6u; goto L31;
+L17:;
+    v8 = v59; v9 = v58; v10 = 65534u; goto L31;
+L18:;
+    UNREACHABLE;
+L19:;
+    v60 = load8(v26);
+    store8(v27, 1u);
+    v61 = load16(v28);
+    v62 = load_address(v29);
+    switch (v60) {
+    case 0u: v8 = v62; v9 = v61; v10 = 1u; goto L31;
+    case 1u: goto L20;
+    case 2u: goto L21;
+    case 3u: goto L22;
+    case 4u: goto L23;
+    case 5u: goto L24;
+    case 6u: goto L25;
+    default: goto L26;
+    }
+L20:;
+    v8 = v62; v9 = v61; v10 = 2u; goto L31;
+L21:;
+    v8 = v62; v9 = v61; v10 = 3u; goto L31;
+L22:;
+    v8 = v62; v9 = v61; v10 = 4u; goto L31;
+L23:;
+    v8 = v62; v9 = v61; v10 = 5u; goto L31;
+L24:;
+    v8 = v62; v9 = v61; v10 = 6u; goto L31;
+L25:;
+    v8 = v62; v9 = v61; v10 = 65534u; goto L31;
+L26:;
+    UNREACHABLE;
+L27:;
+    v63 = v7 == 0u;
+    if (v63) { goto L30; }
+    else { goto L28; }
+L28:;
+    v64 = load8(v25);
+    v65 = v64 == 0u;
+    v66 = v65 ? 376u : 256u;
+    v67 = a0 + v66 * 1u;
+    v68 = load64(v67);
+    v69 = (u64)((u64)v7 + (u64)UINT64_C(18446744073709551615));
+    v70 = v69 < v68;
+    v71 = (u8)((u32)v33 + (u32)245u);
+    v72 = v71 < 2u;
+    v73 = v70 ? v72 : 0u;
+    if (v73) { goto L29; }
+    else { goto L30; }
+L29:;
+    v74 = load8(v26);
+    store8(v27, 1u);
+    v75 = load16(v28);
+    v76 = load_address(v29);
+    v77 = (u64)v74;
+    v78 = ADDRESS(c379) + v77 * 2u;
+    v79 = load16(v78);
+    v8 = v76; v9 = v75; v10 = v79; goto L31;
+L30:;
+    v80 = load8(v26);
+    store8(v27, 1u);
+    v81 = load16(v28);
+    v82 = load_address(v29);
+    v83 = (u64)v80;
+    v84 = ADDRESS(c379) + v83 * 2u;
+    v85 = load16(v84);
+    v8 = v82; v9 = v81; v10 = v85; goto L31;
+L31:;
+    v86 = load16(v30);
+    v87 = load_address(v8);
+    v88 = v8 + 16u * 1u;
+    v89 = load64(v88);
+    v90 = (u64)((u64)v89 * (u64)1476u);
+    v91 = v87 + v90 * 1u;
+    store16(v91, v9);
+    v92 = v91 + 2u * 1u;
+    store16(v92, 60u);
+    v93 = v91 + 4u * 1u;
+    v94 = (u16)(v7);
+    f34(a4, v94, v10, v86, v93);
+    v95 = load64(v88);
+    v96 = (u64)((u64)v95 + (u64)1u);
+    store64(v88, v96);
+    v97 = (u64)((u64)v7 + (u64)1u);
+    v98 = v97 == v32;
+    if (v98) { goto L32; }
+    else { v7 = v97; goto L4; }
+L32:;
+    return;
+}
+
+static void f69(address a0, address a1, u16 a2, address a3, u64 a4, address a5, u64 a6, address a7, u64 a8) {
+    u8 v9, v10, v11, v12, v24, v26, v27, v28, v29, v39, v40, v41, v42, v44, v45, v46;
+    u8 v48, v50, v56, v58, v59, v61, v63, v68, v70, v71, v73, v77, v81, v83, v84, v85;
+    u8 v86, v87, v88, v90, v92, v94, v96, v107, v111, v113, v115, v117, v136, v141, v142, v144;
+    u8 v145, v146, v148, v150, v151, v154, v155, v156, v157, v159, v160, v165, v166, v167, v169, v170;
+    u8 v172, v173, v176, v181, v185, v191, v194, v195, v196, v201, v205, v208, v209, v218, v219, v223;
+    u8 v224, v225, v226, v234, v236, v237, v239, v241, v247, v249, v285, v288, v290, v298, v299, v300;
+    u8 v302, v303, v304, v306, v308, v314, v316, v317, v319, v321, v326, v328, v329, v331, v335, v339;
+    u8 v341, v342, v343, v344, v345, v346, v348, v350, v352, v354, v363, v367, v369, v371, v373, v392;
+    u8 v397, v398, v400, v401, v402, v404, v406, v407, v410, v411, v412, v413, v415, v416, v421, v422;
+    u8 v423, v425, v427, v429, v431, v462, v464;
+    u64 v13, v15, v16, v17, v19, v20, v22, v23, v25, v55, v74, v75, v78, v79, v80, v82;
+    u64 v99, v100, v101, v102, v108, v109, v119, v121, v138, v140, v153, v161, v163, v178, v180, v182;
+    u64 v186, v188, v192, v193, v199, v200, v202, v206, v217, v221, v222, v227, v228, v262, v282, v283;
+    u64 v284, v289, v294, v313, v332, v333, v336, v337, v338, v340, v355, v356, v357, v358, v364, v365;
+    u64 v375, v377, v394, v396, v409, v417, v419, v454, v467, v469;
+    address v14, v18, v30, v31, v32, v33, v34, v35, v36, v37, v38, v43, v47, v49, v60, v62;
+    address v69, v72, v76, v89, v91, v93, v95, v97, v98, v103, v104, v105, v106, v110, v112, v114;
+    address v116, v118, v120, v130, v131, v132, v133, v134, v135, v137, v139, v143, v147, v149, v152, v158;
+    address v162, v168, v171, v174, v175, v177, v183, v184, v187, v197, v198, v203, v204, v207, v215, v216;
+    address v220, v233, v235, v238, v240, v246, v248, v263, v266, v267, v268, v269, v270, v271, v272, v273;
+    address v274, v275, v276, v277, v278, v279, v280, v281, v286, v287, v295, v296, v297, v301, v305, v307;
+    address v318, v320, v327, v330, v334, v347, v349, v351, v353, v359, v360, v361, v362, v366, v368, v370;
+    address v372, v374, v376, v386, v387, v388, v389, v390, v391, v393, v395, v399, v403, v405, v408, v414;
+    address v418, v424, v426, v428, v430, v440, v441, v442, v443, v444, v445, v446, v447, v448, v449, v450;
+    address v452, v453, v455, v456, v457, v458, v459, v460, v461, v463, v465, v466, v468, v470, v472, v473;
+    address v475, v476, v477, v478, v479, v480, v481;
+    u16 v21, v51, v52, v53, v54, v57, v64, v65, v66, v67, v122, v123, v124, v125, v126, v127;
+    u16 v128, v129, v164, v179, v189, v190, v210, v211, v212, v213, v214, v229, v230, v231, v232, v242;
+    u16 v243, v244, v245, v250, v251, v252, v253, v254, v255, v256, v257, v261, v264, v265, v291, v292;
+    u16 v293, v309, v310, v311, v312, v315, v322, v323, v324, v325, v378, v379, v380, v381, v382, v383;
+    u16 v384, v385, v420, v432, v433, v434, v435, v436, v437, v438, v439;
+    u32 v258, v259, v260, v451, v471, v474;
+    u64 block0[3];
+    u64 block1[1];
+    u64 block2[3];
+    u64 block3[5];
+    u64 block4[3];
+    u64 block5[1];
+    u64 block6[3];
+    u64 block7[1];
+    u64 block8[12];
+    v30 = ADDRESS(block0);
+    v31 = ADDRESS(block1);
+    v32 = ADDRESS(block2);
+    v33 = ADDRESS(block3);
+    v34 = ADDRESS(block4);
+    v35 = ADDRESS(block5);
+    v36 = ADDRESS(block6);
+    v37 = ADDRESS(block7);
+    v38 = ADDRESS(block8);
+    memory_set(v37, 0u, 6u);
+    memory_set(v38, 0u, 96u);
+    memory_set(v35, 0u, 3u);
+    v39 = a4 < 54u;
+    if (v39) { goto L6; }
+    else { goto L1; }
+L1:;
+    v40 = load8(a3);
+    v41 = (u8)((u32)v40 & (u32)15u);
+    v42 = v41 == 13u;
+    if (v42) { goto L2; }
+    else { goto L6; }
+L2:;
+    v43 = a3 + 1u * 1u;
+    v44 = load8(v43);
+    v45 = (u8)((u32)v44 & (u32)15u);
+    v46 = v45 == 2u;
+    if (v46) { goto L3; }
+    else { goto L6; }
+L3:;
+    v47 = a3 + 2u * 1u;
+    v48 = load8(v47);
+    v49 = a3 + 3u * 1u;
+    v50 = load8(v49);
+    v51 = (u16)v48;
+    v52 = (u16)((u32)v51 << (8u & 15u));
+    v53 = (u16)v50;
+    v54 = (u16)((u32)v52 | (u32)v53);
+    v55 = (u64)v54;
+    v56 = a4 < v55;
+    v57 = (u16)((u32)v54 + (u32)64063u);
+    v58 = v57 < 64117u;
+    v59 = (u8)(((u32)v58 | (u32)v56) & UINT64_C(1));
+    if (v59) { goto L6; }
+    else { goto L4; }
+L4:;
+    v60 = a3 + 48u * 1u;
+    v61 = load8(v60);
+    v62 = a3 + 49u * 1u;
+    v63 = load8(v62);
+    v64 = (u16)v61;
+    v65 = (u16)((u32)v64 << (8u & 15u));
+    v66 = (u16)v63;
+    v67 = (u16)((u32)v65 | (u32)v66);
+    v68 = v67 == 1u;
+    if (v68) { goto L5; }
+    else { goto L6; }
+L5:;
+    v69 = a3 + 46u * 1u;
+    v70 = load8(v69);
+    v71 = (u8)((u32)v70 & (u32)15u);
+    v72 = a3 + 50u * 1u;
+    v73 = load8(v72);
+    v74 = (u64)v73;
+    v75 = (u64)((u64)v74 << (8u & 63u));
+    v76 = a3 + 51u * 1u;
+    v77 = load8(v76);
+    v78 = (u64)v77;
+    v79 = (u64)((u64)v75 | (u64)v78);
+    v80 = (u64)((u64)v79 + (u64)52u);
+    v81 = v80 == v55;
+    v82 = (u64)((u64)v55 & (u64)1u);
+    v83 = v82 == 0u;
+    v84 = (u8)(((u32)v83 & (u32)v81) & UINT64_C(1));
+    v85 = v71 < 5u;
+    v86 = v84 ? v85 : 0u;
+    if (v86) { v9 = v50; v10 = v48; v11 = v71; v12 = 0u; goto L9; }
+    else { goto L6; }
+L6:;
+    f8(v35, a3, a4);
+    v87 = load8(v35);
+    v88 = v87 == 0u;
+    if (v88) { goto L7; }
+    else { goto L8; }
+L7:;
+    v89 = v35 + 1u * 1u;
+    v90 = load8(v89);
+    v91 = v35 + 2u * 1u;
+    v92 = load8(v91);
+    v93 = a3 + 2u * 1u;
+    v94 = load8(v93);
+    v95 = a3 + 3u * 1u;
+    v96 = load8(v95);
+    v9 = v96; v10 = v94; v11 = v90; v12 = v92; goto L9;
+L8:;
+    goto L47;
+L9:;
+    v97 = a3 + 2u * 1u;
+    v98 = a3 + 3u * 1u;
+    v99 = (u64)v10;
+    v100 = (u64)((u64)v99 << (8u & 63u));
+    v101 = (u64)v9;
+    v102 = (u64)((u64)v100 | (u64)v101);
+    store_address(v36, a3);
+    v103 = v36 + 8u * 1u;
+    store64(v103, v102);
+    v104 = v36 + 16u * 1u;
+    store8(v104, v11);
+    v105 = v36 + 17u * 1u;
+    store8(v105, v12);
+    v106 = v36 + 18u * 1u;
+    memory_set(v106, 0u, 6u);
+    v107 = v12 == 0u;
+    v108 = v107 ? 52u : 54u;
+    v109 = v107 ? 53u : 55u;
+    v110 = a3 + v108 * 1u;
+    v111 = load8(v110);
+    v112 = a3 + v109 * 1u;
+    v113 = load8(v112);
+    v114 = a3 + 42u * 1u;
+    v115 = load8(v114);
+    v116 = a3 + 43u * 1u;
+    v117 = load8(v116);
+    v118 = a3 + 54u * 1u;
+    v119 = (u64)((u64)v102 + (u64)UINT64_C(18446744073709551562));
+    v120 = v107 ? v118 : ADDRESS(c155);
+    v121 = v107 ? v119 : 0u;
+    v122 = (u16)v115;
+    v123 = (u16)((u32)v122 << (8u & 15u));
+    v124 = (u16)v117;
+    v125 = (u16)((u32)v123 | (u32)v124);
+    v126 = (u16)v111;
+    v127 = (u16)((u32)v126 << (8u & 15u));
+    v128 = (u16)v113;
+    v129 = (u16)((u32)v127 | (u32)v128);
+    store8(v34, v11);
+    v130 = v34 + 1u * 1u;
+    store8(v130, 0u);
+    v131 = v34 + 2u * 1u;
+    store16(v131, v129);
+    v132 = v34 + 4u * 1u;
+    store16(v132, v125);
+    v133 = v34 + 6u * 1u;
+    store16(v133, 0u);
+    v134 = v34 + 8u * 1u;
+    store_address(v134, v120);
+    v135 = v34 + 16u * 1u;
+    store64(v135, v121);
+    v136 = f70(v34);
+    if (v136) { goto L10; }
+    else { goto L16; }
+L10:;
+    v137 = a3 + 34u * 1u;
+    v138 = load64(v137);
+    v139 = a1 + 384u * 1u;
+    v140 = load64(v139);
+    v141 = load8(a3);
+    v142 = (u8)((u32)v141 >> (4u & 7u));
+    v143 = a3 + 5u * 1u;
+    v144 = load8(v143);
+    v145 = (u8)((u32)v142 | (u32)v144);
+    v146 = v145 == 0u;
+    if (v146) { goto L11; }
+    else { goto L16; }
+L11:;
+    v147 = a3 + 4u * 1u;
+    v148 = load8(v147);
+    v149 = a1 + 8u * 1u;
+    v150 = load8(v149);
+    v151 = v148 == v150;
+    if (v151) { goto L12; }
+    else { goto L16; }
+L12:;
+    v152 = a3 + 20u * 1u;
+    v153 = load64(v152);
+    v154 = v153 == v140;
+    if (v154) { goto L16; }
+    else { goto L13; }
+L13:;
+    v155 = v138 == v140;
+    v156 = v138 == UINT64_C(18446744073709551615);
+    v157 = (u8)(((u32)v156 | (u32)v155) & UINT64_C(1));
+    if (v157) { goto L14; }
+    else { goto L16; }
+L14:;
+    switch (v125) {
+    case 65535u: goto L17;
+    case 0u: goto L16;
+    default: goto L15;
+    }
+L15:;
+    v158 = a1 + 240u * 1u;
+    v159 = load8(v158);
+    v160 = v159 == 0u;
+    v161 = v160 ? 376u : 256u;
+    v162 = a1 + v161 * 1u;
+    v163 = load64(v162);
+    v164 = (u16)(v163);
+    v165 = v125 > v164;
+    if (v165) { goto L16; }
+    else { goto L17; }
+L16:;
+    goto L47;
+L17:;
+    v166 = f71(a1, v36);
+    v167 = v166 == 0u;
+    if (v167) { goto L18; }
+    else { goto L47; }
+L18:;
+    if (v155) { v20 = 0u; v21 = v129; v22 = v153; v23 = v138; v24 = v148; goto L42; }
+    else { goto L19; }
+L19:;
+    v168 = a3 + 45u * 1u;
+    v169 = load8(v168);
+    v170 = v169 == 0u;
+    if (v170) { v20 = 0u; v21 = v129; v22 = v153; v23 = v140; v24 = v148; goto L42; }
+    else { goto L20; }
+L20:;
+    v171 = a1 + 240u * 1u;
+    v172 = load8(v171);
+    v173 = v172 == 0u;
+    v174 = a1 + 248u * 1u;
+    if (v173) { v13 = 376u; v14 = v174; goto L22; }
+    else { goto L21; }
+L21:;
+    v175 = load_address(v174);
+    v13 = 256u; v14 = v175; goto L22;
+L22:;
+    v176 = a2 == 0u;
+    if (v176) { v20 = 0u; v21 = v129; v22 = v153; v23 = v140; v24 = v148; goto L42; }
+    else { goto L23; }
+L23:;
+    v177 = a1 + v13 * 1u;
+    v178 = load64(v177);
+    v179 = (u16)((u32)a2 + (u32)65535u);
+    v180 = (u64)v179;
+    v181 = v178 > v180;
+    if (v181) { goto L24; }
+    else { v20 = 0u; v21 = v129; v22 = v153; v23 = v140; v24 = v148; goto L42; }
+L24:;
+    v182 = (u64)((u64)v180 << (4u & 63u));
+    v183 = v14 + v182 * 1u;
+    v184 = v183 + 8u * 1u;
+    v185 = load8(v184);
+    switch (v185) {
+    case 4u: goto L26;
+    case 5u: goto L26;
+    case 7u: goto L26;
+    case 8u: goto L26;
+    case 0u: v20 = 0u; v21 = v129; v22 = v153; v23 = v140; v24 = v148; goto L42;
+    case 1u: v20 = 0u; v21 = v129; v22 = v153; v23 = v140; v24 = v148; goto L42;
+    case 2u: v20 = 0u; v21 = v129; v22 = v153; v23 = v140; v24 = v148; goto L42;
+    case 3u: v20 = 0u; v21 = v129; v22 = v153; v23 = v140; v24 = v148; goto L42;
+    case 6u: v20 = 0u; v21 = v129; v22 = v153; v23 = v140; v24 = v148; goto L42;
+    default: goto L25;
+    }
+L25:;
+    UNREACHABLE;
+L26:;
+    v186 = v173 ? 376u : 256u;
+    v187 = a1 + v186 * 1u;
+    v188 = load64(v187);
+    v189 = (u16)(v188);
+    v190 = (u16)((u32)v189 + (u32)1u);
+    v191 = v190 > 1u;
+    if (v191) { goto L27; }
+    else { v20 = 0u; v21 = v129; v22 = v153; v23 = v140; v24 = v148; goto L42; }
+L27:;
+    v192 = (u64)a2;
+    v193 = (u64)v190;
+    v15 = 0u; v16 = 1u; goto L28;
+L28:;
+    v194 = v16 == v192;
+    if (v194) { v19 = v15; goto L40; }
+    else { goto L29; }
+L29:;
+    v195 = load8(v171);
+    v196 = v195 == 0u;
+    if (v196) { v17 = 376u; v18 = v174; goto L31; }
+    else { goto L30; }
+L30:;
+    v197 = load_address(v174);
+    v17 = 256u; v18 = v197; goto L31;
+L31:;
+    v198 = a1 + v17 * 1u;
+    v199 = load64(v198);
+    v200 = (u64)((u64)v16 + (u64)UINT64_C(18446744073709551615));
+    v201 = v199 > v200;
+    if (v201) { goto L32; }
+    else { v19 = v15; goto L40; }
+L32:;
+    v202 = (u64)((u64)v200 << (4u & 63u));
+    v203 = v18 + v202 * 1u;
+    v204 = v203 + 8u * 1u;
+    v205 = load8(v204);
+    switch (v205) {
+    case 4u: goto L34;
+    case 5u: goto L34;
+    case 7u: goto L34;
+    case 8u: goto L34;
+    case 0u: v19 = v15; goto L40;
+    case 1u: v19 = v15; goto L40;
+    case 2u: v19 = v15; goto L40;
+    case 3u: v19 = v15; goto L40;
+    case 6u: v19 = v15; goto L40;
+    default: goto L33;
+    }
+L33:;
+    UNREACHABLE;
+L34:;
+    v206 = (u64)((u64)v15 * (u64)1476u);
+    v207 = a7 + v206 * 1u;
+    v208 = load8(v97);
+    v209 = load8(v98);
+    v210 = (u16)v208;
+    v211 = (u16)((u32)v210 << (8u & 15u));
+    v212 = (u16)v209;
+    v213 = (u16)((u32)v211 | (u32)v212);
+    v214 = (u16)(v16);
+    store16(v207, v214);
+    v215 = v207 + 2u * 1u;
+    store16(v215, v213);
+    v216 = v207 + 4u * 1u;
+    switch (v213) {
+    case 54u: goto L35;
+    case 56u: goto L36;
+    case 80u: goto L37;
+    default: goto L38;
+    }
+L35:;
+    memory_move(v216, a3, 54u);
+    goto L39;
+L36:;
+    memory_move(v216, a3, 56u);
+    goto L39;
+L37:;
+    memory_move(v216, a3, 80u);
+    goto L39;
+L38:;
+    v217 = (u64)v213;
+    f51(v216, a3, v217);
+    goto L39;
+L39:;
+    v218 = load8(v168);
+    v219 = (u8)((u32)v218 + (u32)255u);
+    v220 = v207 + 49u * 1u;
+    store8(v220, v219);
+    v221 = (u64)((u64)v15 + (u64)1u);
+    v19 = v221; goto L40;
+L40:;
+    v222 = (u64)((u64)v16 + (u64)1u);
+    v223 = v222 == v193;
+    if (v223) { goto L41; }
+    else { v15 = v19; v16 = v222; goto L28; }
+L41:;
+    v224 = load8(v110);
+    v225 = load8(v112);
+    v226 = load8(v147);
+    v227 = load64(v139);
+    v228 = load64(v152);
+    v229 = (u16)v224;
+    v230 = (u16)((u32)v229 << (8u & 15u));
+    v231 = (u16)v225;
+    v232 = (u16)((u32)v230 | (u32)v231);
+    v20 = v19; v21 = v232; v22 = v228; v23 = v227; v24 = v226; goto L42;
+L42:;
+    v233 = a3 + 44u * 1u;
+    v234 = load8(v233);
+    v235 = a3 + 45u * 1u;
+    v236 = load8(v235);
+    v237 = v234 > v236 ? (u8)((u32)v234 - (u32)v236) : 0u;
+    v238 = a3 + 30u * 1u;
+    v239 = load8(v238);
+    v240 = a3 + 31u * 1u;
+    v241 = load8(v240);
+    v242 = (u16)v239;
+    v243 = (u16)((u32)v242 << (8u & 15u));
+    v244 = (u16)v241;
+    v245 = (u16)((u32)v243 | (u32)v244);
+    v246 = a3 + 28u * 1u;
+    v247 = load8(v246);
+    v248 = a3 + 29u * 1u;
+    v249 = load8(v248);
+    v250 = (u16)v247;
+    v251 = (u16)((u32)v250 << (8u & 15u));
+    v252 = (u16)v249;
+    v253 = (u16)((u32)v251 | (u32)v252);
+    v254 = (u16)v24;
+    v255 = swap16(a2);
+    v256 = swap16(v245);
+    v257 = swap16(v253);
+    v258 = (u32)v237;
+    v259 = (u32)((u32)v258 * (u32)257u);
+    v260 = (u32)((u32)v259 | (u32)UINT32_C(131072));
+    v261 = swap16(v21);
+    v262 = (u64)((u64)v20 * (u64)1476u);
+    v263 = a7 + v262 * 1u;
+    store16(v263, a2);
+    v264 = (u16)(a6);
+    v265 = (u16)((u32)v264 + (u32)54u);
+    v266 = v263 + 2u * 1u;
+    store16(v266, v265);
+    v267 = v263 + 4u * 1u;
+    v268 = v263 + 58u * 1u;
+    store16(v267, 4621u);
+    v269 = v263 + 6u * 1u;
+    store16(v269, 13824u);
+    v270 = v263 + 8u * 1u;
+    store16(v270, v254);
+    v271 = v263 + 10u * 1u;
+    memory_set(v271, 0u, 14u);
+    v272 = v263 + 24u * 1u;
+    store64(v272, v23);
+    v273 = v263 + 32u * 1u;
+    store16(v273, v255);
+    v274 = v263 + 34u * 1u;
+    store16(v274, v256);
+    v275 = v263 + 36u * 1u;
+    store16(v275, 32516u);
+    v276 = v263 + 38u * 1u;
+    store64(v276, v22);
+    v277 = v263 + 46u * 1u;
+    store16(v277, v257);
+    v278 = v263 + 48u * 1u;
+    store32(v278, v260);
+    v279 = v263 + 52u * 1u;
+    store16(v279, 256u);
+    v280 = v263 + 54u * 1u;
+    store16(v280, 512u);
+    v281 = v263 + 56u * 1u;
+    store16(v281, v261);
+    v282 = (u64)v268;
+    v283 = (u64)a5;
+    v284 = (u64)((u64)v282 - (u64)v283);
+    v285 = v284 < a6;
+    if (v285) { v25 = 0u; goto L44; }
+    else { goto L43; }
+L43:;
+    memory_move(v268, a5, a6);
+    goto L45;
+L44:;
+    v286 = v268 + v25 * 1u;
+    v287 = a5 + v25 * 1u;
+    v288 = load8(v287);
+    store8(v286, v288);
+    v289 = (u64)((u64)v25 + (u64)1u);
+    v290 = v289 == a6;
+    if (v290) { goto L45; }
+    else { v25 = v289; goto L44; }
+L45:;
+    v291 = swap16(v265);
+    store16(v269, v291);
+    store16(v273, v255);
+    v292 = (u16)((u32)v264 + (u32)2u);
+    v293 = swap16(v292);
+    store16(v280, v293);
+    v294 = (u64)((u64)v20 + (u64)1u);
+    store8(a0, 9u);
+    v295 = a0 + 1u * 1u;
+    v296 = a0 + 8u * 1u;
+    memory_set(v295, 0u, 7u);
+    store64(v296, v294);
+    v297 = a0 + 16u * 1u;
+    memory_set(v297, 0u, 80u);
+    goto L46;
+L46:;
+    return;
+L47:;
+    memory_set(v33, 0u, 40u);
+    memory_set(v31, 0u, 3u);
+    if (v39) { goto L53; }
+    else { goto L48; }
+L48:;
+    v298 = load8(a3);
+    v299 = (u8)((u32)v298 & (u32)15u);
+    v300 = v299 == 13u;
+    if (v300) { goto L49; }
+    else { goto L53; }
+L49:;
+    v301 = a3 + 1u * 1u;
+    v302 = load8(v301);
+    v303 = (u8)((u32)v302 & (u32)15u);
+    v304 = v303 == 2u;
+    if (v304) { goto L50; }
+    else { goto L53; }
+L50:;
+    v305 = a3 + 2u * 1u;
+    v306 = load8(v305);
+    v307 = a3 + 3u * 1u;
+    v308 = load8(v307);
+    v309 = (u16)v306;
+    v310 = (u16)((u32)v309 << (8u & 15u));
+    v311 = (u16)v308;
+    v312 = (u16)((u32)v310 | (u32)v311);
+    v313 = (u64)v312;
+    v314 = a4 < v313;
+    v315 = (u16)((u32)v312 + (u32)64063u);
+    v316 = v315 < 64117u;
+    v317 = (u8)(((u32)v316 | (u32)v314) & UINT64_C(1));
+    if (v317) { goto L53; }
+    else { goto L51; }
+L51:;
+    v318 = a3 + 48u * 1u;
+    v319 = load8(v318);
+    v320 = a3 + 49u * 1u;
+    v321 = load8(v320);
+    v322 = (u16)v319;
+    v323 = (u16)((u32)v322 << (8u & 15u));
+    v324 = (u16)v321;
+    v325 = (u16)((u32)v323 | (u32)v324);
+    v326 = v325 == 1u;
+    if (v326) { goto L52; }
+    else { goto L53; }
+L52:;
+    v327 = a3 + 46u * 1u;
+    v328 = load8(v327);
+    v329 = (u8)((u32)v328 & (u32)15u);
+    v330 = a3 + 50u * 1u;
+    v331 = load8(v330);
+    v332 = (u64)v331;
+    v333 = (u64)((u64)v332 << (8u & 63u));
+    v334 = a3 + 51u * 1u;
+    v335 = load8(v334);
+    v336 = (u64)v335;
+    v337 = (u64)((u64)v333 | (u64)v336);
+    v338 = (u64)((u64)v337 + (u64)52u);
+    v339 = v338 == v313;
+    v340 = (u64)((u64)v313 & (u64)1u);
+    v341 = v340 == 0u;
+    v342 = (u8)(((u32)v341 & (u32)v339) & UINT64_C(1));
+    v343 = v329 < 5u;
+    v344 = v342 ? v343 : 0u;
+    if (v344) { v26 = v308; v27 = v306; v28 = v329; v29 = 0u; goto L55; }
+    else { goto L53; }
+L53:;
+    f8(v31, a3, a4);
+    v345 = load8(v31);
+    v346 = v345 == 0u;
+    if (v346) { goto L54; }
+    else { goto L64; }
+L54:;
+    v347 = v31 + 1u * 1u;
+    v348 = load8(v347);
+    v349 = v31 + 2u * 1u;
+    v350 = load8(v349);
+    v351 = a3 + 2u * 1u;
+    v352 = load8(v351);
+    v353 = a3 + 3u * 1u;
+    v354 = load8(v353);
+    v26 = v354; v27 = v352; v28 = v348; v29 = v350; goto L55;
+L55:;
+    v355 = (u64)v27;
+    v356 = (u64)((u64)v355 << (8u & 63u));
+    v357 = (u64)v26;
+    v358 = (u64)((u64)v356 | (u64)v357);
+    store_address(v32, a3);
+    v359 = v32 + 8u * 1u;
+    store64(v359, v358);
+    v360 = v32 + 16u * 1u;
+    store8(v360, v28);
+    v361 = v32 + 17u * 1u;
+    store8(v361, v29);
+    v362 = v32 + 18u * 1u;
+    memory_set(v362, 0u, 6u);
+    v363 = v29 == 0u;
+    v364 = v363 ? 52u : 54u;
+    v365 = v363 ? 53u : 55u;
+    v366 = a3 + v364 * 1u;
+    v367 = load8(v366);
+    v368 = a3 + v365 * 1u;
+    v369 = load8(v368);
+    v370 = a3 + 42u * 1u;
+    v371 = load8(v370);
+    v372 = a3 + 43u * 1u;
+    v373 = load8(v372);
+    v374 = a3 + 54u * 1u;
+    v375 = (u64)((u64)v358 + (u64)UINT64_C(18446744073709551562));
+    v376 = v363 ? v374 : ADDRESS(c155);
+    v377 = v363 ? v375 : 0u;
+    v378 = (u16)v371;
+    v379 = (u16)((u32)v378 << (8u & 15u));
+    v380 = (u16)v373;
+    v381 = (u16)((u32)v379 | (u32)v380);
+    v382 = (u16)v367;
+    v383 = (u16)((u32)v382 << (8u & 15u));
+    v384 = (u16)v369;
+    v385 = (u16)((u32)v383 | (u32)v384);
+    store8(v30, v28);
+    v386 = v30 + 1u * 1u;
+    store8(v386, 0u);
+    v387 = v30 + 2u * 1u;
+    store16(v387, v385);
+    v388 = v30 + 4u * 1u;
+    store16(v388, v381);
+    v389 = v30 + 6u * 1u;
+    store16(v389, 0u);
+    v390 = v30 + 8u * 1u;
+    store_address(v390, v376);
+    v391 = v30 + 16u * 1u;
+    store64(v391, v377);
+    v392 = f70(v30);
+    if (v392) { goto L56; }
+    else { goto L62; }
+L56:;
+    v393 = a3 + 34u * 1u;
+    v394 = load64(v393);
+    v395 = a1 + 384u * 1u;
+    v396 = load64(v395);
+    v397 = load8(a3);
+    v398 = (u8)((u32)v397 >> (4u & 7u));
+    v399 = a3 + 5u * 1u;
+    v400 = load8(v399);
+    v401 = (u8)((u32)v398 | (u32)v400);
+    v402 = v401 == 0u;
+    if (v402) { goto L57; }
+    else { goto L62; }
+L57:;
+    v403 = a3 + 4u * 1u;
+    v404 = load8(v403);
+    v405 = a1 + 8u * 1u;
+    v406 = load8(v405);
+    v407 = v404 == v406;
+    if (v407) { goto L58; }
+    else { goto L62; }
+L58:;
+    v408 = a3 + 20u * 1u;
+    v409 = load64(v408);
+    v410 = v409 == v396;
+    if (v410) { goto L62; }
+    else { goto L59; }
+L59:;
+    v411 = v394 == v396;
+    v412 = v394 == UINT64_C(18446744073709551615);
+    v413 = (u8)(((u32)v412 | (u32)v411) & UINT64_C(1));
+    if (v413) { goto L60; }
+    else { goto L62; }
+L60:;
+    switch (v381) {
+    case 65535u: goto L63;
+    case 0u: goto L62;
+    default: goto L61;
+    }
+L61:;
+    v414 = a1 + 240u * 1u;
+    v415 = load8(v414);
+    v416 = v415 == 0u;
+    v417 = v416 ? 376u : 256u;
+    v418 = a1 + v417 * 1u;
+    v419 = load64(v418);
+    v420 = (u16)(v419);
+    v421 = v381 > v420;
+    if (v421) { goto L62; }
+    else { goto L63; }
+L62:;
+    goto L66;
+L63:;
+    v422 = f71(a1, v32);
+    v423 = v422 == 1u;
+    if (v423) { goto L65; }
+    else { goto L66; }
+L64:;
+    goto L66;
+L65:;
+    v424 = a3 + 28u * 1u;
+    v425 = load8(v424);
+    v426 = a3 + 29u * 1u;
+    v427 = load8(v426);
+    v428 = a3 + 30u * 1u;
+    v429 = load8(v428);
+    v430 = a3 + 31u * 1u;
+    v431 = load8(v430);
+    v432 = (u16)v429;
+    v433 = (u16)((u32)v432 << (8u & 15u));
+    v434 = (u16)v431;
+    v435 = (u16)((u32)v433 | (u32)v434);
+    v436 = (u16)v425;
+    v437 = (u16)((u32)v436 << (8u & 15u));
+    v438 = (u16)v427;
+    v439 = (u16)((u32)v437 | (u32)v438);
+    store64(v33, v409);
+    v440 = v33 + 8u * 1u;
+    store16(v440, v439);
+    v441 = v33 + 10u * 1u;
+    store16(v441, v435);
+    v442 = v33 + 12u * 1u;
+    store32(v442, 0u);
+    v443 = v33 + 16u * 1u;
+    store8(v443, v28);
+    v444 = v33 + 17u * 1u;
+    store8(v444, 0u);
+    v445 = v33 + 18u * 1u;
+    store16(v445, v385);
+    v446 = v33 + 20u * 1u;
+    store16(v446, v381);
+    v447 = v33 + 22u * 1u;
+    store16(v447, 0u);
+    v448 = v33 + 24u * 1u;
+    store_address(v448, v376);
+    v449 = v33 + 32u * 1u;
+    store64(v449, v377);
+    f72(a1, v33, a5, a6);
+    f44(v38, a1, a2, a3, a4, a7, a8);
+    v450 = v38 + 24u * 1u;
+    v451 = load32(v450);
+    v452 = v38 + 28u * 1u;
+    v453 = v38 + 8u * 1u;
+    v454 = load64(v453);
+    store8(a0, 5u);
+    v455 = a0 + 1u * 1u;
+    store8(v455, 0u);
+    v456 = a0 + 2u * 1u;
+    memory_cpy(v456, v37, 6u);
+    v457 = a0 + 8u * 1u;
+    store64(v457, v454);
+    v458 = a0 + 16u * 1u;
+    store64(v458, 0u);
+    v459 = a0 + 24u * 1u;
+    store32(v459, v451);
+    v460 = a0 + 28u * 1u;
+    memory_cpy(v460, v452, 64u);
+    v461 = a0 + 92u * 1u;
+    store32(v461, 0u);
+    goto L46;
+L66:;
+    f44(v38, a1, a2, a3, a4, a7, a8);
+    v462 = load8(v38);
+    v463 = v38 + 1u * 1u;
+    v464 = load8(v463);
+    v465 = v38 + 2u * 1u;
+    v466 = v38 + 8u * 1u;
+    v467 = load64(v466);
+    v468 = v38 + 16u * 1u;
+    v469 = load64(v468);
+    v470 = v38 + 24u * 1u;
+    v471 = load32(v470);
+    v472 = v38 + 28u * 1u;
+    v473 = v38 + 92u * 1u;
+    v474 = load32(v473);
+    store8(a0, v462);
+    v475 = a0 + 1u * 1u;
+    store8(v475, v464);
+    v476 = a0 + 2u * 1u;
+    memory_cpy(v476, v465, 6u);
+    v477 = a0 + 8u * 1u;
+    store64(v477, v467);
+    v478 = a0 + 16u * 1u;
+    store64(v478, v469);
+    v479 = a0 + 24u * 1u;
+    store32(v479, v471);
+    v480 = a0 + 28u * 1u;
+    memory_cpy(v480, v472, 64u);
+    v481 = a0 + 92u * 1u;
+    store32(v481, v474);
+    goto L46;
+}
+
+static u8 f70(address a0) {
+    u8 v1, v2, v3;
+    address v4;
+    u16 v5;
+    v2 = load8(a0);
+    v3 = v2 == 0u;
+    if (v3) { goto L1; }
+    else { v1 = 0u; goto L3; }
+L1:;
+    v4 = a0 + 2u * 1u;
+    v5 = load16(v4);
+    switch (v5) {
+    case 0u: goto L2;
+    case 2u: goto L2;
+    case 8192u: goto L2;
+    case 8193u: goto L2;
+    case 8194u: goto L2;
+    case 8195u: goto L2;
+    case 8196u: goto L2;
+    case 8197u: goto L2;
+    case 8198u: goto L2;
+    case 8199u: goto L2;
+    case 8200u: goto L2;
+    case 8201u: goto L2;
+    case 8202u: goto L2;
+    case 8203u: goto L2;
+    case 8204u: goto L2;
+    case 8205u: goto L2;
+    case 8206u: goto L2;
+    case 8208u: goto L2;
+    case 8209u: goto L2;
+    case 24576u: goto L2;
+    case 24577u: goto L2;
+    default: v1 = 1u; goto L3;
+    }
+L2:;
+    v1 = 0u; goto L3;
+L3:;
+    return v1;
+}
+
+static u8 f71(address a0, address a1) {
+    address v2, v5, v6, v7, v8, v10, v12, v17, v20, v22, v24, v30, v31, v33, v39, v41;
+    address v46, v48, v50, v52, v59, v60, v61, v62, v63, v64;
+    u64 v3, v9, v18, v21, v44, v45, v51, v53;
+    u8 v4, v11, v13, v19, v23, v25, v32, v34, v40, v42, v43, v47, v49, v66;
+    u16 v14, v15, v16, v26, v27, v28, v29, v35, v36, v37, v38, v54, v55, v56, v57, v58;
+    struct s1 v65;
+    u64 block0[2];
+    u64 block1[3];
+    v5 = ADDRESS(block0);
+    v6 = ADDRESS(block1);
+    v7 = load_address(a1);
+    v8 = v7 + 34u * 1u;
+    v9 = load64(v8);
+    v10 = v7 + 42u * 1u;
+    v11 = load8(v10);
+    v12 = v7 + 43u * 1u;
+    v13 = load8(v12);
+    v14 = (u16)v11;
+    v15 = (u16)((u32)v14 << (8u & 15u));
+    v16 = (u16)v13;
+    v17 = a0 + 384u * 1u;
+    v18 = load64(v17);
+    v19 = v9 == v18;
+    if (v19) { goto L1; }
+    else { v4 = 0u; goto L4; }
+L1:;
+    v20 = v7 + 20u * 1u;
+    v21 = load64(v20);
+    v22 = v7 + 28u * 1u;
+    v23 = load8(v22);
+    v24 = v7 + 29u * 1u;
+    v25 = load8(v24);
+    v26 = (u16)v23;
+    v27 = (u16)((u32)v26 << (8u & 15u));
+    v28 = (u16)v25;
+    v29 = (u16)((u32)v27 | (u32)v28);
+    store64(v5, v21);
+    v30 = v5 + 8u * 1u;
+    store16(v30, v29);
+    v31 = v7 + 30u * 1u;
+    v32 = load8(v31);
+    v33 = v7 + 31u * 1u;
+    v34 = load8(v33);
+    v35 = (u16)v32;
+    v36 = (u16)((u32)v35 << (8u & 15u));
+    v37 = (u16)v34;
+    v38 = (u16)((u32)v36 | (u32)v37);
+    v39 = a1 + 16u * 1u;
+    v40 = load8(v39);
+    v41 = a1 + 17u * 1u;
+    v42 = load8(v41);
+    v43 = v42 == 0u;
+    v44 = v43 ? 52u : 54u;
+    v45 = v43 ? 53u : 55u;
+    v46 = v7 + v44 * 1u;
+    v47 = load8(v46);
+    v48 = v7 + v45 * 1u;
+    v49 = load8(v48);
+    if (v43) { goto L2; }
+    else { v2 = ADDRESS(c155); v3 = 0u; goto L3; }
+L2:;
+    v50 = a1 + 8u * 1u;
+    v51 = load64(v50);
+    v52 = v7 + 54u * 1u;
+    v53 = (u64)((u64)v51 + (u64)UINT64_C(18446744073709551562));
+    v2 = v52; v3 = v53; goto L3;
+L3:;
+    v54 = (u16)((u32)v15 | (u32)v16);
+    v55 = (u16)v47;
+    v56 = (u16)((u32)v55 << (8u & 15u));
+    v57 = (u16)v49;
+    v58 = (u16)((u32)v56 | (u32)v57);
+    store8(v6, v40);
+    v59 = v6 + 1u * 1u;
+    store8(v59, 0u);
+    v60 = v6 + 2u * 1u;
+    store16(v60, v58);
+    v61 = v6 + 4u * 1u;
+    store16(v61, v54);
+    v62 = v6 + 6u * 1u;
+    store16(v62, 0u);
+    v63 = v6 + 8u * 1u;
+    store_address(v63, v2);
+    v64 = v6 + 16u * 1u;
+    store64(v64, v3);
+    v65 = f47(v17, v5, v38, v6);
+    v66 = v65.m0;
+    v4 = v66; goto L4;
+L4:;
+    return v4;
+}
+
+static void f72(address a0, address a1, address a2, u64 a3) {
+    u8 v4, v9;
+    address v5, v6, v7, v8, v10, v11, v12, v13, v14, v15, v17, v18, v19, v20;
+    u16 v16;
+    u64 block0[18];
+    u64 block1[19];
+    u64 block2[19];
+    u64 block3[20];
+    v5 = ADDRESS(block0);
+    v6 = ADDRESS(block1);
+    v7 = ADDRESS(block2);
+    v8 = ADDRESS(block3);
+    memory_set(v6, 0u, 6u);
+    memory_set(v7, 0u, 150u);
+    v9 = a3 > 130u;
+    if (v9) { goto L1; }
+    else { goto L2; }
+L1:;
+    v10 = v7 + 6u * 1u;
+    memory_set(v10, 0u, 144u);
+    v4 = 2u; goto L3;
+L2:;
+    memory_set(v5, 0u, 136u);
+    memory_cpy(v5, a2, a3);
+    v11 = v5 + 136u * 1u;
+    store64(v11, a3);
+    v12 = v7 + 6u * 1u;
+    memory_cpy(v12, v5, 144u);
+    v4 = 0u; goto L3;
+L3:;
+    v13 = v6 + 6u * 1u;
+    v14 = v7 + 6u * 1u;
+    memory_cpy(v13, v14, 144u);
+    v15 = a1 + 10u * 1u;
+    v16 = load16(v15);
+    v17 = a1 + 16u * 1u;
+    v18 = v8 + 8u * 1u;
+    store64(v8, 0u);
+    store8(v18, v4);
+    v19 = v8 + 9u * 1u;
+    store8(v19, 0u);
+    v20 = v8 + 10u * 1u;
+    memory_cpy(v20, v6, 150u);
+    f62(a0, a1, v16, v17, v8, 1u);
+    return;
+}
+
+static void f73(address a0, address a1, u64 a2) {
     u64 v3, v4, v5, v6, v7, v9, v12, v14, v16, v17, v19, v21, v23, v24, v25, v28;
     u64 v29, v32, v41, v42, v43, v44, v46;
     address v8, v11, v13, v18, v20, v27, v30, v31, v33, v34, v36, v39, v40;
@@ -14745,7 +15705,7 @@ L10:;
     goto L12;
 L11:;
     v41 = (u64)v35;
-    f52(v40, v36, v41);
+    f51(v40, v36, v41);
     goto L12;
 L12:;
     v42 = load64(v27);
@@ -14763,7 +15723,7 @@ L14:;
     return;
 }
 
-static void f71(address a0, address a1, u8 a2, address a3) {
+static void f74(address a0, address a1, u8 a2, address a3) {
     address v4, v27, v28, v29, v30, v31, v33, v34, v35, v36, v37, v38, v39, v40, v50, v51;
     address v52, v78, v79, v80, v82, v83, v85, v86, v90, v92, v93, v96, v97, v98, v103, v104;
     address v106, v107, v108, v109, v112, v113, v114, v119, v120, v124, v126, v127, v130, v132, v133, v135;
@@ -14788,7 +15748,7 @@ static void f71(address a0, address a1, u8 a2, address a3) {
     v31 = a1 + 2u * 1u;
     v32 = load16(v31);
     switch (v32) {
-    case 0u: v4 = ADDRESS(c120); v5 = 19u; v6 = 0u; v7 = 2u; v8 = 0u; v9 = 1u; v10 = 0u; v11 = 7u; v12 = 0u; v13 = 0u; goto L21;
+    case 0u: v4 = ADDRESS(c126); v5 = 19u; v6 = 0u; v7 = 2u; v8 = 0u; v9 = 1u; v10 = 0u; v11 = 7u; v12 = 0u; v13 = 0u; goto L21;
     case 2u: goto L1;
     case 8192u: goto L2;
     case 8193u: goto L3;
@@ -14812,45 +15772,45 @@ static void f71(address a0, address a1, u8 a2, address a3) {
     default: goto L70;
     }
 L1:;
-    v4 = ADDRESS(c121); v5 = 16u; v6 = 0u; v7 = 1u; v8 = 1u; v9 = 0u; v10 = 1u; v11 = 3u; v12 = 1u; v13 = 0u; goto L21;
+    v4 = ADDRESS(c127); v5 = 16u; v6 = 0u; v7 = 1u; v8 = 1u; v9 = 0u; v10 = 1u; v11 = 3u; v12 = 1u; v13 = 0u; goto L21;
 L2:;
-    v4 = ADDRESS(c122); v5 = 16u; v6 = 0u; v7 = 1u; v8 = 1u; v9 = 0u; v10 = 1u; v11 = 1u; v12 = 2u; v13 = 0u; goto L21;
+    v4 = ADDRESS(c128); v5 = 16u; v6 = 0u; v7 = 1u; v8 = 1u; v9 = 0u; v10 = 1u; v11 = 1u; v12 = 2u; v13 = 0u; goto L21;
 L3:;
-    v4 = ADDRESS(c123); v5 = 16u; v6 = 0u; v7 = 1u; v8 = 1u; v9 = 0u; v10 = 1u; v11 = 1u; v12 = 3u; v13 = 0u; goto L21;
+    v4 = ADDRESS(c129); v5 = 16u; v6 = 0u; v7 = 1u; v8 = 1u; v9 = 0u; v10 = 1u; v11 = 1u; v12 = 3u; v13 = 0u; goto L21;
 L4:;
-    v4 = ADDRESS(c124); v5 = 15u; v6 = 0u; v7 = 1u; v8 = 1u; v9 = 0u; v10 = 1u; v11 = 1u; v12 = 4u; v13 = 0u; goto L21;
+    v4 = ADDRESS(c130); v5 = 15u; v6 = 0u; v7 = 1u; v8 = 1u; v9 = 0u; v10 = 1u; v11 = 1u; v12 = 4u; v13 = 0u; goto L21;
 L5:;
-    v4 = ADDRESS(c125); v5 = 24u; v6 = 0u; v7 = 1u; v8 = 1u; v9 = 0u; v10 = 1u; v11 = 1u; v12 = 5u; v13 = 0u; goto L21;
+    v4 = ADDRESS(c131); v5 = 24u; v6 = 0u; v7 = 1u; v8 = 1u; v9 = 0u; v10 = 1u; v11 = 1u; v12 = 5u; v13 = 0u; goto L21;
 L6:;
-    v4 = ADDRESS(c126); v5 = 13u; v6 = 4u; v7 = 2u; v8 = 0u; v9 = 1u; v10 = 1u; v11 = 1u; v12 = 6u; v13 = 0u; goto L21;
+    v4 = ADDRESS(c132); v5 = 13u; v6 = 4u; v7 = 2u; v8 = 0u; v9 = 1u; v10 = 1u; v11 = 1u; v12 = 6u; v13 = 0u; goto L21;
 L7:;
-    v4 = ADDRESS(c127); v5 = 9u; v6 = 0u; v7 = 1u; v8 = 1u; v9 = 0u; v10 = 1u; v11 = 3u; v12 = 7u; v13 = 0u; goto L21;
+    v4 = ADDRESS(c133); v5 = 9u; v6 = 0u; v7 = 1u; v8 = 1u; v9 = 0u; v10 = 1u; v11 = 3u; v12 = 7u; v13 = 0u; goto L21;
 L8:;
-    v4 = ADDRESS(c128); v5 = 9u; v6 = 0u; v7 = 1u; v8 = 1u; v9 = 0u; v10 = 1u; v11 = 3u; v12 = 8u; v13 = 0u; goto L21;
+    v4 = ADDRESS(c134); v5 = 9u; v6 = 0u; v7 = 1u; v8 = 1u; v9 = 0u; v10 = 1u; v11 = 3u; v12 = 8u; v13 = 0u; goto L21;
 L9:;
-    v4 = ADDRESS(c129); v5 = 6u; v6 = 0u; v7 = 1u; v8 = 1u; v9 = 0u; v10 = 1u; v11 = 3u; v12 = 9u; v13 = 0u; goto L21;
+    v4 = ADDRESS(c135); v5 = 6u; v6 = 0u; v7 = 1u; v8 = 1u; v9 = 0u; v10 = 1u; v11 = 3u; v12 = 9u; v13 = 0u; goto L21;
 L10:;
-    v4 = ADDRESS(c130); v5 = 10u; v6 = 0u; v7 = 1u; v8 = 1u; v9 = 0u; v10 = 1u; v11 = 1u; v12 = 10u; v13 = 0u; goto L21;
+    v4 = ADDRESS(c136); v5 = 10u; v6 = 0u; v7 = 1u; v8 = 1u; v9 = 0u; v10 = 1u; v11 = 1u; v12 = 10u; v13 = 0u; goto L21;
 L11:;
-    v4 = ADDRESS(c136); v5 = 21u; v6 = 4u; v7 = 2u; v8 = 0u; v9 = 1u; v10 = 1u; v11 = 3u; v12 = 11u; v13 = 0u; goto L21;
+    v4 = ADDRESS(c142); v5 = 21u; v6 = 4u; v7 = 2u; v8 = 0u; v9 = 1u; v10 = 1u; v11 = 3u; v12 = 11u; v13 = 0u; goto L21;
 L12:;
-    v4 = ADDRESS(c138); v5 = 24u; v6 = 4u; v7 = 2u; v8 = 0u; v9 = 1u; v10 = 1u; v11 = 3u; v12 = 11u; v13 = 1u; goto L21;
+    v4 = ADDRESS(c144); v5 = 24u; v6 = 4u; v7 = 2u; v8 = 0u; v9 = 1u; v10 = 1u; v11 = 3u; v12 = 11u; v13 = 1u; goto L21;
 L13:;
-    v4 = ADDRESS(c140); v5 = 17u; v6 = 4u; v7 = 2u; v8 = 0u; v9 = 1u; v10 = 1u; v11 = 3u; v12 = 11u; v13 = 2u; goto L21;
+    v4 = ADDRESS(c146); v5 = 17u; v6 = 4u; v7 = 2u; v8 = 0u; v9 = 1u; v10 = 1u; v11 = 3u; v12 = 11u; v13 = 2u; goto L21;
 L14:;
-    v4 = ADDRESS(c131); v5 = 14u; v6 = 4u; v7 = 2u; v8 = 0u; v9 = 1u; v10 = 1u; v11 = 1u; v12 = 12u; v13 = 0u; goto L21;
+    v4 = ADDRESS(c137); v5 = 14u; v6 = 4u; v7 = 2u; v8 = 0u; v9 = 1u; v10 = 1u; v11 = 1u; v12 = 12u; v13 = 0u; goto L21;
 L15:;
-    v4 = ADDRESS(c132); v5 = 11u; v6 = 4u; v7 = 2u; v8 = 0u; v9 = 1u; v10 = 0u; v11 = 4u; v12 = 13u; v13 = 0u; goto L21;
+    v4 = ADDRESS(c138); v5 = 11u; v6 = 4u; v7 = 2u; v8 = 0u; v9 = 1u; v10 = 0u; v11 = 4u; v12 = 13u; v13 = 0u; goto L21;
 L16:;
-    v4 = ADDRESS(c133); v5 = 12u; v6 = 4u; v7 = 2u; v8 = 0u; v9 = 1u; v10 = 0u; v11 = 4u; v12 = 14u; v13 = 0u; goto L21;
+    v4 = ADDRESS(c139); v5 = 12u; v6 = 4u; v7 = 2u; v8 = 0u; v9 = 1u; v10 = 0u; v11 = 4u; v12 = 14u; v13 = 0u; goto L21;
 L17:;
-    v4 = ADDRESS(c134); v5 = 14u; v6 = 0u; v7 = 1u; v8 = 1u; v9 = 0u; v10 = 1u; v11 = 3u; v12 = 15u; v13 = 0u; goto L21;
+    v4 = ADDRESS(c140); v5 = 14u; v6 = 0u; v7 = 1u; v8 = 1u; v9 = 0u; v10 = 1u; v11 = 3u; v12 = 15u; v13 = 0u; goto L21;
 L18:;
-    v4 = ADDRESS(c135); v5 = 14u; v6 = 0u; v7 = 1u; v8 = 1u; v9 = 0u; v10 = 1u; v11 = 3u; v12 = 16u; v13 = 0u; goto L21;
+    v4 = ADDRESS(c141); v5 = 14u; v6 = 0u; v7 = 1u; v8 = 1u; v9 = 0u; v10 = 1u; v11 = 3u; v12 = 16u; v13 = 0u; goto L21;
 L19:;
-    v4 = ADDRESS(c142); v5 = 15u; v6 = 4u; v7 = 2u; v8 = 0u; v9 = 1u; v10 = 1u; v11 = 3u; v12 = 11u; v13 = 3u; goto L21;
+    v4 = ADDRESS(c148); v5 = 15u; v6 = 4u; v7 = 2u; v8 = 0u; v9 = 1u; v10 = 1u; v11 = 3u; v12 = 11u; v13 = 3u; goto L21;
 L20:;
-    v4 = ADDRESS(c144); v5 = 27u; v6 = 4u; v7 = 2u; v8 = 0u; v9 = 1u; v10 = 1u; v11 = 3u; v12 = 11u; v13 = 4u; goto L21;
+    v4 = ADDRESS(c150); v5 = 27u; v6 = 4u; v7 = 2u; v8 = 0u; v9 = 1u; v10 = 1u; v11 = 3u; v12 = 11u; v13 = 4u; goto L21;
 L21:;
     memory_set(v28, 0u, 6u);
     memory_cpy(v30, v28, 6u);
@@ -15032,7 +15992,7 @@ L48:;
     store8(v79, v17);
     v80 = v27 + 3u * 1u;
     store8(v80, v18);
-    v81 = f36(v27, v51, v53);
+    v81 = f35(v27, v51, v53);
     if (v81) { goto L51; }
     else { v19 = 3u; goto L49; }
 L49:;
@@ -15041,7 +16001,7 @@ L49:;
 L50:;
     goto L51;
 L51:;
-    f37(a0, v12, v13, a1);
+    f36(a0, v12, v13, a1);
     if (v8) { goto L53; }
     else { v25 = 0u; v26 = 0u; goto L68; }
 L52:;
@@ -15065,7 +16025,7 @@ L52:;
     v97 = v96 + 2u * 1u;
     store16(v97, 60u);
     v98 = v96 + 4u * 1u;
-    f35(a3, v84, v89, v91, v98);
+    f34(a3, v84, v89, v91, v98);
     v99 = load64(v93);
     v100 = (u64)((u64)v99 + (u64)1u);
     store64(v93, v100);
@@ -15202,10 +16162,10 @@ L66:;
     store64(v138, v160);
     goto L69;
 L67:;
-    f72(a0, v12, a3);
+    f75(a0, v12, a3);
     goto L69;
 L68:;
-    f73(a0, v29, a1, v26, v25, a3);
+    f76(a0, v29, a1, v26, v25, a3);
     goto L69;
 L69:;
     return;
@@ -15227,14 +16187,14 @@ L70:;
     v173 = v172 + 2u * 1u;
     store16(v173, 60u);
     v174 = v172 + 4u * 1u;
-    f35(a3, v163, 2u, v167, v174);
+    f34(a3, v163, 2u, v167, v174);
     v175 = load64(v169);
     v176 = (u64)((u64)v175 + (u64)1u);
     store64(v169, v176);
     goto L69;
 }
 
-static void f72(address a0, u8 a1, address a2) {
+static void f75(address a0, u8 a1, address a2) {
     u64 v3, v4, v5, v6, v11, v19, v20, v27, v28, v29, v34, v36, v37, v38, v43, v52;
     u64 v53, v55, v63, v64, v71, v72, v73, v78, v80, v81, v82, v87, v96, v97;
     address v7, v9, v10, v12, v13, v15, v16, v17, v18, v21, v24, v25, v26, v31, v32, v40;
@@ -15323,7 +16283,7 @@ L7:;
     goto L15;
 L8:;
     memory_set(v7, 0u, 144u);
-    f40(a0, a1, v7);
+    f39(a0, a1, v7);
     v54 = v7 + 136u * 1u;
     v55 = load64(v54);
     v56 = a2 + 58u * 1u;
@@ -15400,7 +16360,7 @@ L15:;
     return;
 }
 
-static void f73(address a0, address a1, address a2, u8 a3, u8 a4, address a5) {
+static void f76(address a0, address a1, address a2, u8 a3, u8 a4, address a5) {
     u16 v6, v7, v21, v29, v30, v48, v50, v51, v59, v64, v82, v83, v100, v101, v107, v108;
     u16 v109, v110, v114, v142, v160, v161, v180, v198, v200, v201, v206, v224, v225;
     u64 v8, v9, v10, v12, v13, v14, v17, v18, v26, v28, v40, v42, v43, v44, v54, v55;
@@ -15451,7 +16411,7 @@ L3:;
     v42 = (u64)v7;
     v43 = (u64)v30;
     v44 = (u64)a4;
-    v45 = ADDRESS(c373) + v44 * 2u;
+    v45 = ADDRESS(c379) + v44 * 2u;
     v8 = v42; goto L4;
 L4:;
     v46 = load8(v32);
@@ -15474,7 +16434,7 @@ L5:;
     store16(v57, 60u);
     v58 = v56 + 4u * 1u;
     v59 = (u16)(v8);
-    f35(a5, v59, v50, v51, v58);
+    f34(a5, v59, v50, v51, v58);
     v60 = load64(v53);
     v61 = (u64)((u64)v60 + (u64)1u);
     store64(v53, v61);
@@ -15814,7 +16774,7 @@ L41:;
     return;
 }
 
-static void f74(address a0, address a1) {
+static void f77(address a0, address a1) {
     u64 v2, v3, v4, v5, v6, v8, v17, v21, v26, v28, v29, v30, v33, v34, v35, v40;
     u64 v42, v43, v46, v47, v48, v53, v55, v56, v59, v60, v61, v66, v68, v69, v72, v73;
     u64 v74, v79, v81, v84, v86, v88, v89, v90;
@@ -16003,7 +16963,7 @@ L27:;
     memory_move(v87, v22, 80u);
     goto L29;
 L28:;
-    f52(v87, v22, v21);
+    f51(v87, v22, v21);
     goto L29;
 L29:;
     v88 = load64(v12);
@@ -16019,7 +16979,7 @@ L31:;
     return;
 }
 
-static void f75(address a0, u64 a1, address a2, address a3, u16 a4, address a5) {
+static void f78(address a0, u64 a1, address a2, address a3, u16 a4, address a5) {
     u64 v6, v8, v15, v17, v19, v22, v40, v41;
     address v7, v9, v11, v12, v13, v14, v16, v20, v21, v23, v25, v26, v28, v34, v36, v38;
     address v39;
@@ -16065,7 +17025,7 @@ L5:;
     memory_move(v26, v7, 80u);
     goto L7;
 L6:;
-    f52(v26, v7, v19);
+    f51(v26, v7, v19);
     goto L7;
 L7:;
     v27 = load8(a3);
@@ -16101,7 +17061,7 @@ L10:;
     return;
 }
 
-static void f76(address a0, address a1, address a2) {
+static void f79(address a0, address a1, address a2) {
     address v3, v15, v16, v17, v20, v22, v23, v24, v25, v26, v27, v28, v29, v30, v31, v33;
     address v34, v36, v38, v39, v42, v43, v44, v49, v50, v52, v53, v54, v56, v57, v60, v61;
     address v62, v65, v67, v68, v70, v71, v72, v73, v76, v77, v78, v79, v84, v85, v90, v92;
@@ -16121,7 +17081,7 @@ static void f76(address a0, address a1, address a2) {
     v20 = a1 + 2u * 1u;
     v21 = load16(v20);
     switch (v21) {
-    case 0u: v3 = ADDRESS(c120); v4 = 19u; v5 = 0u; v6 = 1u; v7 = 7u; v8 = 0u; v9 = 0u; goto L21;
+    case 0u: v3 = ADDRESS(c126); v4 = 19u; v5 = 0u; v6 = 1u; v7 = 7u; v8 = 0u; v9 = 0u; goto L21;
     case 2u: goto L1;
     case 8192u: goto L2;
     case 8193u: goto L3;
@@ -16145,45 +17105,45 @@ static void f76(address a0, address a1, address a2) {
     default: goto L22;
     }
 L1:;
-    v3 = ADDRESS(c121); v4 = 16u; v5 = 1u; v6 = 0u; v7 = 3u; v8 = 1u; v9 = 0u; goto L21;
+    v3 = ADDRESS(c127); v4 = 16u; v5 = 1u; v6 = 0u; v7 = 3u; v8 = 1u; v9 = 0u; goto L21;
 L2:;
-    v3 = ADDRESS(c122); v4 = 16u; v5 = 1u; v6 = 0u; v7 = 1u; v8 = 2u; v9 = 0u; goto L21;
+    v3 = ADDRESS(c128); v4 = 16u; v5 = 1u; v6 = 0u; v7 = 1u; v8 = 2u; v9 = 0u; goto L21;
 L3:;
-    v3 = ADDRESS(c123); v4 = 16u; v5 = 1u; v6 = 0u; v7 = 1u; v8 = 3u; v9 = 0u; goto L21;
+    v3 = ADDRESS(c129); v4 = 16u; v5 = 1u; v6 = 0u; v7 = 1u; v8 = 3u; v9 = 0u; goto L21;
 L4:;
-    v3 = ADDRESS(c124); v4 = 15u; v5 = 1u; v6 = 0u; v7 = 1u; v8 = 4u; v9 = 0u; goto L21;
+    v3 = ADDRESS(c130); v4 = 15u; v5 = 1u; v6 = 0u; v7 = 1u; v8 = 4u; v9 = 0u; goto L21;
 L5:;
-    v3 = ADDRESS(c125); v4 = 24u; v5 = 1u; v6 = 0u; v7 = 1u; v8 = 5u; v9 = 0u; goto L21;
+    v3 = ADDRESS(c131); v4 = 24u; v5 = 1u; v6 = 0u; v7 = 1u; v8 = 5u; v9 = 0u; goto L21;
 L6:;
-    v3 = ADDRESS(c126); v4 = 13u; v5 = 0u; v6 = 1u; v7 = 1u; v8 = 6u; v9 = 0u; goto L21;
+    v3 = ADDRESS(c132); v4 = 13u; v5 = 0u; v6 = 1u; v7 = 1u; v8 = 6u; v9 = 0u; goto L21;
 L7:;
-    v3 = ADDRESS(c127); v4 = 9u; v5 = 1u; v6 = 0u; v7 = 3u; v8 = 7u; v9 = 0u; goto L21;
+    v3 = ADDRESS(c133); v4 = 9u; v5 = 1u; v6 = 0u; v7 = 3u; v8 = 7u; v9 = 0u; goto L21;
 L8:;
-    v3 = ADDRESS(c128); v4 = 9u; v5 = 1u; v6 = 0u; v7 = 3u; v8 = 8u; v9 = 0u; goto L21;
+    v3 = ADDRESS(c134); v4 = 9u; v5 = 1u; v6 = 0u; v7 = 3u; v8 = 8u; v9 = 0u; goto L21;
 L9:;
-    v3 = ADDRESS(c129); v4 = 6u; v5 = 1u; v6 = 0u; v7 = 3u; v8 = 9u; v9 = 0u; goto L21;
+    v3 = ADDRESS(c135); v4 = 6u; v5 = 1u; v6 = 0u; v7 = 3u; v8 = 9u; v9 = 0u; goto L21;
 L10:;
-    v3 = ADDRESS(c130); v4 = 10u; v5 = 1u; v6 = 0u; v7 = 1u; v8 = 10u; v9 = 0u; goto L21;
+    v3 = ADDRESS(c136); v4 = 10u; v5 = 1u; v6 = 0u; v7 = 1u; v8 = 10u; v9 = 0u; goto L21;
 L11:;
-    v3 = ADDRESS(c136); v4 = 21u; v5 = 0u; v6 = 1u; v7 = 3u; v8 = 11u; v9 = 0u; goto L21;
+    v3 = ADDRESS(c142); v4 = 21u; v5 = 0u; v6 = 1u; v7 = 3u; v8 = 11u; v9 = 0u; goto L21;
 L12:;
-    v3 = ADDRESS(c138); v4 = 24u; v5 = 0u; v6 = 1u; v7 = 3u; v8 = 11u; v9 = 1u; goto L21;
+    v3 = ADDRESS(c144); v4 = 24u; v5 = 0u; v6 = 1u; v7 = 3u; v8 = 11u; v9 = 1u; goto L21;
 L13:;
-    v3 = ADDRESS(c140); v4 = 17u; v5 = 0u; v6 = 1u; v7 = 3u; v8 = 11u; v9 = 2u; goto L21;
+    v3 = ADDRESS(c146); v4 = 17u; v5 = 0u; v6 = 1u; v7 = 3u; v8 = 11u; v9 = 2u; goto L21;
 L14:;
-    v3 = ADDRESS(c131); v4 = 14u; v5 = 0u; v6 = 1u; v7 = 1u; v8 = 12u; v9 = 0u; goto L21;
+    v3 = ADDRESS(c137); v4 = 14u; v5 = 0u; v6 = 1u; v7 = 1u; v8 = 12u; v9 = 0u; goto L21;
 L15:;
-    v3 = ADDRESS(c132); v4 = 11u; v5 = 0u; v6 = 1u; v7 = 4u; v8 = 13u; v9 = 0u; goto L21;
+    v3 = ADDRESS(c138); v4 = 11u; v5 = 0u; v6 = 1u; v7 = 4u; v8 = 13u; v9 = 0u; goto L21;
 L16:;
-    v3 = ADDRESS(c133); v4 = 12u; v5 = 0u; v6 = 1u; v7 = 4u; v8 = 14u; v9 = 0u; goto L21;
+    v3 = ADDRESS(c139); v4 = 12u; v5 = 0u; v6 = 1u; v7 = 4u; v8 = 14u; v9 = 0u; goto L21;
 L17:;
-    v3 = ADDRESS(c134); v4 = 14u; v5 = 1u; v6 = 0u; v7 = 3u; v8 = 15u; v9 = 0u; goto L21;
+    v3 = ADDRESS(c140); v4 = 14u; v5 = 1u; v6 = 0u; v7 = 3u; v8 = 15u; v9 = 0u; goto L21;
 L18:;
-    v3 = ADDRESS(c135); v4 = 14u; v5 = 1u; v6 = 0u; v7 = 3u; v8 = 16u; v9 = 0u; goto L21;
+    v3 = ADDRESS(c141); v4 = 14u; v5 = 1u; v6 = 0u; v7 = 3u; v8 = 16u; v9 = 0u; goto L21;
 L19:;
-    v3 = ADDRESS(c142); v4 = 15u; v5 = 0u; v6 = 1u; v7 = 3u; v8 = 11u; v9 = 3u; goto L21;
+    v3 = ADDRESS(c148); v4 = 15u; v5 = 0u; v6 = 1u; v7 = 3u; v8 = 11u; v9 = 3u; goto L21;
 L20:;
-    v3 = ADDRESS(c144); v4 = 27u; v5 = 0u; v6 = 1u; v7 = 3u; v8 = 11u; v9 = 4u; goto L21;
+    v3 = ADDRESS(c150); v4 = 27u; v5 = 0u; v6 = 1u; v7 = 3u; v8 = 11u; v9 = 4u; goto L21;
 L21:;
     memory_set(v15, 0u, 6u);
     memory_cpy(v17, v15, 6u);
@@ -16225,7 +17185,7 @@ L22:;
     v43 = v42 + 2u * 1u;
     store16(v43, 60u);
     v44 = v42 + 4u * 1u;
-    f35(a2, v32, v35, v37, v44);
+    f34(a2, v32, v35, v37, v44);
     v45 = load64(v39);
     v46 = (u64)((u64)v45 + (u64)1u);
     store64(v39, v46);
@@ -16264,7 +17224,7 @@ L28:;
     v61 = v60 + 2u * 1u;
     store16(v61, 60u);
     v62 = v60 + 4u * 1u;
-    f35(a2, v51, 6u, v55, v62);
+    f34(a2, v51, 6u, v55, v62);
     v63 = load64(v57);
     v64 = (u64)((u64)v63 + (u64)1u);
     store64(v57, v64);
@@ -16352,14 +17312,14 @@ L38:;
     store64(v73, v95);
     goto L23;
 L39:;
-    f72(a0, v8, a2);
+    f75(a0, v8, a2);
     goto L23;
 L40:;
-    f73(a0, v16, a1, v14, v13, a2);
+    f76(a0, v16, a1, v14, v13, a2);
     goto L23;
 }
 
-static struct s2 f77(address a0, address a1, u64 a2) {
+static struct s2 f80(address a0, address a1, u64 a2) {
     u64 v3, v4, v14, v16, v19, v23, v24, v25, v27, v30, v32, v34, v58, v59, v60, v65;
     u64 v67;
     u8 v5, v8, v9, v17, v21, v22, v31, v33, v35, v36, v38, v39, v41, v42, v61, v64;
@@ -16368,20 +17328,20 @@ static struct s2 f77(address a0, address a1, u64 a2) {
     address v7, v11, v12, v15, v18, v28, v43, v44, v45, v46, v47, v48, v49, v50, v51, v52;
     address v53, v54, v55, v56, v57, v62, v63;
     u16 v13, v26, v29, v37, v40;
-    v7 = a0 + 424u * 1u;
+    v7 = a0 + 448u * 1u;
     v8 = load8(v7);
     v9 = v8 == 0u;
     if (v9) { goto L1; }
     else { goto L2; }
 L1:;
-    v10 = f78(a0, a1, a2);
+    v10 = f81(a0, a1, a2);
     v6 = v10; goto L9;
 L2:;
-    v11 = a0 + 426u * 1u;
-    v12 = a0 + 428u * 1u;
+    v11 = a0 + 450u * 1u;
+    v12 = a0 + 452u * 1u;
     v13 = load16(v12);
     v14 = (u64)v13;
-    v15 = a0 + 430u * 1u;
+    v15 = a0 + 454u * 1u;
     v16 = (u64)((u64)v14 + (u64)16u);
     v17 = a2 < v16;
     if (v17) { v4 = 0u; v5 = 0u; goto L8; }
@@ -16389,7 +17349,7 @@ L2:;
 L3:;
     v18 = a1 + v16 * 1u;
     v19 = (u64)((u64)a2 - (u64)v16);
-    v20 = f78(a0, v18, v19);
+    v20 = f81(a0, v18, v19);
     v21 = v20.m0;
     v22 = v21 == 1u;
     if (v22) { goto L4; }
@@ -16477,650 +17437,727 @@ L9:;
     return v6;
 }
 
-static struct s2 f78(address a0, address a1, u64 a2) {
-    u64 v3, v5, v6, v8, v9, v10, v11, v12, v13, v16, v17, v21, v22, v23, v24, v26;
-    u64 v27, v29, v30, v31, v32, v35, v37, v40, v44, v45, v46, v47, v48, v49, v57, v61;
-    u64 v62, v66, v68, v72, v75, v79, v80, v81, v82, v83, v87, v88, v91, v99, v100, v104;
-    u64 v106, v119, v123, v125, v129, v133, v135, v137, v138, v139, v140, v142, v143, v144, v145, v147;
-    u64 v148, v151, v153, v157, v160, v164, v166, v170, v176, v177, v186, v188, v199, v208, v209, v210;
-    u64 v215, v217, v219, v221, v233, v237, v239, v275, v276, v278, v284, v285, v286, v287, v365, v370;
-    u64 v372, v374, v375, v376, v378, v379, v380, v382, v387, v389, v390, v392, v394;
-    address v4, v7, v14, v15, v18, v19, v20, v25, v28, v33, v34, v36, v38, v41, v51, v52;
-    address v53, v54, v55, v56, v59, v63, v67, v69, v70, v71, v74, v76, v85, v89, v90, v93;
-    address v94, v95, v96, v97, v101, v102, v103, v105, v108, v109, v110, v111, v112, v115, v116, v121;
-    address v122, v150, v152, v155, v156, v159, v161, v167, v168, v169, v172, v173, v174, v178, v179, v181;
-    address v183, v185, v187, v189, v192, v200, v201, v202, v203, v204, v205, v206, v207, v212, v213, v218;
-    address v222, v223, v225, v228, v229, v230, v231, v232, v236, v240, v241, v243, v250, v252, v259, v261;
-    address v270, v274, v277, v279, v283, v290, v291, v293, v294, v296, v297, v299, v300, v302, v303, v305;
-    address v306, v308, v309, v311, v312, v314, v315, v317, v318, v320, v321, v323, v324, v326, v327, v329;
-    address v330, v332, v333, v335, v336, v338, v339, v341, v342, v344, v345, v347, v348, v350, v351, v353;
-    address v354, v356, v357, v359, v360, v362, v363, v367, v368, v373, v383, v384, v385, v397, v398, v399;
-    address v400, v401, v402, v403, v404, v405, v406, v407;
-    u16 v39, v182, v184, v190, v191, v193, v194, v195, v196, v197, v198, v245, v246, v247, v248, v249;
-    u16 v254, v255, v256, v257, v263, v264, v265, v266, v267, v268, v280, v281;
-    u8 v42, v43, v50, v58, v60, v64, v65, v73, v77, v78, v84, v86, v92, v98, v107, v113;
-    u8 v114, v117, v118, v120, v124, v126, v127, v128, v130, v131, v132, v134, v136, v141, v146, v149;
-    u8 v154, v158, v162, v163, v165, v171, v175, v180, v211, v214, v216, v220, v224, v226, v227, v234;
-    u8 v235, v238, v242, v244, v251, v253, v258, v260, v262, v269, v271, v272, v273, v282, v288, v289;
-    u8 v292, v295, v298, v301, v304, v307, v310, v313, v316, v319, v322, v325, v328, v331, v334, v337;
-    u8 v340, v343, v346, v349, v352, v355, v358, v361, v364, v366, v369, v371, v377, v381, v386, v388;
-    u8 v391, v393, v395, v396;
-    struct s2 v408, v409;
+static struct s2 f81(address a0, address a1, u64 a2) {
+    u64 v3, v5, v6, v8, v9, v10, v11, v12, v13, v16, v17, v21, v25, v26, v27, v29;
+    u64 v30, v32, v33, v34, v35, v38, v40, v43, v47, v48, v49, v50, v51, v52, v60, v64;
+    u64 v65, v69, v71, v75, v78, v82, v83, v84, v85, v86, v90, v91, v94, v102, v103, v106;
+    u64 v108, v119, v123, v127, v129, v147, v166, v167, v170, v171, v172, v174, v188, v189, v190, v191;
+    u64 v192, v194, v195, v196, v197, v199, v200, v201, v202, v204, v205, v208, v210, v214, v217, v221;
+    u64 v223, v227, v233, v234, v243, v245, v256, v265, v266, v267, v272, v274, v276, v278, v290, v294;
+    u64 v296, v332, v333, v335, v341, v342, v343, v344, v422, v427, v429, v431, v432, v433, v435, v436;
+    u64 v437, v439, v444, v446, v447, v449, v451;
+    address v4, v7, v14, v15, v18, v19, v20, v28, v31, v36, v37, v39, v41, v44, v54, v55;
+    address v56, v57, v58, v59, v62, v66, v70, v72, v73, v74, v77, v79, v88, v92, v93, v96;
+    address v97, v98, v99, v100, v104, v105, v107, v110, v113, v114, v115, v116, v120, v121, v125, v126;
+    address v135, v139, v141, v152, v154, v161, v164, v168, v183, v185, v207, v209, v212, v213, v216, v218;
+    address v224, v225, v226, v229, v230, v231, v235, v236, v238, v240, v242, v244, v246, v249, v257, v258;
+    address v259, v260, v261, v262, v263, v264, v269, v270, v275, v279, v280, v282, v285, v286, v287, v288;
+    address v289, v293, v297, v298, v300, v307, v309, v316, v318, v327, v331, v334, v336, v340, v347, v348;
+    address v350, v351, v353, v354, v356, v357, v359, v360, v362, v363, v365, v366, v368, v369, v371, v372;
+    address v374, v375, v377, v378, v380, v381, v383, v384, v386, v387, v389, v390, v392, v393, v395, v396;
+    address v398, v399, v401, v402, v404, v405, v407, v408, v410, v411, v413, v414, v416, v417, v419, v420;
+    address v424, v425, v430, v440, v441, v442, v454, v455, v456, v457, v458, v459, v460, v461, v462, v463;
+    address v464;
+    u8 v22, v23, v24, v45, v46, v53, v61, v63, v67, v68, v76, v80, v81, v87, v89, v95;
+    u8 v101, v109, v111, v112, v117, v118, v122, v124, v128, v130, v131, v132, v133, v134, v136, v137;
+    u8 v138, v140, v142, v148, v150, v151, v153, v155, v160, v162, v163, v165, v169, v173, v175, v176;
+    u8 v177, v178, v179, v180, v181, v182, v184, v186, v187, v193, v198, v203, v206, v211, v215, v219;
+    u8 v220, v222, v228, v232, v237, v268, v271, v273, v277, v281, v283, v284, v291, v292, v295, v299;
+    u8 v301, v308, v310, v315, v317, v319, v326, v328, v329, v330, v339, v345, v346, v349, v352, v355;
+    u8 v358, v361, v364, v367, v370, v373, v376, v379, v382, v385, v388, v391, v394, v397, v400, v403;
+    u8 v406, v409, v412, v415, v418, v421, v423, v426, v428, v434, v438, v443, v445, v448, v450, v452;
+    u8 v453;
+    u16 v42, v143, v144, v145, v146, v149, v156, v157, v158, v159, v239, v241, v247, v248, v250, v251;
+    u16 v252, v253, v254, v255, v302, v303, v304, v305, v306, v311, v312, v313, v314, v320, v321, v322;
+    u16 v323, v324, v325, v337, v338;
+    struct s2 v465, v466;
     u64 block0[11];
     u64 block1[11];
     u64 block2[147];
-    u64 block3[4];
+    u64 block3[1];
     u64 block4[11];
-    v51 = ADDRESS(block0);
-    v52 = ADDRESS(block1);
-    v53 = ADDRESS(block2);
-    v54 = ADDRESS(block3);
-    v55 = ADDRESS(block4);
-    v56 = a0 + 160u * 1u;
-    v57 = load64(v56);
-    v58 = v57 == 0u;
-    if (v58) { v3 = 89u; goto L2; }
+    v54 = ADDRESS(block0);
+    v55 = ADDRESS(block1);
+    v56 = ADDRESS(block2);
+    v57 = ADDRESS(block3);
+    v58 = ADDRESS(block4);
+    v59 = a0 + 160u * 1u;
+    v60 = load64(v59);
+    v61 = v60 == 0u;
+    if (v61) { v3 = 89u; goto L2; }
     else { goto L1; }
 L1:;
-    v59 = a0 + 24u * 1u;
-    v60 = load8(v59);
-    v61 = (u64)v60;
-    v62 = (u64)((u64)v61 + (u64)89u);
-    v3 = v62; goto L2;
+    v62 = a0 + 24u * 1u;
+    v63 = load8(v62);
+    v64 = (u64)v63;
+    v65 = (u64)((u64)v64 + (u64)89u);
+    v3 = v65; goto L2;
 L2:;
-    v63 = a0 + 240u * 1u;
-    v64 = load8(v63);
-    v65 = v64 == 0u;
-    v66 = v65 ? 376u : 256u;
-    v67 = a0 + v66 * 1u;
-    v68 = load64(v67);
-    v69 = a0 + 392u * 1u;
-    v70 = load_address(v69);
-    v71 = a0 + 400u * 1u;
-    v72 = load64(v71);
-    v4 = v70; v5 = v72; v6 = 0u; goto L3;
+    v66 = a0 + 240u * 1u;
+    v67 = load8(v66);
+    v68 = v67 == 0u;
+    v69 = v68 ? 376u : 256u;
+    v70 = a0 + v69 * 1u;
+    v71 = load64(v70);
+    v72 = a0 + 392u * 1u;
+    v73 = load_address(v72);
+    v74 = a0 + 400u * 1u;
+    v75 = load64(v74);
+    v4 = v73; v5 = v75; v6 = 0u; goto L3;
 L3:;
     v7 = v4; v8 = v5; goto L4;
 L4:;
-    v73 = v8 == 0u;
-    if (v73) { goto L7; }
+    v76 = v8 == 0u;
+    if (v76) { goto L7; }
     else { goto L5; }
 L5:;
-    v74 = v7 + 2144u * 1u;
-    v75 = (u64)((u64)v8 + (u64)UINT64_C(18446744073709551615));
-    v76 = v7 + 2137u * 1u;
-    v77 = load8(v76);
-    v78 = (u8)((v77) & UINT64_C(1));
-    if (v78) { goto L6; }
-    else { v7 = v74; v8 = v75; goto L4; }
+    v77 = v7 + 2144u * 1u;
+    v78 = (u64)((u64)v8 + (u64)UINT64_C(18446744073709551615));
+    v79 = v7 + 2137u * 1u;
+    v80 = load8(v79);
+    v81 = (u8)((v80) & UINT64_C(1));
+    if (v81) { goto L6; }
+    else { v7 = v77; v8 = v78; goto L4; }
 L6:;
-    v79 = (u64)((u64)v6 + (u64)1u);
-    v4 = v74; v5 = v75; v6 = v79; goto L3;
+    v82 = (u64)((u64)v6 + (u64)1u);
+    v4 = v77; v5 = v78; v6 = v82; goto L3;
 L7:;
-    v80 = (u64)((u64)v68 * (u64)15u);
-    v81 = (u64)((u64)v6 * (u64)3358u);
-    v82 = (u64)((u64)v80 + (u64)v3);
-    v83 = (u64)((u64)v82 + (u64)v81);
-    v84 = v83 > a2;
-    if (v84) { goto L8; }
-    else { goto L28; }
+    v83 = (u64)((u64)v71 * (u64)15u);
+    v84 = (u64)((u64)v6 * (u64)3358u);
+    v85 = (u64)((u64)v83 + (u64)v3);
+    v86 = (u64)((u64)v85 + (u64)v84);
+    v87 = v86 > a2;
+    if (v87) { goto L8; }
+    else { goto L34; }
 L8:;
-    if (v58) { v9 = 89u; goto L10; }
+    if (v61) { v9 = 89u; goto L10; }
     else { goto L9; }
 L9:;
-    v85 = a0 + 24u * 1u;
-    v86 = load8(v85);
-    v87 = (u64)v86;
-    v88 = (u64)((u64)v87 + (u64)89u);
-    v9 = v88; goto L10;
+    v88 = a0 + 24u * 1u;
+    v89 = load8(v88);
+    v90 = (u64)v89;
+    v91 = (u64)((u64)v90 + (u64)89u);
+    v9 = v91; goto L10;
 L10:;
-    v89 = a0 + 384u * 1u;
-    memory_set(v55, 0u, 88u);
-    f22(v55, v89);
-    v90 = v55 + 80u * 1u;
-    v91 = load64(v90);
-    v92 = v91 == 0u;
-    if (v92) { v24 = 0u; goto L27; }
+    v92 = a0 + 384u * 1u;
+    memory_set(v58, 0u, 88u);
+    f21(v58, v92);
+    v93 = v58 + 80u * 1u;
+    v94 = load64(v93);
+    v95 = v94 == 0u;
+    if (v95) { v27 = 0u; goto L33; }
     else { goto L11; }
 L11:;
-    v93 = v55 + 16u * 1u;
-    v94 = v54 + 16u * 1u;
-    v95 = v54 + 24u * 1u;
-    v96 = v54 + 25u * 1u;
+    v96 = v58 + 16u * 1u;
+    v97 = load_address(v58);
+    v98 = v57 + 1u * 1u;
+    v99 = v57 + 2u * 1u;
     v10 = 0u; v11 = 0u; goto L12;
 L12:;
-    v97 = v93 + v11 * 1u;
-    v98 = load8(v97);
-    v99 = (u64)v98;
-    v100 = (u64)((u64)v99 * (u64)2144u);
-    v101 = load_address(v55);
-    v102 = v101 + v100 * 1u;
-    v103 = v102 + 1424u * 1u;
-    v104 = load64(v103);
-    v105 = v102 + 1448u * 1u;
+    v100 = v96 + v11 * 1u;
+    v101 = load8(v100);
+    v102 = (u64)v101;
+    v103 = (u64)((u64)v102 * (u64)2144u);
+    v104 = v97 + v103 * 1u;
+    v105 = v104 + 1424u * 1u;
     v106 = load64(v105);
-    v107 = v106 == 0u;
-    if (v107) { v23 = 0u; goto L26; }
+    v107 = v104 + 1448u * 1u;
+    v108 = load64(v107);
+    v109 = v108 == 0u;
+    if (v109) { v26 = 0u; goto L32; }
     else { goto L13; }
 L13:;
-    v108 = v102 + 1432u * 1u;
-    v109 = v102 + 1440u * 1u;
-    v110 = v102 + 2129u * 1u;
-    v111 = v102 + 1464u * 1u;
-    v112 = v102 + 1456u * 1u;
+    v110 = v104 + 1432u * 1u;
+    v111 = load8(v110);
+    v112 = v111 == 0u;
+    v113 = v104 + 1440u * 1u;
+    v114 = v104 + 1464u * 1u;
+    v115 = v104 + 1456u * 1u;
+    v116 = v104 + 2129u * 1u;
+    v117 = load8(v116);
+    v118 = v117 == 0u;
+    v119 = v118 ? 0u : 2u;
     v12 = 0u; v13 = 0u; goto L14;
 L14:;
-    v113 = load8(v108);
-    v114 = v113 == 0u;
-    if (v114) { v14 = v109; v15 = v112; goto L16; }
+    if (v112) { v14 = v113; v15 = v115; goto L16; }
     else { goto L15; }
 L15:;
-    v115 = load_address(v109);
-    v116 = load_address(v111);
-    v14 = v115; v15 = v116; goto L16;
+    v120 = load_address(v113);
+    v121 = load_address(v114);
+    v14 = v120; v15 = v121; goto L16;
 L16:;
-    v117 = load8(v110);
-    v118 = load8(v14);
-    v119 = (u64)v118;
-    v120 = v13 == 0u;
-    if (v120) { v20 = v15; v21 = v119; goto L18; }
-    else { v16 = v119; v17 = v13; v18 = v15; v19 = v14; goto L17; }
+    v122 = load8(v14);
+    v123 = (u64)v122;
+    v124 = v13 == 0u;
+    if (v124) { v20 = v15; v21 = v123; goto L18; }
+    else { v16 = v123; v17 = v13; v18 = v15; v19 = v14; goto L17; }
 L17:;
-    v121 = v18 + v16 * 1u;
-    v122 = v19 + 1u * 1u;
-    v123 = (u64)((u64)v17 + (u64)UINT64_C(18446744073709551615));
-    v124 = load8(v122);
-    v125 = (u64)v124;
-    v126 = v123 == 0u;
-    if (v126) { v20 = v121; v21 = v125; goto L18; }
-    else { v16 = v125; v17 = v123; v18 = v121; v19 = v122; goto L17; }
+    v125 = v18 + v16 * 1u;
+    v126 = v19 + 1u * 1u;
+    v127 = (u64)((u64)v17 + (u64)UINT64_C(18446744073709551615));
+    v128 = load8(v126);
+    v129 = (u64)v128;
+    v130 = v127 == 0u;
+    if (v130) { v20 = v125; v21 = v129; goto L18; }
+    else { v16 = v129; v17 = v127; v18 = v125; v19 = v126; goto L17; }
 L18:;
-    memory_set(v54, 0u, 32u);
-    f8(v54, v20, v21);
-    v127 = load8(v54);
-    v128 = v127 == 1u;
-    if (v128) { goto L23; }
+    memory_set(v57, 0u, 3u);
+    v131 = v21 < 54u;
+    if (v131) { goto L25; }
     else { goto L19; }
 L19:;
-    v129 = load64(v94);
-    v130 = load8(v95);
-    v131 = load8(v96);
-    switch (v131) {
-    case 0u: goto L21;
-    case 1u: goto L20;
-    default: goto L24;
-    }
+    v132 = load8(v20);
+    v133 = (u8)((u32)v132 & (u32)15u);
+    v134 = v133 == 13u;
+    if (v134) { goto L20; }
+    else { goto L25; }
 L20:;
-    v22 = 3u; goto L25;
+    v135 = v20 + 1u * 1u;
+    v136 = load8(v135);
+    v137 = (u8)((u32)v136 & (u32)15u);
+    v138 = v137 == 2u;
+    if (v138) { goto L21; }
+    else { goto L25; }
 L21:;
-    v132 = v130 == 2u;
-    if (v132) { goto L22; }
-    else { goto L23; }
+    v139 = v20 + 2u * 1u;
+    v140 = load8(v139);
+    v141 = v20 + 3u * 1u;
+    v142 = load8(v141);
+    v143 = (u16)v140;
+    v144 = (u16)((u32)v143 << (8u & 15u));
+    v145 = (u16)v142;
+    v146 = (u16)((u32)v144 | (u32)v145);
+    v147 = (u64)v146;
+    v148 = v21 < v147;
+    v149 = (u16)((u32)v146 + (u32)64063u);
+    v150 = v149 < 64117u;
+    v151 = (u8)(((u32)v150 | (u32)v148) & UINT64_C(1));
+    if (v151) { goto L25; }
+    else { goto L22; }
 L22:;
-    v133 = (u64)((u64)v129 + (u64)UINT64_C(18446744073709551564));
-    v22 = v133; goto L25;
+    v152 = v20 + 48u * 1u;
+    v153 = load8(v152);
+    v154 = v20 + 49u * 1u;
+    v155 = load8(v154);
+    v156 = (u16)v153;
+    v157 = (u16)((u32)v156 << (8u & 15u));
+    v158 = (u16)v155;
+    v159 = (u16)((u32)v157 | (u32)v158);
+    v160 = v159 == 1u;
+    if (v160) { goto L23; }
+    else { goto L25; }
 L23:;
-    v22 = 1u; goto L25;
+    v161 = v20 + 46u * 1u;
+    v162 = load8(v161);
+    v163 = (u8)((u32)v162 & (u32)15u);
+    v164 = v20 + 50u * 1u;
+    v165 = load8(v164);
+    v166 = (u64)v165;
+    v167 = (u64)((u64)v166 << (8u & 63u));
+    v168 = v20 + 51u * 1u;
+    v169 = load8(v168);
+    v170 = (u64)v169;
+    v171 = (u64)((u64)v167 | (u64)v170);
+    v172 = (u64)((u64)v171 + (u64)52u);
+    v173 = v172 == v147;
+    v174 = (u64)((u64)v147 & (u64)1u);
+    v175 = v174 == 0u;
+    v176 = (u8)(((u32)v175 & (u32)v173) & UINT64_C(1));
+    v177 = v163 < 5u;
+    v178 = v176 ? v177 : 0u;
+    if (v178) { goto L24; }
+    else { goto L25; }
 L24:;
-    v134 = v130 == 2u;
-    v135 = v134 ? 2u : 1u;
-    v22 = v135; goto L25;
+    v22 = v142; v23 = v140; v24 = v163; goto L28;
 L25:;
-    v136 = v117 == 0u;
-    v137 = v136 ? 0u : 2u;
-    v138 = (u64)((u64)v137 + (u64)v12);
-    v139 = (u64)((u64)v138 + (u64)v22);
-    v140 = (u64)((u64)v13 + (u64)1u);
-    v141 = v140 == v106;
-    if (v141) { v23 = v139; goto L26; }
-    else { v12 = v139; v13 = v140; goto L14; }
+    f8(v57, v20, v21);
+    v179 = load8(v57);
+    v180 = v179 == 0u;
+    if (v180) { goto L27; }
+    else { goto L26; }
 L26:;
-    v142 = (u64)((u64)v10 + (u64)20u);
-    v143 = (u64)((u64)v142 + (u64)v104);
-    v144 = (u64)((u64)v143 + (u64)v23);
-    v145 = (u64)((u64)v11 + (u64)1u);
-    v146 = v145 == v91;
-    if (v146) { v24 = v144; goto L27; }
-    else { v10 = v144; v11 = v145; goto L12; }
+    v25 = 1u; goto L31;
 L27:;
-    v147 = (u64)((u64)v9 + (u64)v80);
-    v148 = (u64)((u64)v147 + (u64)v24);
-    v149 = v148 > a2;
-    if (v149) { v49 = 0u; v50 = 0u; goto L67; }
-    else { goto L28; }
+    v181 = load8(v98);
+    v182 = load8(v99);
+    v183 = v20 + 2u * 1u;
+    v184 = load8(v183);
+    v185 = v20 + 3u * 1u;
+    v186 = load8(v185);
+    switch (v182) {
+    case 0u: v22 = v186; v23 = v184; v24 = v181; goto L28;
+    case 1u: v25 = 3u; goto L31;
+    default: goto L30;
+    }
 L28:;
-    v150 = a0 + 384u * 1u;
-    v151 = (u64)((u64)a2 + (u64)UINT64_C(18446744073709551604));
-    memory_set(v53, 0u, 1176u);
-    f79(v53, a0);
-    v152 = v53 + 1168u * 1u;
-    v153 = load64(v152);
-    v154 = v151 < v153;
-    if (v154) { goto L29; }
-    else { goto L30; }
+    v187 = v24 == 2u;
+    if (v187) { goto L29; }
+    else { v25 = 1u; goto L31; }
 L29:;
+    v188 = (u64)v23;
+    v189 = (u64)((u64)v188 << (8u & 63u));
+    v190 = (u64)v22;
+    v191 = (u64)((u64)v190 + (u64)UINT64_C(18446744073709551564));
+    v192 = (u64)((u64)v191 + (u64)v189);
+    v25 = v192; goto L31;
+L30:;
+    v193 = v181 == 2u;
+    v194 = v193 ? 2u : 1u;
+    v25 = v194; goto L31;
+L31:;
+    v195 = (u64)((u64)v12 + (u64)v119);
+    v196 = (u64)((u64)v195 + (u64)v25);
+    v197 = (u64)((u64)v13 + (u64)1u);
+    v198 = v197 == v108;
+    if (v198) { v26 = v196; goto L32; }
+    else { v12 = v196; v13 = v197; goto L14; }
+L32:;
+    v199 = (u64)((u64)v10 + (u64)20u);
+    v200 = (u64)((u64)v199 + (u64)v106);
+    v201 = (u64)((u64)v200 + (u64)v26);
+    v202 = (u64)((u64)v11 + (u64)1u);
+    v203 = v202 == v94;
+    if (v203) { v27 = v201; goto L33; }
+    else { v10 = v201; v11 = v202; goto L12; }
+L33:;
+    v204 = (u64)((u64)v9 + (u64)v83);
+    v205 = (u64)((u64)v204 + (u64)v27);
+    v206 = v205 > a2;
+    if (v206) { v52 = 0u; v53 = 0u; goto L73; }
+    else { goto L34; }
+L34:;
+    v207 = a0 + 384u * 1u;
+    v208 = (u64)((u64)a2 + (u64)UINT64_C(18446744073709551604));
+    memory_set(v56, 0u, 1176u);
+    f82(v56, a0);
+    v209 = v56 + 1168u * 1u;
+    v210 = load64(v209);
+    v211 = v208 < v210;
+    if (v211) { goto L35; }
+    else { goto L36; }
+L35:;
     TRAP;
     UNREACHABLE;
-L30:;
-    v155 = a1 + 12u * 1u;
-    memory_cpy(v155, v53, v153);
-    v156 = load_address(v69);
-    v157 = load64(v71);
-    v25 = v156; v26 = v157; v27 = 0u; goto L31;
-L31:;
-    v28 = v25; v29 = v26; goto L32;
-L32:;
-    v158 = v29 == 0u;
-    if (v158) { goto L35; }
-    else { goto L33; }
-L33:;
-    v159 = v28 + 2144u * 1u;
-    v160 = (u64)((u64)v29 + (u64)UINT64_C(18446744073709551615));
-    v161 = v28 + 2137u * 1u;
-    v162 = load8(v161);
-    v163 = (u8)((v162) & UINT64_C(1));
-    if (v163) { goto L34; }
-    else { v28 = v159; v29 = v160; goto L32; }
-L34:;
-    v164 = (u64)((u64)v27 + (u64)1u);
-    v25 = v159; v26 = v160; v27 = v164; goto L31;
-L35:;
-    v165 = (u8)(v27);
-    v166 = (u64)((u64)v153 + (u64)13u);
-    v167 = a1 + v153 * 1u;
-    v168 = v167 + 12u * 1u;
-    store8(v168, v165);
-    memory_set(v52, 0u, 88u);
-    f22(v52, v150);
-    memory_cpy(v51, v52, 88u);
-    v169 = v51 + 80u * 1u;
-    v170 = load64(v169);
-    v171 = v170 == 0u;
-    if (v171) { v48 = v166; goto L66; }
-    else { goto L36; }
 L36:;
-    v172 = v51 + 16u * 1u;
-    v173 = load_address(v51);
-    v30 = v166; v31 = 0u; goto L37;
+    v212 = a1 + 12u * 1u;
+    memory_cpy(v212, v56, v210);
+    v213 = load_address(v72);
+    v214 = load64(v74);
+    v28 = v213; v29 = v214; v30 = 0u; goto L37;
 L37:;
-    v174 = v172 + v31 * 1u;
-    v175 = load8(v174);
-    v176 = (u64)v175;
-    v177 = (u64)((u64)v176 * (u64)2144u);
-    v178 = v173 + v177 * 1u;
-    v179 = v178 + 2128u * 1u;
-    v180 = load8(v179);
-    v181 = v178 + 2124u * 1u;
-    v182 = load16(v181);
-    v183 = v178 + 2126u * 1u;
-    v184 = load16(v183);
-    v185 = v178 + 1424u * 1u;
-    v186 = load64(v185);
-    v187 = v178 + 2112u * 1u;
-    v188 = load64(v187);
-    v189 = v178 + 2120u * 1u;
-    v190 = load16(v189);
-    v191 = swap16(v190);
-    v192 = v178 + 2122u * 1u;
-    v193 = load16(v192);
-    v194 = swap16(v193);
-    v195 = swap16(v182);
-    v196 = swap16(v184);
-    v197 = (u16)(v186);
-    v198 = swap16(v197);
-    v199 = (u64)((u64)v30 + (u64)19u);
-    v200 = a1 + v30 * 1u;
-    store64(v200, v188);
-    v201 = v200 + 8u * 1u;
-    store16(v201, v191);
-    v202 = v200 + 10u * 1u;
-    store16(v202, v194);
-    v203 = v200 + 12u * 1u;
-    store8(v203, v180);
-    v204 = v200 + 13u * 1u;
-    store16(v204, v195);
-    v205 = v200 + 15u * 1u;
-    store16(v205, v196);
-    v206 = v200 + 17u * 1u;
-    store16(v206, v198);
-    v207 = a1 + v199 * 1u;
-    v208 = (u64)v207;
-    v209 = (u64)v178;
-    v210 = (u64)((u64)v208 - (u64)v209);
-    v211 = v210 < v186;
-    if (v211) { v32 = 0u; goto L39; }
-    else { goto L38; }
+    v31 = v28; v32 = v29; goto L38;
 L38:;
-    memory_move(v207, v178, v186);
-    goto L40;
+    v215 = v32 == 0u;
+    if (v215) { goto L41; }
+    else { goto L39; }
 L39:;
-    v212 = v207 + v32 * 1u;
-    v213 = v178 + v32 * 1u;
-    v214 = load8(v213);
-    store8(v212, v214);
-    v215 = (u64)((u64)v32 + (u64)1u);
-    v216 = v215 == v186;
-    if (v216) { goto L40; }
-    else { v32 = v215; goto L39; }
+    v216 = v31 + 2144u * 1u;
+    v217 = (u64)((u64)v32 + (u64)UINT64_C(18446744073709551615));
+    v218 = v31 + 2137u * 1u;
+    v219 = load8(v218);
+    v220 = (u8)((v219) & UINT64_C(1));
+    if (v220) { goto L40; }
+    else { v31 = v216; v32 = v217; goto L38; }
 L40:;
-    v217 = (u64)((u64)v186 + (u64)v199);
-    v218 = v178 + 1448u * 1u;
-    v219 = load64(v218);
-    v220 = (u8)(v219);
-    v221 = (u64)((u64)v217 + (u64)1u);
-    v222 = a1 + v217 * 1u;
-    store8(v222, v220);
-    v223 = v178 + 2129u * 1u;
-    v224 = load8(v223);
-    v225 = v178 + 1432u * 1u;
-    v226 = load8(v225);
-    v227 = v226 == 0u;
-    v228 = v178 + 1440u * 1u;
-    if (v227) { goto L41; }
-    else { goto L42; }
+    v221 = (u64)((u64)v30 + (u64)1u);
+    v28 = v216; v29 = v217; v30 = v221; goto L37;
 L41:;
-    v229 = v178 + 1456u * 1u;
-    v33 = v228; v34 = v229; goto L43;
+    v222 = (u8)(v30);
+    v223 = (u64)((u64)v210 + (u64)13u);
+    v224 = a1 + v210 * 1u;
+    v225 = v224 + 12u * 1u;
+    store8(v225, v222);
+    memory_set(v55, 0u, 88u);
+    f21(v55, v207);
+    memory_cpy(v54, v55, 88u);
+    v226 = v54 + 80u * 1u;
+    v227 = load64(v226);
+    v228 = v227 == 0u;
+    if (v228) { v51 = v223; goto L72; }
+    else { goto L42; }
 L42:;
-    v230 = load_address(v228);
-    v231 = v178 + 1464u * 1u;
-    v232 = load_address(v231);
-    v33 = v230; v34 = v232; goto L43;
+    v229 = v54 + 16u * 1u;
+    v230 = load_address(v54);
+    v33 = v223; v34 = 0u; goto L43;
 L43:;
-    v233 = load64(v218);
-    v234 = v233 == 0u;
-    if (v234) { v47 = v221; goto L65; }
+    v231 = v229 + v34 * 1u;
+    v232 = load8(v231);
+    v233 = (u64)v232;
+    v234 = (u64)((u64)v233 * (u64)2144u);
+    v235 = v230 + v234 * 1u;
+    v236 = v235 + 2128u * 1u;
+    v237 = load8(v236);
+    v238 = v235 + 2124u * 1u;
+    v239 = load16(v238);
+    v240 = v235 + 2126u * 1u;
+    v241 = load16(v240);
+    v242 = v235 + 1424u * 1u;
+    v243 = load64(v242);
+    v244 = v235 + 2112u * 1u;
+    v245 = load64(v244);
+    v246 = v235 + 2120u * 1u;
+    v247 = load16(v246);
+    v248 = swap16(v247);
+    v249 = v235 + 2122u * 1u;
+    v250 = load16(v249);
+    v251 = swap16(v250);
+    v252 = swap16(v239);
+    v253 = swap16(v241);
+    v254 = (u16)(v243);
+    v255 = swap16(v254);
+    v256 = (u64)((u64)v33 + (u64)19u);
+    v257 = a1 + v33 * 1u;
+    store64(v257, v245);
+    v258 = v257 + 8u * 1u;
+    store16(v258, v248);
+    v259 = v257 + 10u * 1u;
+    store16(v259, v251);
+    v260 = v257 + 12u * 1u;
+    store8(v260, v237);
+    v261 = v257 + 13u * 1u;
+    store16(v261, v252);
+    v262 = v257 + 15u * 1u;
+    store16(v262, v253);
+    v263 = v257 + 17u * 1u;
+    store16(v263, v255);
+    v264 = a1 + v256 * 1u;
+    v265 = (u64)v264;
+    v266 = (u64)v235;
+    v267 = (u64)((u64)v265 - (u64)v266);
+    v268 = v267 < v243;
+    if (v268) { v35 = 0u; goto L45; }
     else { goto L44; }
 L44:;
-    v235 = (u8)((v224) & UINT64_C(1));
-    v35 = v221; v36 = v34; v37 = v233; v38 = v33; goto L45;
+    memory_move(v264, v235, v243);
+    goto L46;
 L45:;
-    v236 = v38 + 1u * 1u;
-    v237 = (u64)((u64)v37 + (u64)UINT64_C(18446744073709551615));
-    v238 = load8(v38);
-    v239 = (u64)v238;
-    v240 = v36 + v239 * 1u;
-    if (v235) { goto L46; }
-    else { v39 = 0u; goto L47; }
-L46:;
-    v241 = v36 + 28u * 1u;
-    v242 = load8(v241);
-    v243 = v36 + 29u * 1u;
-    v244 = load8(v243);
-    v245 = (u16)v242;
-    v246 = (u16)((u32)v245 << (8u & 15u));
-    v247 = (u16)v244;
-    v248 = (u16)((u32)v246 | (u32)v247);
-    v249 = swap16(v248);
-    v39 = v249; goto L47;
-L47:;
-    v250 = v36 + 48u * 1u;
-    v251 = load8(v250);
-    v252 = v36 + 49u * 1u;
-    v253 = load8(v252);
-    v254 = (u16)v251;
-    v255 = (u16)((u32)v254 << (8u & 15u));
-    v256 = (u16)v253;
-    v257 = (u16)((u32)v255 | (u32)v256);
-    v258 = v257 == 2u;
-    if (v258) { goto L48; }
-    else { goto L49; }
-L48:;
-    v259 = v36 + 52u * 1u;
-    v260 = load8(v259);
-    v261 = v36 + 53u * 1u;
-    v262 = load8(v261);
-    v263 = (u16)v260;
-    v264 = (u16)((u32)v263 << (8u & 15u));
-    v265 = (u16)v262;
-    v266 = (u16)((u32)v264 | (u32)v265);
-    v267 = (u16)((u32)v266 + (u32)65535u);
-    v268 = v267 < 6u ? v267 : 6u;
-    v269 = (u8)(v268);
-    v40 = 0u; v41 = 0u; v42 = 2u; v43 = v269; goto L51;
-L49:;
-    v270 = v36 + 46u * 1u;
+    v269 = v264 + v35 * 1u;
+    v270 = v235 + v35 * 1u;
     v271 = load8(v270);
-    v272 = (u8)((u32)v271 & (u32)15u);
-    v273 = v272 == 2u;
-    if (v273) { goto L50; }
-    else { v40 = 0u; v41 = 0u; v42 = 1u; v43 = 0u; goto L51; }
+    store8(v269, v271);
+    v272 = (u64)((u64)v35 + (u64)1u);
+    v273 = v272 == v243;
+    if (v273) { goto L46; }
+    else { v35 = v272; goto L45; }
+L46:;
+    v274 = (u64)((u64)v243 + (u64)v256);
+    v275 = v235 + 1448u * 1u;
+    v276 = load64(v275);
+    v277 = (u8)(v276);
+    v278 = (u64)((u64)v274 + (u64)1u);
+    v279 = a1 + v274 * 1u;
+    store8(v279, v277);
+    v280 = v235 + 2129u * 1u;
+    v281 = load8(v280);
+    v282 = v235 + 1432u * 1u;
+    v283 = load8(v282);
+    v284 = v283 == 0u;
+    v285 = v235 + 1440u * 1u;
+    if (v284) { goto L47; }
+    else { goto L48; }
+L47:;
+    v286 = v235 + 1456u * 1u;
+    v36 = v285; v37 = v286; goto L49;
+L48:;
+    v287 = load_address(v285);
+    v288 = v235 + 1464u * 1u;
+    v289 = load_address(v288);
+    v36 = v287; v37 = v289; goto L49;
+L49:;
+    v290 = load64(v275);
+    v291 = v290 == 0u;
+    if (v291) { v50 = v278; goto L71; }
+    else { goto L50; }
 L50:;
-    v274 = v36 + 54u * 1u;
-    v275 = (u64)((u64)v239 + (u64)UINT64_C(18446744073709551562));
-    v40 = v275; v41 = v274; v42 = 0u; v43 = 0u; goto L51;
+    v292 = (u8)((v281) & UINT64_C(1));
+    v38 = v278; v39 = v37; v40 = v290; v41 = v36; goto L51;
 L51:;
-    if (v235) { goto L52; }
-    else { v44 = v35; goto L53; }
+    v293 = v41 + 1u * 1u;
+    v294 = (u64)((u64)v40 + (u64)UINT64_C(18446744073709551615));
+    v295 = load8(v41);
+    v296 = (u64)v295;
+    v297 = v39 + v296 * 1u;
+    if (v292) { goto L52; }
+    else { v42 = 0u; goto L53; }
 L52:;
-    v276 = (u64)((u64)v35 + (u64)2u);
-    v277 = a1 + v35 * 1u;
-    store16(v277, v39);
-    v44 = v276; goto L53;
-L53:;
-    switch (v42) {
-    case 0u: goto L54;
-    case 1u: goto L61;
-    case 2u: goto L62;
-    default: goto L63;
-    }
-L54:;
-    v278 = (u64)((u64)v44 + (u64)2u);
-    v279 = a1 + v44 * 1u;
-    v280 = (u16)(v40);
-    v281 = (u16)((u32)v280 << (8u & 15u));
-    store16(v279, v281);
-    v282 = v40 == 26u;
-    v283 = a1 + v278 * 1u;
-    v284 = (u64)v283;
-    v285 = (u64)v41;
-    v286 = (u64)((u64)v284 - (u64)v285);
-    if (v282) { goto L55; }
-    else { goto L58; }
-L55:;
-    v287 = (u64)((u64)v44 + (u64)28u);
-    v288 = v286 < 26u;
-    if (v288) { goto L56; }
-    else { goto L57; }
-L56:;
-    v289 = load8(v41);
-    store8(v283, v289);
-    v290 = v283 + 1u * 1u;
-    v291 = v41 + 1u * 1u;
-    v292 = load8(v291);
-    store8(v290, v292);
-    v293 = v283 + 2u * 1u;
-    v294 = v41 + 2u * 1u;
-    v295 = load8(v294);
-    store8(v293, v295);
-    v296 = v283 + 3u * 1u;
-    v297 = v41 + 3u * 1u;
-    v298 = load8(v297);
-    store8(v296, v298);
-    v299 = v283 + 4u * 1u;
-    v300 = v41 + 4u * 1u;
+    v298 = v39 + 28u * 1u;
+    v299 = load8(v298);
+    v300 = v39 + 29u * 1u;
     v301 = load8(v300);
-    store8(v299, v301);
-    v302 = v283 + 5u * 1u;
-    v303 = v41 + 5u * 1u;
-    v304 = load8(v303);
-    store8(v302, v304);
-    v305 = v283 + 6u * 1u;
-    v306 = v41 + 6u * 1u;
-    v307 = load8(v306);
-    store8(v305, v307);
-    v308 = v283 + 7u * 1u;
-    v309 = v41 + 7u * 1u;
+    v302 = (u16)v299;
+    v303 = (u16)((u32)v302 << (8u & 15u));
+    v304 = (u16)v301;
+    v305 = (u16)((u32)v303 | (u32)v304);
+    v306 = swap16(v305);
+    v42 = v306; goto L53;
+L53:;
+    v307 = v39 + 48u * 1u;
+    v308 = load8(v307);
+    v309 = v39 + 49u * 1u;
     v310 = load8(v309);
-    store8(v308, v310);
-    v311 = v283 + 8u * 1u;
-    v312 = v41 + 8u * 1u;
-    v313 = load8(v312);
-    store8(v311, v313);
-    v314 = v283 + 9u * 1u;
-    v315 = v41 + 9u * 1u;
-    v316 = load8(v315);
-    store8(v314, v316);
-    v317 = v283 + 10u * 1u;
-    v318 = v41 + 10u * 1u;
+    v311 = (u16)v308;
+    v312 = (u16)((u32)v311 << (8u & 15u));
+    v313 = (u16)v310;
+    v314 = (u16)((u32)v312 | (u32)v313);
+    v315 = v314 == 2u;
+    if (v315) { goto L54; }
+    else { goto L55; }
+L54:;
+    v316 = v39 + 52u * 1u;
+    v317 = load8(v316);
+    v318 = v39 + 53u * 1u;
     v319 = load8(v318);
-    store8(v317, v319);
-    v320 = v283 + 11u * 1u;
-    v321 = v41 + 11u * 1u;
-    v322 = load8(v321);
-    store8(v320, v322);
-    v323 = v283 + 12u * 1u;
-    v324 = v41 + 12u * 1u;
-    v325 = load8(v324);
-    store8(v323, v325);
-    v326 = v283 + 13u * 1u;
-    v327 = v41 + 13u * 1u;
+    v320 = (u16)v317;
+    v321 = (u16)((u32)v320 << (8u & 15u));
+    v322 = (u16)v319;
+    v323 = (u16)((u32)v321 | (u32)v322);
+    v324 = (u16)((u32)v323 + (u32)65535u);
+    v325 = v324 < 6u ? v324 : 6u;
+    v326 = (u8)(v325);
+    v43 = 0u; v44 = 0u; v45 = 2u; v46 = v326; goto L57;
+L55:;
+    v327 = v39 + 46u * 1u;
     v328 = load8(v327);
-    store8(v326, v328);
-    v329 = v283 + 14u * 1u;
-    v330 = v41 + 14u * 1u;
-    v331 = load8(v330);
-    store8(v329, v331);
-    v332 = v283 + 15u * 1u;
-    v333 = v41 + 15u * 1u;
-    v334 = load8(v333);
-    store8(v332, v334);
-    v335 = v283 + 16u * 1u;
-    v336 = v41 + 16u * 1u;
-    v337 = load8(v336);
-    store8(v335, v337);
-    v338 = v283 + 17u * 1u;
-    v339 = v41 + 17u * 1u;
-    v340 = load8(v339);
-    store8(v338, v340);
-    v341 = v283 + 18u * 1u;
-    v342 = v41 + 18u * 1u;
-    v343 = load8(v342);
-    store8(v341, v343);
-    v344 = v283 + 19u * 1u;
-    v345 = v41 + 19u * 1u;
-    v346 = load8(v345);
-    store8(v344, v346);
-    v347 = v283 + 20u * 1u;
-    v348 = v41 + 20u * 1u;
+    v329 = (u8)((u32)v328 & (u32)15u);
+    v330 = v329 == 2u;
+    if (v330) { goto L56; }
+    else { v43 = 0u; v44 = 0u; v45 = 1u; v46 = 0u; goto L57; }
+L56:;
+    v331 = v39 + 54u * 1u;
+    v332 = (u64)((u64)v296 + (u64)UINT64_C(18446744073709551562));
+    v43 = v332; v44 = v331; v45 = 0u; v46 = 0u; goto L57;
+L57:;
+    if (v292) { goto L58; }
+    else { v47 = v38; goto L59; }
+L58:;
+    v333 = (u64)((u64)v38 + (u64)2u);
+    v334 = a1 + v38 * 1u;
+    store16(v334, v42);
+    v47 = v333; goto L59;
+L59:;
+    switch (v45) {
+    case 0u: goto L60;
+    case 1u: goto L67;
+    case 2u: goto L68;
+    default: goto L69;
+    }
+L60:;
+    v335 = (u64)((u64)v47 + (u64)2u);
+    v336 = a1 + v47 * 1u;
+    v337 = (u16)(v43);
+    v338 = (u16)((u32)v337 << (8u & 15u));
+    store16(v336, v338);
+    v339 = v43 == 26u;
+    v340 = a1 + v335 * 1u;
+    v341 = (u64)v340;
+    v342 = (u64)v44;
+    v343 = (u64)((u64)v341 - (u64)v342);
+    if (v339) { goto L61; }
+    else { goto L64; }
+L61:;
+    v344 = (u64)((u64)v47 + (u64)28u);
+    v345 = v343 < 26u;
+    if (v345) { goto L62; }
+    else { goto L63; }
+L62:;
+    v346 = load8(v44);
+    store8(v340, v346);
+    v347 = v340 + 1u * 1u;
+    v348 = v44 + 1u * 1u;
     v349 = load8(v348);
     store8(v347, v349);
-    v350 = v283 + 21u * 1u;
-    v351 = v41 + 21u * 1u;
+    v350 = v340 + 2u * 1u;
+    v351 = v44 + 2u * 1u;
     v352 = load8(v351);
     store8(v350, v352);
-    v353 = v283 + 22u * 1u;
-    v354 = v41 + 22u * 1u;
+    v353 = v340 + 3u * 1u;
+    v354 = v44 + 3u * 1u;
     v355 = load8(v354);
     store8(v353, v355);
-    v356 = v283 + 23u * 1u;
-    v357 = v41 + 23u * 1u;
+    v356 = v340 + 4u * 1u;
+    v357 = v44 + 4u * 1u;
     v358 = load8(v357);
     store8(v356, v358);
-    v359 = v283 + 24u * 1u;
-    v360 = v41 + 24u * 1u;
+    v359 = v340 + 5u * 1u;
+    v360 = v44 + 5u * 1u;
     v361 = load8(v360);
     store8(v359, v361);
-    v362 = v283 + 25u * 1u;
-    v363 = v41 + 25u * 1u;
+    v362 = v340 + 6u * 1u;
+    v363 = v44 + 6u * 1u;
     v364 = load8(v363);
     store8(v362, v364);
-    v46 = v287; goto L64;
-L57:;
-    memory_move(v283, v41, 26u);
-    v46 = v287; goto L64;
-L58:;
-    v365 = (u64)((u64)v278 + (u64)v40);
-    v366 = v286 < v40;
-    if (v366) { v45 = 0u; goto L60; }
-    else { goto L59; }
-L59:;
-    memory_move(v283, v41, v40);
-    v46 = v365; goto L64;
-L60:;
-    v367 = v283 + v45 * 1u;
-    v368 = v41 + v45 * 1u;
-    v369 = load8(v368);
-    store8(v367, v369);
-    v370 = (u64)((u64)v45 + (u64)1u);
-    v371 = v370 == v40;
-    if (v371) { v46 = v365; goto L64; }
-    else { v45 = v370; goto L60; }
-L61:;
-    v372 = (u64)((u64)v44 + (u64)1u);
-    v373 = a1 + v44 * 1u;
-    store8(v373, 1u);
-    v46 = v372; goto L64;
-L62:;
-    v374 = (u64)v43;
-    v375 = (u64)(((u64)v374 << (3u & 63u)) & UINT64_C(72057594037927935));
-    v376 = (u64)(((u64)UINT64_C(71501262696415745) >> (v375 & 63u)) & UINT64_C(72057594037927935));
-    v377 = (u8)(v376);
-    v378 = (u64)v43;
-    v379 = (u64)(((u64)v378 << (3u & 63u)) & UINT64_C(72057594037927935));
-    v380 = (u64)(((u64)UINT64_C(71776119061217280) >> (v379 & 63u)) & UINT64_C(72057594037927935));
-    v381 = (u8)(v380);
-    v382 = (u64)((u64)v44 + (u64)3u);
-    v383 = a1 + v44 * 1u;
-    store8(v383, 2u);
-    v384 = v383 + 1u * 1u;
-    store8(v384, v381);
-    v385 = v383 + 2u * 1u;
-    store8(v385, v377);
-    v46 = v382; goto L64;
+    v365 = v340 + 7u * 1u;
+    v366 = v44 + 7u * 1u;
+    v367 = load8(v366);
+    store8(v365, v367);
+    v368 = v340 + 8u * 1u;
+    v369 = v44 + 8u * 1u;
+    v370 = load8(v369);
+    store8(v368, v370);
+    v371 = v340 + 9u * 1u;
+    v372 = v44 + 9u * 1u;
+    v373 = load8(v372);
+    store8(v371, v373);
+    v374 = v340 + 10u * 1u;
+    v375 = v44 + 10u * 1u;
+    v376 = load8(v375);
+    store8(v374, v376);
+    v377 = v340 + 11u * 1u;
+    v378 = v44 + 11u * 1u;
+    v379 = load8(v378);
+    store8(v377, v379);
+    v380 = v340 + 12u * 1u;
+    v381 = v44 + 12u * 1u;
+    v382 = load8(v381);
+    store8(v380, v382);
+    v383 = v340 + 13u * 1u;
+    v384 = v44 + 13u * 1u;
+    v385 = load8(v384);
+    store8(v383, v385);
+    v386 = v340 + 14u * 1u;
+    v387 = v44 + 14u * 1u;
+    v388 = load8(v387);
+    store8(v386, v388);
+    v389 = v340 + 15u * 1u;
+    v390 = v44 + 15u * 1u;
+    v391 = load8(v390);
+    store8(v389, v391);
+    v392 = v340 + 16u * 1u;
+    v393 = v44 + 16u * 1u;
+    v394 = load8(v393);
+    store8(v392, v394);
+    v395 = v340 + 17u * 1u;
+    v396 = v44 + 17u * 1u;
+    v397 = load8(v396);
+    store8(v395, v397);
+    v398 = v340 + 18u * 1u;
+    v399 = v44 + 18u * 1u;
+    v400 = load8(v399);
+    store8(v398, v400);
+    v401 = v340 + 19u * 1u;
+    v402 = v44 + 19u * 1u;
+    v403 = load8(v402);
+    store8(v401, v403);
+    v404 = v340 + 20u * 1u;
+    v405 = v44 + 20u * 1u;
+    v406 = load8(v405);
+    store8(v404, v406);
+    v407 = v340 + 21u * 1u;
+    v408 = v44 + 21u * 1u;
+    v409 = load8(v408);
+    store8(v407, v409);
+    v410 = v340 + 22u * 1u;
+    v411 = v44 + 22u * 1u;
+    v412 = load8(v411);
+    store8(v410, v412);
+    v413 = v340 + 23u * 1u;
+    v414 = v44 + 23u * 1u;
+    v415 = load8(v414);
+    store8(v413, v415);
+    v416 = v340 + 24u * 1u;
+    v417 = v44 + 24u * 1u;
+    v418 = load8(v417);
+    store8(v416, v418);
+    v419 = v340 + 25u * 1u;
+    v420 = v44 + 25u * 1u;
+    v421 = load8(v420);
+    store8(v419, v421);
+    v49 = v344; goto L70;
 L63:;
-    UNREACHABLE;
+    memory_move(v340, v44, 26u);
+    v49 = v344; goto L70;
 L64:;
-    v386 = v237 == 0u;
-    if (v386) { v47 = v46; goto L65; }
-    else { v35 = v46; v36 = v240; v37 = v237; v38 = v236; goto L45; }
+    v422 = (u64)((u64)v335 + (u64)v43);
+    v423 = v343 < v43;
+    if (v423) { v48 = 0u; goto L66; }
+    else { goto L65; }
 L65:;
-    v387 = (u64)((u64)v31 + (u64)1u);
-    v388 = v387 == v170;
-    if (v388) { v48 = v47; goto L66; }
-    else { v30 = v47; v31 = v387; goto L37; }
+    memory_move(v340, v44, v43);
+    v49 = v422; goto L70;
 L66:;
-    v389 = (u64)((u64)v48 + (u64)UINT64_C(18446744073709551604));
-    v390 = (u64)((u64)v389 >> (24u & 63u));
-    v391 = (u8)(v390);
-    v392 = (u64)((u64)v389 >> (16u & 63u));
-    v393 = (u8)(v392);
-    v394 = (u64)((u64)v389 >> (8u & 63u));
-    v395 = (u8)(v394);
-    v396 = (u8)(v389);
-    store8(a1, 112u);
-    v397 = a1 + 1u * 1u;
-    store8(v397, 116u);
-    v398 = a1 + 2u * 1u;
-    store8(v398, 112u);
-    v399 = a1 + 3u * 1u;
-    store8(v399, 109u);
-    v400 = a1 + 4u * 1u;
-    store8(v400, 1u);
-    v401 = a1 + 5u * 1u;
-    store8(v401, 1u);
-    v402 = a1 + 6u * 1u;
-    store8(v402, 0u);
-    v403 = a1 + 7u * 1u;
-    store8(v403, 0u);
-    v404 = a1 + 8u * 1u;
-    store8(v404, v391);
-    v405 = a1 + 9u * 1u;
-    store8(v405, v393);
-    v406 = a1 + 10u * 1u;
-    store8(v406, v395);
-    v407 = a1 + 11u * 1u;
-    store8(v407, v396);
-    v49 = v48; v50 = 1u; goto L67;
+    v424 = v340 + v48 * 1u;
+    v425 = v44 + v48 * 1u;
+    v426 = load8(v425);
+    store8(v424, v426);
+    v427 = (u64)((u64)v48 + (u64)1u);
+    v428 = v427 == v43;
+    if (v428) { v49 = v422; goto L70; }
+    else { v48 = v427; goto L66; }
 L67:;
-    v408 = (struct s2){ 0 };
-    v408.m0 = v50;
-    v409 = v408;
-    v409.m1 = v49;
-    return v409;
+    v429 = (u64)((u64)v47 + (u64)1u);
+    v430 = a1 + v47 * 1u;
+    store8(v430, 1u);
+    v49 = v429; goto L70;
+L68:;
+    v431 = (u64)v46;
+    v432 = (u64)(((u64)v431 << (3u & 63u)) & UINT64_C(72057594037927935));
+    v433 = (u64)(((u64)UINT64_C(71501262696415745) >> (v432 & 63u)) & UINT64_C(72057594037927935));
+    v434 = (u8)(v433);
+    v435 = (u64)v46;
+    v436 = (u64)(((u64)v435 << (3u & 63u)) & UINT64_C(72057594037927935));
+    v437 = (u64)(((u64)UINT64_C(71776119061217280) >> (v436 & 63u)) & UINT64_C(72057594037927935));
+    v438 = (u8)(v437);
+    v439 = (u64)((u64)v47 + (u64)3u);
+    v440 = a1 + v47 * 1u;
+    store8(v440, 2u);
+    v441 = v440 + 1u * 1u;
+    store8(v441, v438);
+    v442 = v440 + 2u * 1u;
+    store8(v442, v434);
+    v49 = v439; goto L70;
+L69:;
+    UNREACHABLE;
+L70:;
+    v443 = v294 == 0u;
+    if (v443) { v50 = v49; goto L71; }
+    else { v38 = v49; v39 = v297; v40 = v294; v41 = v293; goto L51; }
+L71:;
+    v444 = (u64)((u64)v34 + (u64)1u);
+    v445 = v444 == v227;
+    if (v445) { v51 = v50; goto L72; }
+    else { v33 = v50; v34 = v444; goto L43; }
+L72:;
+    v446 = (u64)((u64)v51 + (u64)UINT64_C(18446744073709551604));
+    v447 = (u64)((u64)v446 >> (24u & 63u));
+    v448 = (u8)(v447);
+    v449 = (u64)((u64)v446 >> (16u & 63u));
+    v450 = (u8)(v449);
+    v451 = (u64)((u64)v446 >> (8u & 63u));
+    v452 = (u8)(v451);
+    v453 = (u8)(v446);
+    store8(a1, 112u);
+    v454 = a1 + 1u * 1u;
+    store8(v454, 116u);
+    v455 = a1 + 2u * 1u;
+    store8(v455, 112u);
+    v456 = a1 + 3u * 1u;
+    store8(v456, 109u);
+    v457 = a1 + 4u * 1u;
+    store8(v457, 1u);
+    v458 = a1 + 5u * 1u;
+    store8(v458, 1u);
+    v459 = a1 + 6u * 1u;
+    store8(v459, 0u);
+    v460 = a1 + 7u * 1u;
+    store8(v460, 0u);
+    v461 = a1 + 8u * 1u;
+    store8(v461, v448);
+    v462 = a1 + 9u * 1u;
+    store8(v462, v450);
+    v463 = a1 + 10u * 1u;
+    store8(v463, v452);
+    v464 = a1 + 11u * 1u;
+    store8(v464, v453);
+    v52 = v51; v53 = 1u; goto L73;
+L73:;
+    v465 = (struct s2){ 0 };
+    v465.m0 = v53;
+    v466 = v465;
+    v466.m1 = v52;
+    return v466;
 }
 
-static void f79(address a0, address a1) {
+static void f82(address a0, address a1) {
     u64 v2, v4, v6, v7, v8, v9, v10, v13, v14, v15, v39, v70, v71, v74, v75, v79;
     u64 v80, v81, v105, v139, v140, v141, v165, v193, v197, v201, v205, v207, v210, v214, v216, v218;
     u64 v230, v231, v233, v234, v236, v237, v241, v242;
@@ -17514,7 +18551,7 @@ L21:;
     return;
 }
 
-static void f80(address a0, address a1) {
+static void f83(address a0, address a1) {
     u64 v2, v4, v5, v14, v23, v32, v41, v50, v53, v138, v140, v141, v142, v143, v145, v148;
     u64 v152, v161, v170, v179, v188, v197, v206, v215, v225, v229, v230, v231, v232, v234, v237, v238;
     u64 v241;
@@ -17823,7 +18860,7 @@ L9:;
     v231 = (u64)((u64)v230 & (u64)1u);
     v232 = (u64)((u64)v231 + (u64)v230);
     v233 = v55 + 136u * 1u;
-    f31(v55, v232);
+    f30(v55, v232);
     v234 = load64(v233);
     v235 = v55 + 1u * 1u;
     v236 = v235 + v53 * 1u;
@@ -18014,7 +19051,7 @@ L13:;
     return;
 }
 
-static void f81(address a0, address a1) {
+static void f84(address a0, address a1) {
     u64 v2, v5, v6, v8, v21, v24, v27, v29, v31, v32, v34, v37, v42, v46, v47, v48;
     u64 v49, v51, v54, v55, v58;
     address v3, v4, v7, v9, v10, v11, v12, v13, v14, v15, v18, v19, v20, v30, v35, v36;
@@ -18100,7 +19137,7 @@ L10:;
     v48 = (u64)((u64)v47 & (u64)1u);
     v49 = (u64)((u64)v48 + (u64)v47);
     v50 = v11 + 136u * 1u;
-    f31(v11, v49);
+    f30(v11, v49);
     v51 = load64(v50);
     v52 = v11 + 1u * 1u;
     v53 = v52 + v8 * 1u;
@@ -18162,721 +19199,1159 @@ L16:;
     goto L15;
 }
 
-static u32 f82(address a0, u16 a1, address a2, u64 a3, address a4, u8 a5, address a6, u64 a7, address a8) {
-    address v9, v11, v14, v22, v31, v32, v33, v34, v35, v36, v37, v38, v39, v40, v41, v42;
-    address v43, v44, v45, v46, v47, v48, v49, v50, v51, v54, v56, v58, v59, v60, v62, v63;
-    address v68, v74, v75, v76, v79, v82, v83, v84, v86, v92, v94, v101, v103, v108, v109, v110;
-    address v111, v112, v116, v118, v120, v126, v129, v130, v131, v133, v136, v140, v143, v145, v146, v150;
-    address v152, v159, v160, v167, v168, v169, v170, v171, v175, v177, v179, v185, v188, v189, v190, v192;
-    address v195, v199, v202, v207, v208, v210, v212, v216, v220, v225, v230, v231, v234, v235, v236, v240;
-    address v241, v249, v250, v251, v253, v255, v257, v260, v262, v264, v266, v267, v268, v274, v279, v281;
-    address v283, v285, v288, v289, v294, v295, v296, v299, v301;
-    u64 v10, v12, v16, v17, v18, v19, v20, v21, v23, v24, v25, v28, v29, v61, v78, v102;
-    u64 v104, v113, v114, v117, v127, v132, v137, v148, v149, v172, v173, v176, v186, v191, v196, v203;
-    u64 v209, v211, v213, v214, v215, v219, v221, v222, v223, v224, v227, v228, v232, v238, v239, v242;
-    u64 v243, v244, v246, v256, v265, v275, v276, v277, v278, v280, v282, v284, v286, v290, v292;
-    u8 v13, v15, v26, v27, v52, v53, v55, v57, v64, v65, v66, v67, v69, v70, v71, v72;
-    u8 v73, v80, v81, v85, v87, v93, v95, v100, v105, v106, v107, v115, v119, v121, v128, v135;
-    u8 v138, v139, v141, v142, v144, v147, v151, v153, v158, v161, v162, v163, v164, v165, v166, v174;
-    u8 v178, v180, v187, v194, v197, v198, v200, v201, v204, v205, v206, v217, v218, v229, v233, v237;
-    u8 v245, v247, v248, v252, v254, v258, v259, v261, v263, v269, v270, v271, v272, v273, v287, v291;
-    u8 v293, v300, v302, v303, v304;
-    u32 v30, v297, v298, v305, v306;
-    u16 v77, v88, v89, v90, v91, v96, v97, v98, v99, v122, v123, v124, v125, v134, v154, v155;
-    u16 v156, v157, v181, v182, v183, v184, v193, v226;
+static u32 f85(address a0, u16 a1, address a2, u64 a3, address a4, u8 a5, address a6, u64 a7, address a8) {
+    u8 v9, v10, v11, v13, v19, v23, v24, v69, v70, v72, v74, v81, v82, v83, v84, v85;
+    u8 v86, v88, v89, v90, v92, v94, v100, v102, v103, v105, v107, v112, v114, v115, v117, v121;
+    u8 v125, v127, v128, v129, v130, v131, v132, v134, v136, v137, v138, v142, v144, v149, v151, v152;
+    u8 v153, v154, v155, v157, v158, v159, v161, v163, v169, v171, v172, v174, v176, v181, v183, v184;
+    u8 v186, v190, v194, v196, v197, v198, v199, v200, v201, v206, v207, v208, v209, v211, v212, v213;
+    u8 v215, v217, v223, v225, v226, v228, v230, v235, v237, v238, v240, v244, v248, v250, v251, v252;
+    u8 v253, v254, v255, v257, v259, v265, v267, v272, v277, v278, v283, v284, v286, v287, v289, v290;
+    u8 v291, v292, v293, v295, v296, v299, v300, v301, v312, v313, v324, v328, v332, v340, v342, v343;
+    u8 v350, v353, v355, v364, v370, v374, v385, v389, v390, v391, v392, v393, v407, v411, v423, v427;
+    u8 v436, v438, v439, v440;
+    address v12, v32, v40, v41, v42, v43, v44, v45, v46, v47, v48, v49, v50, v51, v52, v53;
+    address v54, v55, v56, v57, v58, v59, v60, v61, v62, v63, v64, v65, v66, v67, v68, v71;
+    address v73, v75, v76, v77, v79, v80, v87, v91, v93, v104, v106, v113, v116, v120, v133, v135;
+    address v141, v143, v150, v156, v160, v162, v173, v175, v182, v185, v189, v202, v205, v210, v214, v216;
+    address v227, v229, v236, v239, v243, v256, v258, v264, v266, v273, v275, v279, v280, v281, v285, v288;
+    address v294, v297, v302, v303, v305, v307, v311, v315, v320, v325, v326, v329, v330, v331, v335, v336;
+    address v344, v345, v346, v347, v348, v349, v351, v354, v356, v362, v363, v365, v367, v368, v369, v371;
+    address v372, v375, v376, v378, v380, v381, v382, v383, v384, v386, v387, v388, v394, v399, v400, v402;
+    address v404, v405, v406, v408, v409, v412, v413, v415, v417, v418, v419, v421, v424, v425, v428, v429;
+    address v430, v435, v437;
+    u64 v14, v15, v16, v17, v18, v20, v21, v22, v25, v26, v27, v28, v29, v30, v31, v33;
+    u64 v34, v35, v36, v37, v38, v78, v99, v118, v119, v122, v123, v124, v126, v139, v140, v168;
+    u64 v187, v188, v191, v192, v193, v195, v204, v222, v241, v242, v245, v246, v247, v249, v274, v276;
+    u64 v282, v298, v304, v306, v308, v309, v310, v314, v316, v317, v318, v319, v322, v323, v327, v333;
+    u64 v334, v337, v338, v339, v341, v352, v357, v358, v359, v360, v361, v366, v373, v377, v379, v395;
+    u64 v396, v397, v398, v401, v403, v410, v414, v416, v420, v422, v426;
+    u32 v39, v431, v432, v433, v434, v441, v442;
+    u16 v95, v96, v97, v98, v101, v108, v109, v110, v111, v145, v146, v147, v148, v164, v165, v166;
+    u16 v167, v170, v177, v178, v179, v180, v203, v218, v219, v220, v221, v224, v231, v232, v233, v234;
+    u16 v260, v261, v262, v263, v268, v269, v270, v271, v321;
     u64 block0[12];
     u64 block1[12];
-    u64 block2[9];
-    u64 block3[12];
-    u64 block4[12];
-    u64 block5[10];
-    u64 block6[48];
-    u64 block7[48];
+    u64 block2[3];
+    u64 block3[1];
+    u64 block4[9];
+    u64 block5[12];
+    u64 block6[9];
+    u64 block7[12];
     u64 block8[12];
-    u64 block9[11];
-    u64 block10[4];
-    u64 block11[6];
-    u64 block12[4];
-    u64 block13[4];
-    u64 block14[4];
-    u64 block15[4];
-    u64 block16[4];
-    u64 block17[9];
-    u64 block18[9];
-    u64 block19[9];
-    v31 = ADDRESS(block0);
-    v32 = ADDRESS(block1);
-    v33 = ADDRESS(block2);
-    v34 = ADDRESS(block3);
-    v35 = ADDRESS(block4);
-    v36 = ADDRESS(block5);
-    v37 = ADDRESS(block6);
-    v38 = ADDRESS(block7);
-    v39 = ADDRESS(block8);
-    v40 = ADDRESS(block9);
-    v41 = ADDRESS(block10);
-    v42 = ADDRESS(block11);
-    v43 = ADDRESS(block12);
-    v44 = ADDRESS(block13);
-    v45 = ADDRESS(block14);
-    v46 = ADDRESS(block15);
-    v47 = ADDRESS(block16);
-    v48 = ADDRESS(block17);
-    v49 = ADDRESS(block18);
-    v50 = ADDRESS(block19);
-    memory_set(v50, 0u, 68u);
+    u64 block9[3];
+    u64 block10[1];
+    u64 block11[9];
+    u64 block12[12];
+    u64 block13[10];
+    u64 block14[48];
+    u64 block15[12];
+    u64 block16[48];
+    u64 block17[12];
+    u64 block18[3];
+    u64 block19[11];
+    u64 block20[6];
+    u64 block21[1];
+    u64 block22[1];
+    u64 block23[1];
+    u64 block24[4];
+    u64 block25[9];
+    u64 block26[9];
+    u64 block27[9];
+    v40 = ADDRESS(block0);
+    v41 = ADDRESS(block1);
+    v42 = ADDRESS(block2);
+    v43 = ADDRESS(block3);
+    v44 = ADDRESS(block4);
+    v45 = ADDRESS(block5);
+    v46 = ADDRESS(block6);
+    v47 = ADDRESS(block7);
+    v48 = ADDRESS(block8);
+    v49 = ADDRESS(block9);
+    v50 = ADDRESS(block10);
+    v51 = ADDRESS(block11);
+    v52 = ADDRESS(block12);
+    v53 = ADDRESS(block13);
+    v54 = ADDRESS(block14);
+    v55 = ADDRESS(block15);
+    v56 = ADDRESS(block16);
+    v57 = ADDRESS(block17);
+    v58 = ADDRESS(block18);
+    v59 = ADDRESS(block19);
+    v60 = ADDRESS(block20);
+    v61 = ADDRESS(block21);
+    v62 = ADDRESS(block22);
+    v63 = ADDRESS(block23);
+    v64 = ADDRESS(block24);
+    v65 = ADDRESS(block25);
+    v66 = ADDRESS(block26);
+    v67 = ADDRESS(block27);
+    memory_set(v67, 0u, 68u);
     memory_set(a8, 0u, 88u);
-    memory_set(v47, 0u, 32u);
-    memory_set(v48, 0u, 68u);
-    memory_set(v49, 0u, 68u);
-    v51 = load_address(a0);
-    f21(v47, v51, a1, a4, a7);
-    v52 = load8(v47);
-    v53 = v52 == 0u;
-    if (v53) { goto L1; }
-    else { goto L81; }
+    memory_set(v64, 0u, 32u);
+    memory_set(v65, 0u, 68u);
+    memory_set(v66, 0u, 68u);
+    v68 = load_address(a0);
+    f20(v64, v68, a1, a4, a7);
+    v69 = load8(v64);
+    v70 = v69 == 0u;
+    if (v70) { goto L1; }
+    else { goto L97; }
 L1:;
-    v54 = v47 + 8u * 1u;
-    v55 = load8(v54);
-    v56 = v47 + 9u * 1u;
-    v57 = load8(v56);
-    v58 = v47 + 16u * 1u;
-    v59 = load_address(v58);
-    v60 = v47 + 24u * 1u;
-    v61 = load64(v60);
-    v62 = load_address(a0);
-    v63 = v62 + 424u * 1u;
-    v64 = load8(v63);
-    v65 = v64 == 1u;
-    if (v65) { goto L2; }
-    else { goto L23; }
+    v71 = v64 + 8u * 1u;
+    v72 = load8(v71);
+    v73 = v64 + 9u * 1u;
+    v74 = load8(v73);
+    v75 = v64 + 16u * 1u;
+    v76 = load_address(v75);
+    v77 = v64 + 24u * 1u;
+    v78 = load64(v77);
+    v79 = load_address(a0);
+    v80 = v79 + 448u * 1u;
+    v81 = load8(v80);
+    v82 = v81 == 1u;
+    if (v82) { goto L2; }
+    else { goto L37; }
 L2:;
+    v83 = a3 < 54u;
     if (a5) { goto L3; }
-    else { goto L5; }
+    else { goto L15; }
 L3:;
-    memory_set(v46, 0u, 32u);
-    f8(v46, a2, a3);
-    v66 = load8(v46);
-    v67 = v66 == 0u;
-    v68 = v46 + 24u * 1u;
-    v69 = load8(v68);
-    v70 = v69 == 1u;
-    v71 = v67 ? v70 : 0u;
-    if (v71) { goto L20; }
+    memory_set(v63, 0u, 3u);
+    if (v83) { goto L9; }
     else { goto L4; }
 L4:;
-    goto L22;
+    v84 = load8(a2);
+    v85 = (u8)((u32)v84 & (u32)15u);
+    v86 = v85 == 13u;
+    if (v86) { goto L5; }
+    else { goto L9; }
 L5:;
-    memory_set(v44, 0u, 32u);
-    memory_set(v45, 0u, 32u);
-    f8(v44, a2, a3);
-    v72 = load8(v44);
-    v73 = v72 == 0u;
-    if (v73) { goto L6; }
-    else { goto L8; }
+    v87 = a2 + 1u * 1u;
+    v88 = load8(v87);
+    v89 = (u8)((u32)v88 & (u32)15u);
+    v90 = v89 == 2u;
+    if (v90) { goto L6; }
+    else { goto L9; }
 L6:;
-    v74 = v44 + 8u * 1u;
-    v75 = load_address(v74);
-    v76 = v62 + 428u * 1u;
-    v77 = load16(v76);
-    v78 = (u64)v77;
-    v79 = v62 + 430u * 1u;
-    f8(v45, v79, v78);
-    v80 = load8(v45);
-    v81 = v80 == 0u;
-    if (v81) { goto L7; }
-    else { goto L8; }
+    v91 = a2 + 2u * 1u;
+    v92 = load8(v91);
+    v93 = a2 + 3u * 1u;
+    v94 = load8(v93);
+    v95 = (u16)v92;
+    v96 = (u16)((u32)v95 << (8u & 15u));
+    v97 = (u16)v94;
+    v98 = (u16)((u32)v96 | (u32)v97);
+    v99 = (u64)v98;
+    v100 = a3 < v99;
+    v101 = (u16)((u32)v98 + (u32)64063u);
+    v102 = v101 < 64117u;
+    v103 = (u8)(((u32)v102 | (u32)v100) & UINT64_C(1));
+    if (v103) { goto L9; }
+    else { goto L7; }
 L7:;
-    v82 = v45 + 8u * 1u;
-    v83 = load_address(v82);
-    v84 = v75 + 28u * 1u;
-    v85 = load8(v84);
-    v86 = v75 + 29u * 1u;
-    v87 = load8(v86);
-    v88 = (u16)v85;
-    v89 = (u16)((u32)v88 << (8u & 15u));
-    v90 = (u16)v87;
-    v91 = (u16)((u32)v89 | (u32)v90);
-    v92 = v83 + 28u * 1u;
-    v93 = load8(v92);
-    v94 = v83 + 29u * 1u;
-    v95 = load8(v94);
-    v96 = (u16)v93;
-    v97 = (u16)((u32)v96 << (8u & 15u));
-    v98 = (u16)v95;
-    v99 = (u16)((u32)v97 | (u32)v98);
-    v100 = v91 == v99;
-    if (v100) { goto L9; }
-    else { goto L8; }
+    v104 = a2 + 48u * 1u;
+    v105 = load8(v104);
+    v106 = a2 + 49u * 1u;
+    v107 = load8(v106);
+    v108 = (u16)v105;
+    v109 = (u16)((u32)v108 << (8u & 15u));
+    v110 = (u16)v107;
+    v111 = (u16)((u32)v109 | (u32)v110);
+    v112 = v111 == 1u;
+    if (v112) { goto L8; }
+    else { goto L9; }
 L8:;
-    goto L19;
-L9:;
-    v101 = v83 + 20u * 1u;
-    v102 = load64(v101);
-    v103 = v75 + 20u * 1u;
-    v104 = load64(v103);
-    v105 = v104 == v102;
-    if (v105) { goto L10; }
-    else { goto L19; }
-L10:;
-    memory_set(v43, 0u, 32u);
-    f8(v43, a2, a3);
-    v106 = load8(v43);
-    v107 = v106 == 0u;
-    if (v107) { goto L11; }
-    else { goto L17; }
-L11:;
-    v108 = v43 + 8u * 1u;
-    v109 = load_address(v108);
-    v110 = load_address(a0);
-    v111 = v110 + 384u * 1u;
-    v112 = v109 + 34u * 1u;
-    v113 = load64(v112);
-    v114 = load64(v111);
-    v115 = v113 == v114;
-    if (v115) { goto L12; }
-    else { goto L17; }
-L12:;
-    v116 = v109 + 20u * 1u;
-    v117 = load64(v116);
-    v118 = v109 + 28u * 1u;
-    v119 = load8(v118);
-    v120 = v109 + 29u * 1u;
+    v113 = a2 + 46u * 1u;
+    v114 = load8(v113);
+    v115 = (u8)((u32)v114 & (u32)15u);
+    v116 = a2 + 50u * 1u;
+    v117 = load8(v116);
+    v118 = (u64)v117;
+    v119 = (u64)((u64)v118 << (8u & 63u));
+    v120 = a2 + 51u * 1u;
     v121 = load8(v120);
-    v122 = (u16)v119;
-    v123 = (u16)((u32)v122 << (8u & 15u));
-    v124 = (u16)v121;
-    v125 = (u16)((u32)v123 | (u32)v124);
-    v126 = v110 + 400u * 1u;
-    v127 = load64(v126);
-    v128 = v127 == 0u;
-    if (v128) { goto L17; }
-    else { goto L13; }
+    v122 = (u64)v121;
+    v123 = (u64)((u64)v119 | (u64)v122);
+    v124 = (u64)((u64)v123 + (u64)52u);
+    v125 = v124 == v99;
+    v126 = (u64)((u64)v99 & (u64)1u);
+    v127 = v126 == 0u;
+    v128 = (u8)(((u32)v127 & (u32)v125) & UINT64_C(1));
+    v129 = v115 < 5u;
+    v130 = v128 ? v129 : 0u;
+    if (v130) { v9 = v115; v10 = 1u; goto L12; }
+    else { goto L9; }
+L9:;
+    f8(v63, a2, a3);
+    v131 = load8(v63);
+    v132 = v131 == 0u;
+    if (v132) { goto L10; }
+    else { goto L11; }
+L10:;
+    v133 = v63 + 1u * 1u;
+    v134 = load8(v133);
+    v135 = v63 + 2u * 1u;
+    v136 = load8(v135);
+    v137 = v136 == 0u;
+    v9 = v134; v10 = v137; goto L12;
+L11:;
+    goto L36;
+L12:;
+    v138 = v9 == 1u;
+    if (v138) { goto L13; }
+    else { goto L36; }
 L13:;
-    v129 = v110 + 392u * 1u;
-    v130 = load_address(v129);
-    v9 = v130; v10 = v127; goto L14;
+    v139 = v10 ? 52u : 54u;
+    v140 = v10 ? 53u : 55u;
+    v141 = a2 + v139 * 1u;
+    v142 = load8(v141);
+    v143 = a2 + v140 * 1u;
+    v144 = load8(v143);
+    v145 = (u16)v142;
+    v146 = (u16)((u32)v145 << (8u & 15u));
+    v147 = (u16)v144;
+    v148 = (u16)((u32)v146 | (u32)v147);
+    v149 = v148 == 8199u;
+    if (v149) { goto L35; }
+    else { goto L14; }
 L14:;
-    v131 = v9 + 2144u * 1u;
-    v132 = (u64)((u64)v10 + (u64)UINT64_C(18446744073709551615));
-    v133 = v9 + 2120u * 1u;
-    v134 = load16(v133);
-    v135 = v125 == v134;
-    if (v135) { goto L15; }
-    else { goto L16; }
+    v150 = a0 + 841u * 1u;
+    v151 = load8(v150);
+    v152 = (u8)((v151) & UINT64_C(1));
+    v11 = v152; v12 = v150; v13 = 1u; goto L39;
 L15:;
-    v136 = v9 + 2112u * 1u;
-    v137 = load64(v136);
-    v138 = v117 == v137;
-    if (v138) { goto L18; }
+    memory_set(v61, 0u, 3u);
+    if (v83) { goto L21; }
     else { goto L16; }
 L16:;
-    v139 = v132 == 0u;
-    if (v139) { goto L17; }
-    else { v9 = v131; v10 = v132; goto L14; }
+    v153 = load8(a2);
+    v154 = (u8)((u32)v153 & (u32)15u);
+    v155 = v154 == 13u;
+    if (v155) { goto L17; }
+    else { goto L21; }
 L17:;
-    goto L19;
+    v156 = a2 + 1u * 1u;
+    v157 = load8(v156);
+    v158 = (u8)((u32)v157 & (u32)15u);
+    v159 = v158 == 2u;
+    if (v159) { goto L18; }
+    else { goto L21; }
 L18:;
-    goto L21;
-L19:;
-    v140 = load_address(a0);
-    f83(v42, v140, a2, a3);
-    v141 = load8(v42);
-    v142 = v141 == 1u;
-    if (v142) { goto L21; }
-    else { goto L23; }
-L20:;
-    v143 = v46 + 25u * 1u;
-    v144 = load8(v143);
-    v145 = v46 + 8u * 1u;
-    v146 = load_address(v145);
-    v147 = v144 == 0u;
-    v148 = v147 ? 52u : 54u;
-    v149 = v147 ? 53u : 55u;
-    v150 = v146 + v148 * 1u;
-    v151 = load8(v150);
-    v152 = v146 + v149 * 1u;
-    v153 = load8(v152);
-    v154 = (u16)v151;
-    v155 = (u16)((u32)v154 << (8u & 15u));
-    v156 = (u16)v153;
-    v157 = (u16)((u32)v155 | (u32)v156);
-    v158 = v157 == 8199u;
-    if (v158) { goto L21; }
-    else { goto L22; }
-L21:;
-    v30 = 123u; goto L83;
-L22:;
-    v159 = a0 + 841u * 1u;
-    v14 = v159; v15 = 1u; goto L32;
-L23:;
-    v160 = a0 + 841u * 1u;
+    v160 = a2 + 2u * 1u;
     v161 = load8(v160);
-    v162 = (u8)((v161) & UINT64_C(1));
-    v163 = (u8)(((u32)v162 ^ (u32)1u) & UINT64_C(1));
-    v164 = (u8)(((u32)a5 | (u32)v163) & UINT64_C(1));
-    if (v164) { v14 = v160; v15 = 1u; goto L32; }
+    v162 = a2 + 3u * 1u;
+    v163 = load8(v162);
+    v164 = (u16)v161;
+    v165 = (u16)((u32)v164 << (8u & 15u));
+    v166 = (u16)v163;
+    v167 = (u16)((u32)v165 | (u32)v166);
+    v168 = (u64)v167;
+    v169 = a3 < v168;
+    v170 = (u16)((u32)v167 + (u32)64063u);
+    v171 = v170 < 64117u;
+    v172 = (u8)(((u32)v171 | (u32)v169) & UINT64_C(1));
+    if (v172) { goto L21; }
+    else { goto L19; }
+L19:;
+    v173 = a2 + 48u * 1u;
+    v174 = load8(v173);
+    v175 = a2 + 49u * 1u;
+    v176 = load8(v175);
+    v177 = (u16)v174;
+    v178 = (u16)((u32)v177 << (8u & 15u));
+    v179 = (u16)v176;
+    v180 = (u16)((u32)v178 | (u32)v179);
+    v181 = v180 == 1u;
+    if (v181) { goto L20; }
+    else { goto L21; }
+L20:;
+    v182 = a2 + 46u * 1u;
+    v183 = load8(v182);
+    v184 = (u8)((u32)v183 & (u32)15u);
+    v185 = a2 + 50u * 1u;
+    v186 = load8(v185);
+    v187 = (u64)v186;
+    v188 = (u64)((u64)v187 << (8u & 63u));
+    v189 = a2 + 51u * 1u;
+    v190 = load8(v189);
+    v191 = (u64)v190;
+    v192 = (u64)((u64)v188 | (u64)v191);
+    v193 = (u64)((u64)v192 + (u64)52u);
+    v194 = v193 == v168;
+    v195 = (u64)((u64)v168 & (u64)1u);
+    v196 = v195 == 0u;
+    v197 = (u8)(((u32)v196 & (u32)v194) & UINT64_C(1));
+    v198 = v184 < 5u;
+    v199 = v197 ? v198 : 0u;
+    if (v199) { goto L23; }
+    else { goto L21; }
+L21:;
+    f8(v61, a2, a3);
+    v200 = load8(v61);
+    v201 = v200 == 0u;
+    if (v201) { goto L23; }
+    else { goto L22; }
+L22:;
+    goto L34;
+L23:;
+    v202 = v79 + 452u * 1u;
+    v203 = load16(v202);
+    v204 = (u64)v203;
+    v205 = v79 + 454u * 1u;
+    memory_set(v62, 0u, 3u);
+    v206 = v203 < 54u;
+    if (v206) { goto L29; }
     else { goto L24; }
 L24:;
-    memory_set(v41, 0u, 32u);
-    f8(v41, a2, a3);
-    v165 = load8(v41);
-    v166 = v165 == 0u;
-    if (v166) { goto L25; }
-    else { v13 = 0u; goto L31; }
+    v207 = load8(v205);
+    v208 = (u8)((u32)v207 & (u32)15u);
+    v209 = v208 == 13u;
+    if (v209) { goto L25; }
+    else { goto L29; }
 L25:;
-    v167 = v41 + 8u * 1u;
-    v168 = load_address(v167);
-    v169 = load_address(a0);
-    v170 = v169 + 384u * 1u;
-    v171 = v168 + 34u * 1u;
-    v172 = load64(v171);
-    v173 = load64(v170);
-    v174 = v172 == v173;
-    if (v174) { goto L26; }
-    else { v13 = 0u; goto L31; }
+    v210 = v79 + 455u * 1u;
+    v211 = load8(v210);
+    v212 = (u8)((u32)v211 & (u32)15u);
+    v213 = v212 == 2u;
+    if (v213) { goto L26; }
+    else { goto L29; }
 L26:;
-    v175 = v168 + 20u * 1u;
-    v176 = load64(v175);
-    v177 = v168 + 28u * 1u;
-    v178 = load8(v177);
-    v179 = v168 + 29u * 1u;
-    v180 = load8(v179);
-    v181 = (u16)v178;
-    v182 = (u16)((u32)v181 << (8u & 15u));
-    v183 = (u16)v180;
-    v184 = (u16)((u32)v182 | (u32)v183);
-    v185 = v169 + 400u * 1u;
-    v186 = load64(v185);
-    v187 = v186 == 0u;
-    if (v187) { v13 = 0u; goto L31; }
+    v214 = v79 + 456u * 1u;
+    v215 = load8(v214);
+    v216 = v79 + 457u * 1u;
+    v217 = load8(v216);
+    v218 = (u16)v215;
+    v219 = (u16)((u32)v218 << (8u & 15u));
+    v220 = (u16)v217;
+    v221 = (u16)((u32)v219 | (u32)v220);
+    v222 = (u64)v221;
+    v223 = v203 < v221;
+    v224 = (u16)((u32)v221 + (u32)64063u);
+    v225 = v224 < 64117u;
+    v226 = (u8)(((u32)v223 | (u32)v225) & UINT64_C(1));
+    if (v226) { goto L29; }
     else { goto L27; }
 L27:;
-    v188 = v169 + 392u * 1u;
-    v189 = load_address(v188);
-    v11 = v189; v12 = v186; goto L28;
+    v227 = v79 + 502u * 1u;
+    v228 = load8(v227);
+    v229 = v79 + 503u * 1u;
+    v230 = load8(v229);
+    v231 = (u16)v228;
+    v232 = (u16)((u32)v231 << (8u & 15u));
+    v233 = (u16)v230;
+    v234 = (u16)((u32)v232 | (u32)v233);
+    v235 = v234 == 1u;
+    if (v235) { goto L28; }
+    else { goto L29; }
 L28:;
-    v190 = v11 + 2144u * 1u;
-    v191 = (u64)((u64)v12 + (u64)UINT64_C(18446744073709551615));
-    v192 = v11 + 2120u * 1u;
-    v193 = load16(v192);
-    v194 = v184 == v193;
-    if (v194) { goto L29; }
-    else { goto L30; }
+    v236 = v79 + 500u * 1u;
+    v237 = load8(v236);
+    v238 = (u8)((u32)v237 & (u32)15u);
+    v239 = v79 + 504u * 1u;
+    v240 = load8(v239);
+    v241 = (u64)v240;
+    v242 = (u64)((u64)v241 << (8u & 63u));
+    v243 = v79 + 505u * 1u;
+    v244 = load8(v243);
+    v245 = (u64)v244;
+    v246 = (u64)((u64)v242 | (u64)v245);
+    v247 = (u64)((u64)v246 + (u64)52u);
+    v248 = v247 == v222;
+    v249 = (u64)((u64)v222 & (u64)1u);
+    v250 = v249 == 0u;
+    v251 = (u8)(((u32)v250 & (u32)v248) & UINT64_C(1));
+    v252 = v238 < 5u;
+    v253 = v251 ? v252 : 0u;
+    if (v253) { goto L31; }
+    else { goto L29; }
 L29:;
-    v195 = v11 + 2112u * 1u;
-    v196 = load64(v195);
-    v197 = v176 == v196;
-    if (v197) { v13 = 1u; goto L31; }
+    f8(v62, v205, v204);
+    v254 = load8(v62);
+    v255 = v254 == 0u;
+    if (v255) { goto L31; }
     else { goto L30; }
 L30:;
-    v198 = v191 == 0u;
-    if (v198) { v13 = 0u; goto L31; }
-    else { v11 = v190; v12 = v191; goto L28; }
+    goto L34;
 L31:;
-    v14 = v160; v15 = v13; goto L32;
+    v256 = a2 + 28u * 1u;
+    v257 = load8(v256);
+    v258 = a2 + 29u * 1u;
+    v259 = load8(v258);
+    v260 = (u16)v257;
+    v261 = (u16)((u32)v260 << (8u & 15u));
+    v262 = (u16)v259;
+    v263 = (u16)((u32)v261 | (u32)v262);
+    v264 = v79 + 482u * 1u;
+    v265 = load8(v264);
+    v266 = v79 + 483u * 1u;
+    v267 = load8(v266);
+    v268 = (u16)v265;
+    v269 = (u16)((u32)v268 << (8u & 15u));
+    v270 = (u16)v267;
+    v271 = (u16)((u32)v269 | (u32)v270);
+    v272 = v263 == v271;
+    if (v272) { goto L32; }
+    else { goto L34; }
 L32:;
-    v199 = a0 + 843u * 1u;
-    v200 = load8(v199);
-    v201 = (u8)((v200) & UINT64_C(1));
-    if (v201) { goto L33; }
-    else { goto L82; }
+    v273 = v79 + 474u * 1u;
+    v274 = load64(v273);
+    v275 = a2 + 20u * 1u;
+    v276 = load64(v275);
+    v277 = v276 == v274;
+    if (v277) { goto L33; }
+    else { goto L34; }
 L33:;
-    v202 = a0 + 816u * 1u;
-    v203 = load64(v202);
-    v204 = v203 != 0u;
-    v205 = (u8)(((u32)v15 ^ (u32)1u) & UINT64_C(1));
-    v206 = (u8)(((u32)v204 | (u32)v205) & UINT64_C(1));
-    if (v206) { goto L40; }
+    v278 = f86(a0, a2, a3);
+    if (v278) { goto L35; }
     else { goto L34; }
 L34:;
-    v207 = load_address(a0);
-    v208 = a0 + 784u * 1u;
-    v209 = load64(v208);
-    v210 = a0 + 808u * 1u;
-    v211 = load64(v210);
-    v212 = a0 + 800u * 1u;
-    v213 = load64(v212);
-    v214 = (u64)((u64)v209 - (u64)v211);
-    v215 = (u64)((u64)v214 + (u64)v213);
-    v216 = v207 + 240u * 1u;
-    v217 = load8(v216);
-    v218 = v217 == 0u;
-    v219 = v218 ? 376u : 256u;
-    v220 = v207 + v219 * 1u;
-    v221 = load64(v220);
-    v222 = (u64)((u64)v221 << (1u & 63u));
-    v223 = (u64)((u64)v222 & (u64)UINT64_C(131070));
-    v224 = (u64)((u64)v223 + (u64)UINT64_C(18446744073709551615));
-    v225 = v207 + 416u * 1u;
-    v226 = load16(v225);
-    v227 = (u64)v226;
-    v228 = v227 > v224 ? v227 : v224;
-    v229 = v228 > v215;
-    if (v229) { goto L35; }
-    else { goto L41; }
+    v279 = v79 + 424u * 1u;
+    v280 = load_address(v279);
+    v281 = v79 + 432u * 1u;
+    v282 = load64(v281);
+    f87(v60, v79, v280, v282, a2, a3);
+    v283 = load8(v60);
+    v284 = v283 == 1u;
+    if (v284) { goto L35; }
+    else { goto L37; }
 L35:;
-    v230 = v207 + 384u * 1u;
-    memory_set(v40, 0u, 88u);
-    f22(v40, v230);
-    v231 = v40 + 80u * 1u;
-    v232 = load64(v231);
-    v233 = v232 == 0u;
-    if (v233) { v18 = v224; goto L39; }
-    else { goto L36; }
+    v39 = 123u; goto L99;
 L36:;
-    v234 = v40 + 16u * 1u;
-    v235 = load_address(v40);
-    v16 = 0u; v17 = 0u; goto L37;
+    v285 = a0 + 841u * 1u;
+    v286 = load8(v285);
+    v287 = (u8)((v286) & UINT64_C(1));
+    v11 = v287; v12 = v285; v13 = 1u; goto L39;
 L37:;
-    v236 = v234 + v17 * 1u;
-    v237 = load8(v236);
-    v238 = (u64)v237;
-    v239 = (u64)((u64)v238 * (u64)2144u);
-    v240 = v235 + v239 * 1u;
-    v241 = v240 + 1448u * 1u;
-    v242 = load64(v241);
-    v243 = v16 > v242 ? v16 : v242;
-    v244 = (u64)((u64)v17 + (u64)1u);
-    v245 = v244 == v232;
-    if (v245) { goto L38; }
-    else { v16 = v243; v17 = v244; goto L37; }
+    v288 = a0 + 841u * 1u;
+    v289 = load8(v288);
+    v290 = (u8)((v289) & UINT64_C(1));
+    v291 = (u8)(((u32)v290 ^ (u32)1u) & UINT64_C(1));
+    v292 = (u8)(((u32)a5 | (u32)v291) & UINT64_C(1));
+    if (v292) { v11 = v290; v12 = v288; v13 = 1u; goto L39; }
+    else { goto L38; }
 L38:;
-    v246 = v243 > v224 ? v243 : v224;
-    v18 = v246; goto L39;
+    v293 = f86(a0, a2, a3);
+    v11 = 1u; v12 = v288; v13 = v293; goto L39;
 L39:;
-    v247 = v18 > v215;
-    if (v247) { goto L82; }
-    else { goto L41; }
+    v294 = a0 + 843u * 1u;
+    v295 = load8(v294);
+    v296 = (u8)((v295) & UINT64_C(1));
+    if (v296) { goto L40; }
+    else { goto L98; }
 L40:;
-    v248 = (u8)(((u32)v15 | (u32)v204) & UINT64_C(1));
-    if (v248) { goto L82; }
+    v297 = a0 + 816u * 1u;
+    v298 = load64(v297);
+    v299 = v298 != 0u;
+    v300 = (u8)(((u32)v13 ^ (u32)1u) & UINT64_C(1));
+    v301 = (u8)(((u32)v299 | (u32)v300) & UINT64_C(1));
+    if (v301) { goto L47; }
     else { goto L41; }
 L41:;
-    if (v15) { goto L48; }
-    else { goto L42; }
+    v302 = load_address(a0);
+    v303 = a0 + 784u * 1u;
+    v304 = load64(v303);
+    v305 = a0 + 808u * 1u;
+    v306 = load64(v305);
+    v307 = a0 + 800u * 1u;
+    v308 = load64(v307);
+    v309 = (u64)((u64)v304 - (u64)v306);
+    v310 = (u64)((u64)v309 + (u64)v308);
+    v311 = v302 + 240u * 1u;
+    v312 = load8(v311);
+    v313 = v312 == 0u;
+    v314 = v313 ? 376u : 256u;
+    v315 = v302 + v314 * 1u;
+    v316 = load64(v315);
+    v317 = (u64)((u64)v316 << (1u & 63u));
+    v318 = (u64)((u64)v317 & (u64)UINT64_C(131070));
+    v319 = (u64)((u64)v318 + (u64)UINT64_C(18446744073709551615));
+    v320 = v302 + 416u * 1u;
+    v321 = load16(v320);
+    v322 = (u64)v321;
+    v323 = v322 > v319 ? v322 : v319;
+    v324 = v323 > v310;
+    if (v324) { goto L42; }
+    else { goto L48; }
 L42:;
-    v249 = load_address(a0);
-    v250 = a0 + 8u * 1u;
-    memory_cpy(v38, v249, 384u);
-    memory_move(v249, v250, 384u);
-    memory_cpy(v250, v38, 384u);
-    v251 = load_address(a0);
-    memory_set(v39, 0u, 96u);
-    switch (v55) {
-    case 0u: goto L43;
-    case 1u: goto L44;
-    case 2u: goto L45;
-    default: goto L46;
-    }
+    v325 = v302 + 384u * 1u;
+    memory_set(v59, 0u, 88u);
+    f21(v59, v325);
+    v326 = v59 + 80u * 1u;
+    v327 = load64(v326);
+    v328 = v327 == 0u;
+    if (v328) { v16 = v319; goto L46; }
+    else { goto L43; }
 L43:;
-    f45(v39, v251, a1, a2, a3, a6, a7);
-    goto L47;
+    v329 = v59 + 16u * 1u;
+    v330 = load_address(v59);
+    v14 = 0u; v15 = 0u; goto L44;
 L44:;
-    f59(v39, v251, a1, a2, a3, v57, a6, a7);
-    goto L47;
+    v331 = v329 + v15 * 1u;
+    v332 = load8(v331);
+    v333 = (u64)v332;
+    v334 = (u64)((u64)v333 * (u64)2144u);
+    v335 = v330 + v334 * 1u;
+    v336 = v335 + 1448u * 1u;
+    v337 = load64(v336);
+    v338 = v14 > v337 ? v14 : v337;
+    v339 = (u64)((u64)v15 + (u64)1u);
+    v340 = v339 == v327;
+    if (v340) { goto L45; }
+    else { v14 = v338; v15 = v339; goto L44; }
 L45:;
-    f64(v39, v251, a1, a2, a3, v59, v61, a6, a7);
-    goto L47;
+    v341 = v338 > v319 ? v338 : v319;
+    v16 = v341; goto L46;
 L46:;
-    UNREACHABLE;
+    v342 = v16 > v310;
+    if (v342) { goto L98; }
+    else { goto L48; }
 L47:;
-    v252 = load8(v39);
-    v253 = v39 + 1u * 1u;
-    v254 = load8(v253);
-    v255 = v39 + 8u * 1u;
-    v256 = load64(v255);
-    v257 = load_address(a0);
-    memory_cpy(v37, v257, 384u);
-    memory_move(v257, v250, 384u);
-    memory_cpy(v250, v37, 384u);
-    memory_set(v50, 0u, 68u);
-    v26 = v252; v27 = v254; v28 = v256; v29 = 0u; goto L70;
+    v343 = (u8)(((u32)v13 | (u32)v299) & UINT64_C(1));
+    if (v343) { goto L98; }
+    else { goto L48; }
 L48:;
-    v258 = load8(v14);
-    v259 = (u8)((v258) & UINT64_C(1));
-    if (v259) { goto L49; }
-    else { goto L58; }
+    if (v13) { goto L58; }
+    else { goto L49; }
 L49:;
-    v260 = load_address(a0);
-    memory_set(v35, 0u, 96u);
-    if (a5) { goto L50; }
+    v344 = load_address(a0);
+    v345 = a0 + 8u * 1u;
+    memory_cpy(v56, v344, 384u);
+    memory_move(v344, v345, 384u);
+    memory_cpy(v345, v56, 384u);
+    v346 = load_address(a0);
+    store64(v58, 0u);
+    store8(v58, v72);
+    v347 = v58 + 1u * 1u;
+    store8(v347, v74);
+    v348 = v58 + 8u * 1u;
+    store_address(v348, v76);
+    v349 = v58 + 16u * 1u;
+    store64(v349, v78);
+    v350 = f58(v346, a2, a3, v58);
+    if (v350) { goto L50; }
     else { goto L51; }
 L50:;
-    f23(v35, v260, a1, a2, a3, a6, a7);
-    goto L57;
+    memory_set(v55, 0u, 96u);
+    f44(v55, v346, a1, a2, a3, a6, a7);
+    v351 = v55 + 8u * 1u;
+    v352 = load64(v351);
+    v17 = 5u; v18 = v352; goto L57;
 L51:;
-    memory_set(v34, 0u, 96u);
-    switch (v55) {
+    memory_set(v57, 0u, 96u);
+    switch (v72) {
     case 0u: goto L52;
     case 1u: goto L53;
     case 2u: goto L54;
     default: goto L55;
     }
 L52:;
-    f45(v34, v260, a1, a2, a3, a6, a7);
+    f44(v57, v346, a1, a2, a3, a6, a7);
     goto L56;
 L53:;
-    f59(v34, v260, a1, a2, a3, v57, a6, a7);
+    f64(v57, v346, a1, a2, a3, v74, a6, a7);
     goto L56;
 L54:;
-    f64(v34, v260, a1, a2, a3, v59, v61, a6, a7);
+    f69(v57, v346, a1, a2, a3, v76, v78, a6, a7);
     goto L56;
 L55:;
     UNREACHABLE;
 L56:;
-    memory_cpy(v35, v34, 96u);
-    goto L57;
+    v353 = load8(v57);
+    v354 = v57 + 1u * 1u;
+    v355 = load8(v354);
+    v356 = v57 + 8u * 1u;
+    v357 = load64(v356);
+    v358 = (u64)v353;
+    v359 = (u64)v355;
+    v360 = (u64)((u64)v359 << (8u & 63u));
+    v361 = (u64)((u64)v360 | (u64)v358);
+    v17 = v361; v18 = v357; goto L57;
 L57:;
-    v261 = load8(v35);
-    v262 = v35 + 1u * 1u;
-    v263 = load8(v262);
-    v264 = v35 + 8u * 1u;
-    v265 = load64(v264);
-    v266 = v35 + 16u * 1u;
-    memory_cpy(v36, v266, 76u);
-    v267 = a0 + 776u * 1u;
-    f70(v267, a6, v265);
-    v268 = a0 + 842u * 1u;
-    v269 = load8(v268);
-    v270 = (u8)((v269) & UINT64_C(1));
-    v271 = v261 == 5u;
-    v272 = (u8)(((u32)v271 | (u32)v270) & UINT64_C(1));
-    v273 = (u8)v272;
-    store8(v268, v273);
-    v274 = v36 + 8u * 1u;
-    v275 = (u64)v261;
-    v276 = (u64)v263;
-    v277 = (u64)((u64)v276 << (8u & 63u));
-    v278 = (u64)((u64)v277 | (u64)v275);
-    memory_cpy(v48, v274, 68u);
-    v22 = v48; v23 = v278; v24 = 0u; v25 = v265; goto L69;
+    v362 = load_address(a0);
+    memory_cpy(v54, v362, 384u);
+    memory_move(v362, v345, 384u);
+    memory_cpy(v345, v54, 384u);
+    memory_set(v67, 0u, 68u);
+    v36 = v17; v37 = v18; v38 = 0u; goto L86;
 L58:;
-    v279 = load_address(a0);
-    memory_set(v32, 0u, 96u);
-    if (a5) { goto L59; }
-    else { goto L60; }
+    if (v11) { goto L59; }
+    else { goto L71; }
 L59:;
-    f23(v32, v279, a1, a2, a3, a6, a7);
-    goto L66;
+    v363 = load_address(a0);
+    memory_set(v52, 0u, 96u);
+    if (a5) { goto L60; }
+    else { goto L61; }
 L60:;
-    memory_set(v31, 0u, 96u);
-    switch (v55) {
-    case 0u: goto L61;
-    case 1u: goto L62;
-    case 2u: goto L63;
-    default: goto L64;
-    }
+    f22(v52, v363, a1, a2, a3, a6, a7);
+    v364 = load8(v52);
+    v365 = v52 + 8u * 1u;
+    v366 = load64(v365);
+    v22 = v366; v23 = v364; goto L70;
 L61:;
-    f45(v31, v279, a1, a2, a3, a6, a7);
-    goto L65;
+    store64(v49, 0u);
+    store8(v49, v72);
+    v367 = v49 + 1u * 1u;
+    store8(v367, v74);
+    v368 = v49 + 8u * 1u;
+    store_address(v368, v76);
+    v369 = v49 + 16u * 1u;
+    store64(v369, v78);
+    v370 = f58(v363, a2, a3, v49);
+    if (v370) { goto L62; }
+    else { goto L63; }
 L62:;
-    f59(v31, v279, a1, a2, a3, v57, a6, a7);
-    goto L65;
+    memory_set(v47, 0u, 96u);
+    f44(v47, v363, a1, a2, a3, a6, a7);
+    v371 = v47 + 24u * 1u;
+    v372 = v47 + 8u * 1u;
+    v373 = load64(v372);
+    memory_set(v50, 0u, 7u);
+    memory_cpy(v51, v371, 68u);
+    v19 = 5u; v20 = v373; v21 = 0u; goto L69;
 L63:;
-    f64(v31, v279, a1, a2, a3, v59, v61, a6, a7);
-    goto L65;
-L64:;
-    UNREACHABLE;
-L65:;
-    memory_cpy(v32, v31, 96u);
-    goto L66;
-L66:;
-    v280 = load64(v32);
-    v281 = v32 + 8u * 1u;
-    v282 = load64(v281);
-    v283 = v32 + 16u * 1u;
-    v284 = load64(v283);
-    v285 = v32 + 24u * 1u;
-    memory_cpy(v33, v285, 68u);
-    v286 = (u64)((u64)v280 & (u64)255u);
-    v287 = v286 == 5u;
-    if (v287) { goto L67; }
-    else { v19 = v280; v20 = v282; v21 = v284; goto L68; }
-L67:;
-    v288 = a0 + 776u * 1u;
-    f70(v288, a6, v282);
-    store8(v14, 1u);
-    v289 = a0 + 842u * 1u;
-    store8(v289, 1u);
-    v290 = (u64)((u64)v280 & (u64)65285u);
-    v19 = v290; v20 = 0u; v21 = v282; goto L68;
-L68:;
-    memory_cpy(v49, v33, 68u);
-    v22 = v49; v23 = v19; v24 = v20; v25 = v21; goto L69;
-L69:;
-    v291 = (u8)(v23);
-    v292 = (u64)((u64)v23 >> (8u & 63u));
-    v293 = (u8)(v292);
-    memory_cpy(v50, v22, 68u);
-    v26 = v291; v27 = v293; v28 = v24; v29 = v25; goto L70;
-L70:;
-    store64(a8, v28);
-    v294 = a8 + 8u * 1u;
-    store64(v294, v29);
-    v295 = a8 + 16u * 1u;
-    memory_cpy(v295, v50, 68u);
-    v296 = a8 + 84u * 1u;
-    store32(v296, 0u);
-    switch (v26) {
-    case 0u: goto L71;
-    case 9u: goto L79;
-    case 1u: v30 = 1u; goto L83;
-    case 2u: goto L72;
-    case 3u: goto L73;
-    case 4u: goto L74;
-    case 5u: goto L75;
-    case 6u: goto L76;
-    case 7u: goto L77;
-    case 8u: goto L78;
-    default: goto L80;
+    memory_set(v48, 0u, 96u);
+    switch (v72) {
+    case 0u: goto L64;
+    case 1u: goto L65;
+    case 2u: goto L66;
+    default: goto L67;
     }
-L71:;
-    v297 = (u32)v27;
-    v298 = (u32)((u32)v297 + (u32)16u);
-    v30 = v298; goto L83;
-L72:;
-    v30 = 2u; goto L83;
-L73:;
-    v30 = 3u; goto L83;
-L74:;
-    v30 = 4u; goto L83;
-L75:;
-    v30 = 5u; goto L83;
-L76:;
-    v30 = 6u; goto L83;
-L77:;
-    v30 = 7u; goto L83;
-L78:;
-    v30 = 8u; goto L83;
-L79:;
-    v30 = 9u; goto L83;
-L80:;
+L64:;
+    f44(v48, v363, a1, a2, a3, a6, a7);
+    goto L68;
+L65:;
+    f64(v48, v363, a1, a2, a3, v74, a6, a7);
+    goto L68;
+L66:;
+    f69(v48, v363, a1, a2, a3, v76, v78, a6, a7);
+    goto L68;
+L67:;
     UNREACHABLE;
+L68:;
+    v374 = load8(v48);
+    v375 = v48 + 1u * 1u;
+    v376 = v48 + 8u * 1u;
+    v377 = load64(v376);
+    v378 = v48 + 16u * 1u;
+    v379 = load64(v378);
+    v380 = v48 + 24u * 1u;
+    memory_cpy(v50, v375, 7u);
+    memory_cpy(v51, v380, 68u);
+    v19 = v374; v20 = v377; v21 = v379; goto L69;
+L69:;
+    v381 = v52 + 1u * 1u;
+    memory_cpy(v381, v50, 7u);
+    v382 = v52 + 16u * 1u;
+    store64(v382, v21);
+    v383 = v52 + 24u * 1u;
+    memory_cpy(v383, v51, 68u);
+    v22 = v20; v23 = v19; goto L70;
+L70:;
+    v384 = v52 + 1u * 1u;
+    v385 = load8(v384);
+    v386 = v52 + 16u * 1u;
+    memory_cpy(v53, v386, 76u);
+    v387 = a0 + 776u * 1u;
+    f73(v387, a6, v22);
+    v388 = a0 + 842u * 1u;
+    v389 = load8(v388);
+    v390 = (u8)((v389) & UINT64_C(1));
+    v391 = v23 == 5u;
+    v392 = (u8)(((u32)v391 | (u32)v390) & UINT64_C(1));
+    v393 = (u8)v392;
+    store8(v388, v393);
+    v394 = v53 + 8u * 1u;
+    v395 = (u64)v23;
+    v396 = (u64)v385;
+    v397 = (u64)((u64)v396 << (8u & 63u));
+    v398 = (u64)((u64)v397 | (u64)v395);
+    memory_cpy(v65, v394, 68u);
+    v32 = v65; v33 = v398; v34 = 0u; v35 = v22; goto L85;
+L71:;
+    v399 = load_address(a0);
+    memory_set(v45, 0u, 96u);
+    if (a5) { goto L72; }
+    else { goto L73; }
+L72:;
+    f22(v45, v399, a1, a2, a3, a6, a7);
+    v400 = v45 + 8u * 1u;
+    v401 = load64(v400);
+    v402 = v45 + 16u * 1u;
+    v403 = load64(v402);
+    v27 = v403; v28 = v401; goto L82;
+L73:;
+    store64(v42, 0u);
+    store8(v42, v72);
+    v404 = v42 + 1u * 1u;
+    store8(v404, v74);
+    v405 = v42 + 8u * 1u;
+    store_address(v405, v76);
+    v406 = v42 + 16u * 1u;
+    store64(v406, v78);
+    v407 = f58(v399, a2, a3, v42);
+    if (v407) { goto L74; }
+    else { goto L75; }
+L74:;
+    memory_set(v40, 0u, 96u);
+    f44(v40, v399, a1, a2, a3, a6, a7);
+    v408 = v40 + 24u * 1u;
+    v409 = v40 + 8u * 1u;
+    v410 = load64(v409);
+    memory_set(v43, 0u, 7u);
+    memory_cpy(v44, v408, 68u);
+    v24 = 5u; v25 = v410; v26 = 0u; goto L81;
+L75:;
+    memory_set(v41, 0u, 96u);
+    switch (v72) {
+    case 0u: goto L76;
+    case 1u: goto L77;
+    case 2u: goto L78;
+    default: goto L79;
+    }
+L76:;
+    f44(v41, v399, a1, a2, a3, a6, a7);
+    goto L80;
+L77:;
+    f64(v41, v399, a1, a2, a3, v74, a6, a7);
+    goto L80;
+L78:;
+    f69(v41, v399, a1, a2, a3, v76, v78, a6, a7);
+    goto L80;
+L79:;
+    UNREACHABLE;
+L80:;
+    v411 = load8(v41);
+    v412 = v41 + 1u * 1u;
+    v413 = v41 + 8u * 1u;
+    v414 = load64(v413);
+    v415 = v41 + 16u * 1u;
+    v416 = load64(v415);
+    v417 = v41 + 24u * 1u;
+    memory_cpy(v43, v412, 7u);
+    memory_cpy(v44, v417, 68u);
+    v24 = v411; v25 = v414; v26 = v416; goto L81;
 L81:;
-    v299 = v47 + 1u * 1u;
-    v300 = load8(v299);
-    v301 = v47 + 2u * 1u;
-    v302 = load8(v301);
-    v303 = v300 == 0u;
-    v304 = v302 == 0u;
-    v305 = v304 ? 33u : 34u;
-    v306 = v303 ? v305 : 121u;
-    v30 = v306; goto L83;
+    store8(v45, v24);
+    v418 = v45 + 1u * 1u;
+    memory_cpy(v418, v43, 7u);
+    v419 = v45 + 24u * 1u;
+    memory_cpy(v419, v44, 68u);
+    v27 = v26; v28 = v25; goto L82;
 L82:;
-    v30 = 118u; goto L83;
+    v420 = load64(v45);
+    v421 = v45 + 24u * 1u;
+    memory_cpy(v46, v421, 68u);
+    v422 = (u64)((u64)v420 & (u64)255u);
+    v423 = v422 == 5u;
+    if (v423) { goto L83; }
+    else { v29 = v420; v30 = v28; v31 = v27; goto L84; }
 L83:;
-    return v30;
+    v424 = a0 + 776u * 1u;
+    f73(v424, a6, v28);
+    store8(v12, 1u);
+    v425 = a0 + 842u * 1u;
+    store8(v425, 1u);
+    v426 = (u64)((u64)v420 & (u64)65285u);
+    v29 = v426; v30 = 0u; v31 = v28; goto L84;
+L84:;
+    memory_cpy(v66, v46, 68u);
+    v32 = v66; v33 = v29; v34 = v30; v35 = v31; goto L85;
+L85:;
+    memory_cpy(v67, v32, 68u);
+    v36 = v33; v37 = v34; v38 = v35; goto L86;
+L86:;
+    v427 = (u8)(v36);
+    store64(a8, v37);
+    v428 = a8 + 8u * 1u;
+    store64(v428, v38);
+    v429 = a8 + 16u * 1u;
+    memory_cpy(v429, v67, 68u);
+    v430 = a8 + 84u * 1u;
+    store32(v430, 0u);
+    switch (v427) {
+    case 0u: goto L87;
+    case 9u: goto L95;
+    case 1u: v39 = 1u; goto L99;
+    case 2u: goto L88;
+    case 3u: goto L89;
+    case 4u: goto L90;
+    case 5u: goto L91;
+    case 6u: goto L92;
+    case 7u: goto L93;
+    case 8u: goto L94;
+    default: goto L96;
+    }
+L87:;
+    v431 = (u32)(v36);
+    v432 = (u32)((u32)v431 >> (8u & 31u));
+    v433 = (u32)((u32)v432 & (u32)255u);
+    v434 = (u32)((u32)v433 + (u32)16u);
+    v39 = v434; goto L99;
+L88:;
+    v39 = 2u; goto L99;
+L89:;
+    v39 = 3u; goto L99;
+L90:;
+    v39 = 4u; goto L99;
+L91:;
+    v39 = 5u; goto L99;
+L92:;
+    v39 = 6u; goto L99;
+L93:;
+    v39 = 7u; goto L99;
+L94:;
+    v39 = 8u; goto L99;
+L95:;
+    v39 = 9u; goto L99;
+L96:;
+    UNREACHABLE;
+L97:;
+    v435 = v64 + 1u * 1u;
+    v436 = load8(v435);
+    v437 = v64 + 2u * 1u;
+    v438 = load8(v437);
+    v439 = v436 == 0u;
+    v440 = v438 == 0u;
+    v441 = v440 ? 33u : 34u;
+    v442 = v439 ? v441 : 121u;
+    v39 = v442; goto L99;
+L98:;
+    v39 = 118u; goto L99;
+L99:;
+    return v39;
 }
 
-static void f83(address a0, address a1, address a2, u64 a3) {
-    address v4, v7, v8, v9, v11, v13, v16, v18, v20, v22, v24, v29, v31, v33, v35, v37;
-    address v39, v57, v58, v59, v60, v61, v62, v63, v64, v65, v66, v67;
-    u8 v5, v6, v12, v14, v15, v19, v21, v23, v25, v26, v30, v32, v34, v36;
-    u64 v10, v17, v27, v28, v38, v40;
-    u16 v41, v42, v43, v44, v45, v46, v47, v48, v49, v50, v51, v52, v53, v54, v55, v56;
-    u64 block0[4];
-    v4 = ADDRESS(block0);
-    memory_set(v4, 0u, 32u);
-    f8(v4, a2, a3);
-    v5 = load8(v4);
-    v6 = v5 == 0u;
-    if (v6) { goto L1; }
-    else { goto L3; }
+static u8 f86(address a0, address a1, u64 a2) {
+    u8 v3, v7, v8, v9, v10, v12, v13, v14, v16, v18, v24, v26, v27, v29, v31, v36;
+    u8 v38, v39, v41, v45, v49, v51, v52, v53, v54, v55, v56, v62, v66, v68, v75, v82;
+    u8 v85, v86;
+    address v4, v6, v11, v15, v17, v28, v30, v37, v40, v44, v57, v58, v59, v63, v65, v67;
+    address v73, v76, v77, v78, v80, v83;
+    u64 v5, v23, v42, v43, v46, v47, v48, v50, v60, v61, v64, v74, v79, v84;
+    u16 v19, v20, v21, v22, v25, v32, v33, v34, v35, v69, v70, v71, v72, v81;
+    u64 block0[1];
+    v6 = ADDRESS(block0);
+    memory_set(v6, 0u, 3u);
+    v7 = a2 < 54u;
+    if (v7) { goto L6; }
+    else { goto L1; }
 L1:;
-    v7 = v4 + 8u * 1u;
-    v8 = load_address(v7);
-    v9 = v4 + 16u * 1u;
-    v10 = load64(v9);
-    v11 = v4 + 24u * 1u;
-    v12 = load8(v11);
-    v13 = v4 + 25u * 1u;
-    v14 = load8(v13);
-    v15 = f60(a1, v7);
-    if (v15) { goto L5; }
-    else { goto L4; }
+    v8 = load8(a1);
+    v9 = (u8)((u32)v8 & (u32)15u);
+    v10 = v9 == 13u;
+    if (v10) { goto L2; }
+    else { goto L6; }
 L2:;
-    return;
+    v11 = a1 + 1u * 1u;
+    v12 = load8(v11);
+    v13 = (u8)((u32)v12 & (u32)15u);
+    v14 = v13 == 2u;
+    if (v14) { goto L3; }
+    else { goto L6; }
 L3:;
-    memory_set(a0, 0u, 48u);
-    goto L2;
+    v15 = a1 + 2u * 1u;
+    v16 = load8(v15);
+    v17 = a1 + 3u * 1u;
+    v18 = load8(v17);
+    v19 = (u16)v16;
+    v20 = (u16)((u32)v19 << (8u & 15u));
+    v21 = (u16)v18;
+    v22 = (u16)((u32)v20 | (u32)v21);
+    v23 = (u64)v22;
+    v24 = a2 < v23;
+    v25 = (u16)((u32)v22 + (u32)64063u);
+    v26 = v25 < 64117u;
+    v27 = (u8)(((u32)v26 | (u32)v24) & UINT64_C(1));
+    if (v27) { goto L6; }
+    else { goto L4; }
 L4:;
-    memory_set(a0, 0u, 48u);
-    goto L2;
+    v28 = a1 + 48u * 1u;
+    v29 = load8(v28);
+    v30 = a1 + 49u * 1u;
+    v31 = load8(v30);
+    v32 = (u16)v29;
+    v33 = (u16)((u32)v32 << (8u & 15u));
+    v34 = (u16)v31;
+    v35 = (u16)((u32)v33 | (u32)v34);
+    v36 = v35 == 1u;
+    if (v36) { goto L5; }
+    else { goto L6; }
 L5:;
-    v16 = v8 + 20u * 1u;
-    v17 = load64(v16);
-    v18 = v8 + 28u * 1u;
-    v19 = load8(v18);
-    v20 = v8 + 29u * 1u;
-    v21 = load8(v20);
-    v22 = v8 + 30u * 1u;
-    v23 = load8(v22);
-    v24 = v8 + 31u * 1u;
-    v25 = load8(v24);
-    v26 = v14 == 0u;
-    v27 = v26 ? 52u : 54u;
-    v28 = v26 ? 53u : 55u;
-    v29 = v8 + v27 * 1u;
-    v30 = load8(v29);
-    v31 = v8 + v28 * 1u;
-    v32 = load8(v31);
-    v33 = v8 + 42u * 1u;
-    v34 = load8(v33);
-    v35 = v8 + 43u * 1u;
-    v36 = load8(v35);
-    v37 = v8 + 54u * 1u;
-    v38 = (u64)((u64)v10 + (u64)UINT64_C(18446744073709551562));
-    v39 = v26 ? v37 : ADDRESS(c148);
-    v40 = v26 ? v38 : 0u;
-    v41 = (u16)v23;
-    v42 = (u16)((u32)v41 << (8u & 15u));
-    v43 = (u16)v25;
-    v44 = (u16)((u32)v42 | (u32)v43);
-    v45 = (u16)v19;
-    v46 = (u16)((u32)v45 << (8u & 15u));
-    v47 = (u16)v21;
-    v48 = (u16)((u32)v46 | (u32)v47);
-    v49 = (u16)v34;
-    v50 = (u16)((u32)v49 << (8u & 15u));
-    v51 = (u16)v36;
-    v52 = (u16)((u32)v50 | (u32)v51);
-    v53 = (u16)v30;
-    v54 = (u16)((u32)v53 << (8u & 15u));
-    v55 = (u16)v32;
-    v56 = (u16)((u32)v54 | (u32)v55);
-    store64(a0, 1u);
-    v57 = a0 + 8u * 1u;
-    store64(v57, v17);
-    v58 = a0 + 16u * 1u;
-    store16(v58, v48);
-    v59 = a0 + 18u * 1u;
-    store16(v59, v44);
-    v60 = a0 + 20u * 1u;
-    store32(v60, 0u);
-    v61 = a0 + 24u * 1u;
-    store8(v61, v12);
-    v62 = a0 + 25u * 1u;
-    store8(v62, 0u);
-    v63 = a0 + 26u * 1u;
-    store16(v63, v56);
-    v64 = a0 + 28u * 1u;
-    store16(v64, v52);
-    v65 = a0 + 30u * 1u;
-    store16(v65, 0u);
-    v66 = a0 + 32u * 1u;
-    store_address(v66, v39);
-    v67 = a0 + 40u * 1u;
-    store64(v67, v40);
-    goto L2;
+    v37 = a1 + 46u * 1u;
+    v38 = load8(v37);
+    v39 = (u8)((u32)v38 & (u32)15u);
+    v40 = a1 + 50u * 1u;
+    v41 = load8(v40);
+    v42 = (u64)v41;
+    v43 = (u64)((u64)v42 << (8u & 63u));
+    v44 = a1 + 51u * 1u;
+    v45 = load8(v44);
+    v46 = (u64)v45;
+    v47 = (u64)((u64)v43 | (u64)v46);
+    v48 = (u64)((u64)v47 + (u64)52u);
+    v49 = v48 == v23;
+    v50 = (u64)((u64)v23 & (u64)1u);
+    v51 = v50 == 0u;
+    v52 = (u8)(((u32)v51 & (u32)v49) & UINT64_C(1));
+    v53 = v39 < 5u;
+    v54 = v52 ? v53 : 0u;
+    if (v54) { goto L8; }
+    else { goto L6; }
+L6:;
+    f8(v6, a1, a2);
+    v55 = load8(v6);
+    v56 = v55 == 0u;
+    if (v56) { goto L8; }
+    else { goto L7; }
+L7:;
+    v3 = 0u; goto L9;
+L8:;
+    v57 = load_address(a0);
+    v58 = v57 + 384u * 1u;
+    v59 = a1 + 34u * 1u;
+    v60 = load64(v59);
+    v61 = load64(v58);
+    v62 = v60 == v61;
+    if (v62) { goto L10; }
+    else { v3 = 0u; goto L9; }
+L9:;
+    return v3;
+L10:;
+    v63 = a1 + 20u * 1u;
+    v64 = load64(v63);
+    v65 = a1 + 28u * 1u;
+    v66 = load8(v65);
+    v67 = a1 + 29u * 1u;
+    v68 = load8(v67);
+    v69 = (u16)v66;
+    v70 = (u16)((u32)v69 << (8u & 15u));
+    v71 = (u16)v68;
+    v72 = (u16)((u32)v70 | (u32)v71);
+    v73 = v57 + 400u * 1u;
+    v74 = load64(v73);
+    v75 = v74 == 0u;
+    if (v75) { v3 = 0u; goto L9; }
+    else { goto L11; }
+L11:;
+    v76 = v57 + 392u * 1u;
+    v77 = load_address(v76);
+    v4 = v77; v5 = v74; goto L12;
+L12:;
+    v78 = v4 + 2144u * 1u;
+    v79 = (u64)((u64)v5 + (u64)UINT64_C(18446744073709551615));
+    v80 = v4 + 2120u * 1u;
+    v81 = load16(v80);
+    v82 = v72 == v81;
+    if (v82) { goto L13; }
+    else { goto L14; }
+L13:;
+    v83 = v4 + 2112u * 1u;
+    v84 = load64(v83);
+    v85 = v64 == v84;
+    if (v85) { v3 = 1u; goto L9; }
+    else { goto L14; }
+L14:;
+    v86 = v79 == 0u;
+    if (v86) { v3 = 0u; goto L9; }
+    else { v4 = v78; v5 = v79; goto L12; }
 }
 
-static u64 f84(u8 a0, u8 a1) {
+static void f87(address a0, address a1, address a2, u64 a3, address a4, u64 a5) {
+    u8 v6, v7, v8, v9, v12, v13, v14, v15, v17, v18, v19, v21, v23, v29, v31, v32;
+    u8 v34, v36, v41, v43, v44, v46, v50, v54, v56, v57, v58, v59, v60, v61, v63, v65;
+    u8 v67, v69, v78, v82, v84, v86, v88, v89, v93, v95, v97, v99;
+    address v10, v11, v16, v20, v22, v33, v35, v42, v45, v49, v62, v64, v66, v68, v74, v75;
+    address v76, v77, v79, v81, v83, v85, v87, v92, v94, v96, v98, v100, v102, v120, v121, v122;
+    address v123, v124, v125, v126, v127, v128, v129, v130;
+    u16 v24, v25, v26, v27, v30, v37, v38, v39, v40, v104, v105, v106, v107, v108, v109, v110;
+    u16 v111, v112, v113, v114, v115, v116, v117, v118, v119;
+    u64 v28, v47, v48, v51, v52, v53, v55, v70, v71, v72, v73, v80, v90, v91, v101, v103;
+    u64 block0[1];
+    u64 block1[3];
+    v10 = ADDRESS(block0);
+    v11 = ADDRESS(block1);
+    memory_set(v10, 0u, 3u);
+    v12 = a5 < 54u;
+    if (v12) { goto L6; }
+    else { goto L1; }
+L1:;
+    v13 = load8(a4);
+    v14 = (u8)((u32)v13 & (u32)15u);
+    v15 = v14 == 13u;
+    if (v15) { goto L2; }
+    else { goto L6; }
+L2:;
+    v16 = a4 + 1u * 1u;
+    v17 = load8(v16);
+    v18 = (u8)((u32)v17 & (u32)15u);
+    v19 = v18 == 2u;
+    if (v19) { goto L3; }
+    else { goto L6; }
+L3:;
+    v20 = a4 + 2u * 1u;
+    v21 = load8(v20);
+    v22 = a4 + 3u * 1u;
+    v23 = load8(v22);
+    v24 = (u16)v21;
+    v25 = (u16)((u32)v24 << (8u & 15u));
+    v26 = (u16)v23;
+    v27 = (u16)((u32)v25 | (u32)v26);
+    v28 = (u64)v27;
+    v29 = a5 < v28;
+    v30 = (u16)((u32)v27 + (u32)64063u);
+    v31 = v30 < 64117u;
+    v32 = (u8)(((u32)v31 | (u32)v29) & UINT64_C(1));
+    if (v32) { goto L6; }
+    else { goto L4; }
+L4:;
+    v33 = a4 + 48u * 1u;
+    v34 = load8(v33);
+    v35 = a4 + 49u * 1u;
+    v36 = load8(v35);
+    v37 = (u16)v34;
+    v38 = (u16)((u32)v37 << (8u & 15u));
+    v39 = (u16)v36;
+    v40 = (u16)((u32)v38 | (u32)v39);
+    v41 = v40 == 1u;
+    if (v41) { goto L5; }
+    else { goto L6; }
+L5:;
+    v42 = a4 + 46u * 1u;
+    v43 = load8(v42);
+    v44 = (u8)((u32)v43 & (u32)15u);
+    v45 = a4 + 50u * 1u;
+    v46 = load8(v45);
+    v47 = (u64)v46;
+    v48 = (u64)((u64)v47 << (8u & 63u));
+    v49 = a4 + 51u * 1u;
+    v50 = load8(v49);
+    v51 = (u64)v50;
+    v52 = (u64)((u64)v48 | (u64)v51);
+    v53 = (u64)((u64)v52 + (u64)52u);
+    v54 = v53 == v28;
+    v55 = (u64)((u64)v28 & (u64)1u);
+    v56 = v55 == 0u;
+    v57 = (u8)(((u32)v56 & (u32)v54) & UINT64_C(1));
+    v58 = v44 < 5u;
+    v59 = v57 ? v58 : 0u;
+    if (v59) { v6 = v23; v7 = v21; v8 = v44; v9 = 0u; goto L8; }
+    else { goto L6; }
+L6:;
+    f8(v10, a4, a5);
+    v60 = load8(v10);
+    v61 = v60 == 0u;
+    if (v61) { goto L7; }
+    else { goto L10; }
+L7:;
+    v62 = v10 + 1u * 1u;
+    v63 = load8(v62);
+    v64 = v10 + 2u * 1u;
+    v65 = load8(v64);
+    v66 = a4 + 2u * 1u;
+    v67 = load8(v66);
+    v68 = a4 + 3u * 1u;
+    v69 = load8(v68);
+    v6 = v69; v7 = v67; v8 = v63; v9 = v65; goto L8;
+L8:;
+    v70 = (u64)v7;
+    v71 = (u64)((u64)v70 << (8u & 63u));
+    v72 = (u64)v6;
+    v73 = (u64)((u64)v71 | (u64)v72);
+    store_address(v11, a4);
+    v74 = v11 + 8u * 1u;
+    store64(v74, v73);
+    v75 = v11 + 16u * 1u;
+    store8(v75, v8);
+    v76 = v11 + 17u * 1u;
+    store8(v76, v9);
+    v77 = v11 + 18u * 1u;
+    memory_set(v77, 0u, 6u);
+    v78 = f65(a1, a2, a3, v11);
+    if (v78) { goto L12; }
+    else { goto L11; }
+L9:;
+    return;
+L10:;
+    memory_set(a0, 0u, 48u);
+    goto L9;
+L11:;
+    memory_set(a0, 0u, 48u);
+    goto L9;
+L12:;
+    v79 = a4 + 20u * 1u;
+    v80 = load64(v79);
+    v81 = a4 + 28u * 1u;
+    v82 = load8(v81);
+    v83 = a4 + 29u * 1u;
+    v84 = load8(v83);
+    v85 = a4 + 30u * 1u;
+    v86 = load8(v85);
+    v87 = a4 + 31u * 1u;
+    v88 = load8(v87);
+    v89 = v9 == 0u;
+    v90 = v89 ? 52u : 54u;
+    v91 = v89 ? 53u : 55u;
+    v92 = a4 + v90 * 1u;
+    v93 = load8(v92);
+    v94 = a4 + v91 * 1u;
+    v95 = load8(v94);
+    v96 = a4 + 42u * 1u;
+    v97 = load8(v96);
+    v98 = a4 + 43u * 1u;
+    v99 = load8(v98);
+    v100 = a4 + 54u * 1u;
+    v101 = (u64)((u64)v73 + (u64)UINT64_C(18446744073709551562));
+    v102 = v89 ? v100 : ADDRESS(c155);
+    v103 = v89 ? v101 : 0u;
+    v104 = (u16)v86;
+    v105 = (u16)((u32)v104 << (8u & 15u));
+    v106 = (u16)v88;
+    v107 = (u16)((u32)v105 | (u32)v106);
+    v108 = (u16)v82;
+    v109 = (u16)((u32)v108 << (8u & 15u));
+    v110 = (u16)v84;
+    v111 = (u16)((u32)v109 | (u32)v110);
+    v112 = (u16)v97;
+    v113 = (u16)((u32)v112 << (8u & 15u));
+    v114 = (u16)v99;
+    v115 = (u16)((u32)v113 | (u32)v114);
+    v116 = (u16)v93;
+    v117 = (u16)((u32)v116 << (8u & 15u));
+    v118 = (u16)v95;
+    v119 = (u16)((u32)v117 | (u32)v118);
+    store64(a0, 1u);
+    v120 = a0 + 8u * 1u;
+    store64(v120, v80);
+    v121 = a0 + 16u * 1u;
+    store16(v121, v111);
+    v122 = a0 + 18u * 1u;
+    store16(v122, v107);
+    v123 = a0 + 20u * 1u;
+    store32(v123, 0u);
+    v124 = a0 + 24u * 1u;
+    store8(v124, v8);
+    v125 = a0 + 25u * 1u;
+    store8(v125, 0u);
+    v126 = a0 + 26u * 1u;
+    store16(v126, v119);
+    v127 = a0 + 28u * 1u;
+    store16(v127, v115);
+    v128 = a0 + 30u * 1u;
+    store16(v128, 0u);
+    v129 = a0 + 32u * 1u;
+    store_address(v129, v102);
+    v130 = a0 + 40u * 1u;
+    store64(v130, v103);
+    goto L9;
+}
+
+static u64 f88(u8 a0, u8 a1) {
     u64 v2, v4, v5, v6, v12, v17, v18, v19, v20;
     address v3, v7, v8, v9, v10, v13, v15;
     u8 v11, v14, v16;
     switch (a0) {
-    case 1u: v2 = 6u; v3 = ADDRESS(c157); goto L15;
+    case 1u: v2 = 6u; v3 = ADDRESS(c163); goto L15;
     case 2u: goto L1;
     case 3u: goto L2;
     case 4u: goto L3;
@@ -18896,34 +20371,34 @@ static u64 f84(u8 a0, u8 a1) {
     default: goto L13;
     }
 L1:;
-    v2 = 60u; v3 = ADDRESS(c158); goto L15;
+    v2 = 60u; v3 = ADDRESS(c164); goto L15;
 L2:;
-    v2 = 18u; v3 = ADDRESS(c159); goto L15;
+    v2 = 18u; v3 = ADDRESS(c165); goto L15;
 L3:;
-    v2 = 60u; v3 = ADDRESS(c160); goto L15;
+    v2 = 60u; v3 = ADDRESS(c166); goto L15;
 L4:;
-    v2 = 48u; v3 = ADDRESS(c161); goto L15;
+    v2 = 48u; v3 = ADDRESS(c167); goto L15;
 L5:;
-    v2 = 60u; v3 = ADDRESS(c162); goto L15;
+    v2 = 60u; v3 = ADDRESS(c168); goto L15;
 L6:;
-    v2 = 6u; v3 = ADDRESS(c163); goto L15;
+    v2 = 6u; v3 = ADDRESS(c169); goto L15;
 L7:;
-    v2 = 6u; v3 = ADDRESS(c164); goto L15;
+    v2 = 6u; v3 = ADDRESS(c170); goto L15;
 L8:;
-    v2 = 6u; v3 = ADDRESS(c165); goto L15;
+    v2 = 6u; v3 = ADDRESS(c171); goto L15;
 L9:;
-    v2 = 6u; v3 = ADDRESS(c166); goto L15;
-L10:;
     v2 = 6u; v3 = ADDRESS(c172); goto L15;
+L10:;
+    v2 = 6u; v3 = ADDRESS(c178); goto L15;
 L11:;
-    v2 = 6u; v3 = ADDRESS(c173); goto L15;
+    v2 = 6u; v3 = ADDRESS(c179); goto L15;
 L12:;
-    v2 = 24u; v3 = ADDRESS(c174); goto L15;
+    v2 = 24u; v3 = ADDRESS(c180); goto L15;
 L13:;
     UNREACHABLE;
 L14:;
     v6 = (u64)a1;
-    v7 = ADDRESS(c361) + v6 * 8u;
+    v7 = ADDRESS(c367) + v6 * 8u;
     v8 = load_address(v7);
     v2 = 6u; v3 = v8; goto L15;
 L15:;
@@ -18973,7 +20448,7 @@ L22:;
     return v20;
 }
 
-static void f85(address a0, address a1, address a2, u64 a3, address a4) {
+static void f89(address a0, address a1, address a2, u64 a3, address a4) {
     u64 v5, v7, v10, v11, v13, v14, v16, v20, v21, v22, v79, v82, v88, v89, v90, v91;
     u64 v93, v95, v98, v99, v102, v302, v316, v317, v324, v325;
     address v6, v28, v29, v30, v31, v33, v35, v37, v39, v41, v44, v49, v52, v53, v80, v81;
@@ -19120,7 +20595,7 @@ L13:;
     else { goto L21; }
 L14:;
     memory_set(v28, 0u, 24u);
-    f28(v28, v29, v13);
+    f27(v28, v29, v13);
     v85 = load8(v28);
     v86 = v85 == 0u;
     if (v86) { goto L15; }
@@ -19138,7 +20613,7 @@ L15:;
     if (v94) { v14 = v91; goto L17; }
     else { goto L16; }
 L16:;
-    f31(a4, v91);
+    f30(a4, v91);
     v95 = load64(v92);
     v14 = v95; goto L17;
 L17:;
@@ -19181,7 +20656,7 @@ L24:;
     default: v23 = v34; v24 = 3u; v25 = 1u; v26 = v32; v27 = v36; goto L71;
     }
 L25:;
-    v107 = f86(127u, a2, a3);
+    v107 = f90(127u, a2, a3);
     v108 = v107.m0;
     v109 = (u8)((v108) & UINT64_C(1));
     if (v109) { goto L26; }
@@ -19191,7 +20666,7 @@ L26:;
     v111 = (u8)(v110);
     v18 = 0u; v19 = v111; v20 = 1u; goto L66;
 L27:;
-    v112 = f86(32767u, a2, a3);
+    v112 = f90(32767u, a2, a3);
     v113 = v112.m0;
     v114 = (u8)((v113) & UINT64_C(1));
     if (v114) { goto L28; }
@@ -19204,7 +20679,7 @@ L28:;
     v119 = (u8)(v118);
     v18 = v119; v19 = v117; v20 = 2u; goto L66;
 L29:;
-    v120 = f87(a2, a3);
+    v120 = f91(a2, a3);
     v121 = v120.m0;
     v122 = (u8)((v121) & UINT64_C(1));
     if (v122) { goto L30; }
@@ -19215,7 +20690,7 @@ L30:;
     v125 = v124 ? v42 : 0u;
     v18 = 0u; v19 = v125; v20 = 1u; goto L66;
 L31:;
-    v126 = f87(a2, a3);
+    v126 = f91(a2, a3);
     v127 = v126.m0;
     v128 = (u8)((v127) & UINT64_C(1));
     if (v128) { goto L32; }
@@ -19225,7 +20700,7 @@ L32:;
     v130 = (u8)((u32)v129 & (u32)1u);
     v18 = 0u; v19 = v130; v20 = 1u; goto L66;
 L33:;
-    v131 = f89(a2, a3);
+    v131 = f93(a2, a3);
     v132 = v131.m0;
     v133 = v132 == 1u;
     v134 = v131.m1;
@@ -19471,7 +20946,7 @@ L58:;
 L59:;
     v289 = a2 + v16 * 1u;
     v290 = load8(v289);
-    v291 = ADDRESS(c193) + v16 * 1u;
+    v291 = ADDRESS(c199) + v16 * 1u;
     v292 = load8(v291);
     v293 = (u8)((u32)v290 + (u32)191u);
     v294 = v293 < 26u;
@@ -19490,7 +20965,7 @@ L60:;
     if (v303) { v15 = 254u; goto L39; }
     else { v16 = v302; goto L59; }
 L61:;
-    v304 = f89(a2, a3);
+    v304 = f93(a2, a3);
     v17 = v304; goto L62;
 L62:;
     v305 = v17.m0;
@@ -19501,7 +20976,7 @@ L63:;
     v307 = v17.m1;
     v18 = 0u; v19 = v307; v20 = 1u; goto L66;
 L64:;
-    v308 = f89(a2, a3);
+    v308 = f93(a2, a3);
     v309 = v308.m0;
     v310 = v309 == 1u;
     if (v310) { goto L65; }
@@ -19554,7 +21029,7 @@ L71:;
     return;
 }
 
-static struct s4 f86(u16 a0, address a1, u64 a2) {
+static struct s4 f90(u16 a0, address a1, u64 a2) {
     u64 v3, v5, v6, v7, v8, v48, v50, v60, v62, v63, v65, v66, v71, v79, v81, v82;
     u64 v84, v85;
     u32 v4, v15, v20, v22, v23, v24, v28, v30, v31, v32, v33, v34, v38, v39, v40, v41;
@@ -19708,7 +21183,7 @@ L21:;
     return v93;
 }
 
-static struct s1 f87(address a0, u64 a1) {
+static struct s1 f91(address a0, u64 a1) {
     u64 v2, v3, v4, v34, v58, v60, v61, v63, v64;
     u8 v5, v6, v8, v9, v10, v11, v12, v13, v15, v16, v17, v18, v19, v20, v22, v23;
     u8 v24, v25, v26, v27, v28, v29, v30, v31, v32, v33, v35, v37, v39, v40, v41, v42;
@@ -19769,7 +21244,7 @@ L5:;
 L6:;
     v36 = a0 + v2 * 1u;
     v37 = load8(v36);
-    v38 = ADDRESS(c176) + v2 * 1u;
+    v38 = ADDRESS(c182) + v2 * 1u;
     v39 = load8(v38);
     v40 = (u8)((u32)v37 + (u32)191u);
     v41 = v40 < 26u;
@@ -19830,7 +21305,7 @@ L14:;
     return v70;
 }
 
-static void f88(address a0, u8 a1, u8 a2) {
+static void f92(address a0, u8 a1, u8 a2) {
     u64 v3, v5, v9, v12, v14, v18, v20, v21, v24, v26, v27, v30, v32;
     address v4, v10, v11, v13, v19, v22, v23, v25, v28, v29, v31, v33, v34;
     u8 v6, v7, v8, v15, v16, v17;
@@ -19849,10 +21324,10 @@ L1:;
 L2:;
     v8 = (u8)((u32)a2 + (u32)255u);
     v9 = (u64)v8;
-    v10 = ADDRESS(c345) + v9 * 8u;
+    v10 = ADDRESS(c351) + v9 * 8u;
     v11 = load_address(v10);
     v12 = (u64)v8;
-    v13 = ADDRESS(c346) + v12 * 8u;
+    v13 = ADDRESS(c352) + v12 * 8u;
     v14 = load64(v13);
     v3 = 1u; v4 = v11; v5 = v14; goto L17;
 L3:;
@@ -19862,7 +21337,7 @@ L3:;
     else { v3 = 0u; v4 = 0u; v5 = 0u; goto L17; }
 L4:;
     switch (a2) {
-    case 16u: v3 = 1u; v4 = ADDRESS(c194); v5 = 12u; goto L17;
+    case 16u: v3 = 1u; v4 = ADDRESS(c200); v5 = 12u; goto L17;
     case 32u: goto L5;
     case 48u: goto L6;
     case 57u: goto L7;
@@ -19874,21 +21349,21 @@ L4:;
     default: goto L13;
     }
 L5:;
-    v3 = 1u; v4 = ADDRESS(c195); v5 = 4u; goto L17;
+    v3 = 1u; v4 = ADDRESS(c201); v5 = 4u; goto L17;
 L6:;
-    v3 = 1u; v4 = ADDRESS(c196); v5 = 17u; goto L17;
+    v3 = 1u; v4 = ADDRESS(c202); v5 = 17u; goto L17;
 L7:;
-    v3 = 1u; v4 = ADDRESS(c197); v5 = 16u; goto L17;
+    v3 = 1u; v4 = ADDRESS(c203); v5 = 16u; goto L17;
 L8:;
-    v3 = 1u; v4 = ADDRESS(c198); v5 = 3u; goto L17;
+    v3 = 1u; v4 = ADDRESS(c204); v5 = 3u; goto L17;
 L9:;
-    v3 = 1u; v4 = ADDRESS(c199); v5 = 3u; goto L17;
+    v3 = 1u; v4 = ADDRESS(c205); v5 = 3u; goto L17;
 L10:;
-    v3 = 1u; v4 = ADDRESS(c200); v5 = 8u; goto L17;
+    v3 = 1u; v4 = ADDRESS(c206); v5 = 8u; goto L17;
 L11:;
-    v3 = 1u; v4 = ADDRESS(c201); v5 = 5u; goto L17;
+    v3 = 1u; v4 = ADDRESS(c207); v5 = 5u; goto L17;
 L12:;
-    v3 = 1u; v4 = ADDRESS(c202); v5 = 19u; goto L17;
+    v3 = 1u; v4 = ADDRESS(c208); v5 = 19u; goto L17;
 L13:;
     v3 = 0u; v4 = 0u; v5 = 0u; goto L17;
 L14:;
@@ -19897,21 +21372,21 @@ L14:;
     else { v3 = 0u; v4 = 0u; v5 = 0u; goto L17; }
 L15:;
     v18 = (u64)v15;
-    v19 = ADDRESS(c347) + v18 * 8u;
+    v19 = ADDRESS(c353) + v18 * 8u;
     v20 = load64(v19);
     v21 = (u64)v15;
-    v22 = ADDRESS(c348) + v21 * 8u;
+    v22 = ADDRESS(c354) + v21 * 8u;
     v23 = load_address(v22);
     v24 = (u64)v15;
-    v25 = ADDRESS(c349) + v24 * 8u;
+    v25 = ADDRESS(c355) + v24 * 8u;
     v26 = load64(v25);
     v3 = v20; v4 = v23; v5 = v26; goto L17;
 L16:;
     v27 = (u64)a2;
-    v28 = ADDRESS(c350) + v27 * 8u;
+    v28 = ADDRESS(c356) + v27 * 8u;
     v29 = load_address(v28);
     v30 = (u64)a2;
-    v31 = ADDRESS(c351) + v30 * 8u;
+    v31 = ADDRESS(c357) + v30 * 8u;
     v32 = load64(v31);
     v3 = 1u; v4 = v29; v5 = v32; goto L17;
 L17:;
@@ -19925,7 +21400,7 @@ L18:;
     UNREACHABLE;
 }
 
-static struct s1 f89(address a0, u64 a1) {
+static struct s1 f93(address a0, u64 a1) {
     u8 v2, v3, v4, v7, v8, v9, v10, v11, v12, v13, v15, v16, v18, v20, v21, v22;
     u8 v23, v24, v25, v26, v27, v28, v29, v30, v31, v32, v33, v34, v35, v36, v37, v38;
     u8 v39, v40, v41, v42, v43, v44, v45, v47, v48, v49, v50, v51, v53, v56, v60, v61;
@@ -20053,7 +21528,7 @@ L20:;
     return v67;
 }
 
-static struct s5 f90(address a0) {
+static struct s5 f94(address a0) {
     u64 v1, v10;
     address v2, v4, v6, v9;
     u8 v3, v5, v7;
@@ -20061,7 +21536,7 @@ static struct s5 f90(address a0) {
     v3 = load8(a0);
     switch (v3) {
     case 0u: goto L1;
-    case 1u: v1 = 11u; v2 = ADDRESS(c208); goto L53;
+    case 1u: v1 = 11u; v2 = ADDRESS(c214); goto L53;
     case 2u: goto L2;
     case 3u: goto L3;
     case 4u: goto L4;
@@ -20120,112 +21595,112 @@ L1:;
     v5 = load8(v4);
     v6 = a0 + 1u * 1u;
     v7 = load8(v6);
-    v8 = f91(v7, v5);
+    v8 = f95(v7, v5);
     v9 = v8.m0;
     v10 = v8.m1;
     v1 = v10; v2 = v9; goto L53;
 L2:;
-    v1 = 9u; v2 = ADDRESS(c209); goto L53;
+    v1 = 9u; v2 = ADDRESS(c215); goto L53;
 L3:;
-    v1 = 12u; v2 = ADDRESS(c210); goto L53;
+    v1 = 12u; v2 = ADDRESS(c216); goto L53;
 L4:;
-    v1 = 13u; v2 = ADDRESS(c211); goto L53;
+    v1 = 13u; v2 = ADDRESS(c217); goto L53;
 L5:;
-    v1 = 13u; v2 = ADDRESS(c212); goto L53;
+    v1 = 13u; v2 = ADDRESS(c218); goto L53;
 L6:;
-    v1 = 12u; v2 = ADDRESS(c213); goto L53;
+    v1 = 12u; v2 = ADDRESS(c219); goto L53;
 L7:;
-    v1 = 23u; v2 = ADDRESS(c214); goto L53;
+    v1 = 23u; v2 = ADDRESS(c220); goto L53;
 L8:;
-    v1 = 5u; v2 = ADDRESS(c215); goto L53;
+    v1 = 5u; v2 = ADDRESS(c221); goto L53;
 L9:;
-    v1 = 9u; v2 = ADDRESS(c216); goto L53;
+    v1 = 9u; v2 = ADDRESS(c222); goto L53;
 L10:;
-    v1 = 21u; v2 = ADDRESS(c217); goto L53;
+    v1 = 21u; v2 = ADDRESS(c223); goto L53;
 L11:;
-    v1 = 15u; v2 = ADDRESS(c218); goto L53;
-L12:;
-    v1 = 15u; v2 = ADDRESS(c219); goto L53;
-L13:;
-    v1 = 12u; v2 = ADDRESS(c220); goto L53;
-L14:;
-    v1 = 20u; v2 = ADDRESS(c221); goto L53;
-L15:;
-    v1 = 18u; v2 = ADDRESS(c222); goto L53;
-L16:;
-    v1 = 12u; v2 = ADDRESS(c223); goto L53;
-L17:;
     v1 = 15u; v2 = ADDRESS(c224); goto L53;
-L18:;
-    v1 = 12u; v2 = ADDRESS(c225); goto L53;
-L19:;
-    v1 = 16u; v2 = ADDRESS(c226); goto L53;
-L20:;
-    v1 = 12u; v2 = ADDRESS(c227); goto L53;
-L21:;
-    v1 = 13u; v2 = ADDRESS(c228); goto L53;
-L22:;
+L12:;
+    v1 = 15u; v2 = ADDRESS(c225); goto L53;
+L13:;
+    v1 = 12u; v2 = ADDRESS(c226); goto L53;
+L14:;
+    v1 = 20u; v2 = ADDRESS(c227); goto L53;
+L15:;
+    v1 = 18u; v2 = ADDRESS(c228); goto L53;
+L16:;
     v1 = 12u; v2 = ADDRESS(c229); goto L53;
+L17:;
+    v1 = 15u; v2 = ADDRESS(c230); goto L53;
+L18:;
+    v1 = 12u; v2 = ADDRESS(c231); goto L53;
+L19:;
+    v1 = 16u; v2 = ADDRESS(c232); goto L53;
+L20:;
+    v1 = 12u; v2 = ADDRESS(c233); goto L53;
+L21:;
+    v1 = 13u; v2 = ADDRESS(c234); goto L53;
+L22:;
+    v1 = 12u; v2 = ADDRESS(c235); goto L53;
 L23:;
-    v1 = 26u; v2 = ADDRESS(c230); goto L53;
+    v1 = 26u; v2 = ADDRESS(c236); goto L53;
 L24:;
-    v1 = 23u; v2 = ADDRESS(c231); goto L53;
+    v1 = 23u; v2 = ADDRESS(c237); goto L53;
 L25:;
-    v1 = 19u; v2 = ADDRESS(c232); goto L53;
+    v1 = 19u; v2 = ADDRESS(c238); goto L53;
 L26:;
-    v1 = 17u; v2 = ADDRESS(c233); goto L53;
+    v1 = 17u; v2 = ADDRESS(c239); goto L53;
 L27:;
-    v1 = 9u; v2 = ADDRESS(c234); goto L53;
+    v1 = 9u; v2 = ADDRESS(c240); goto L53;
 L28:;
-    v1 = 10u; v2 = ADDRESS(c235); goto L53;
+    v1 = 10u; v2 = ADDRESS(c241); goto L53;
 L29:;
-    v1 = 23u; v2 = ADDRESS(c236); goto L53;
+    v1 = 23u; v2 = ADDRESS(c242); goto L53;
 L30:;
-    v1 = 9u; v2 = ADDRESS(c237); goto L53;
+    v1 = 9u; v2 = ADDRESS(c243); goto L53;
 L31:;
-    v1 = 12u; v2 = ADDRESS(c238); goto L53;
-L32:;
-    v1 = 9u; v2 = ADDRESS(c239); goto L53;
-L33:;
-    v1 = 7u; v2 = ADDRESS(c240); goto L53;
-L34:;
-    v1 = 12u; v2 = ADDRESS(c241); goto L53;
-L35:;
-    v1 = 13u; v2 = ADDRESS(c242); goto L53;
-L36:;
-    v1 = 14u; v2 = ADDRESS(c243); goto L53;
-L37:;
     v1 = 12u; v2 = ADDRESS(c244); goto L53;
+L32:;
+    v1 = 9u; v2 = ADDRESS(c245); goto L53;
+L33:;
+    v1 = 7u; v2 = ADDRESS(c246); goto L53;
+L34:;
+    v1 = 12u; v2 = ADDRESS(c247); goto L53;
+L35:;
+    v1 = 13u; v2 = ADDRESS(c248); goto L53;
+L36:;
+    v1 = 14u; v2 = ADDRESS(c249); goto L53;
+L37:;
+    v1 = 12u; v2 = ADDRESS(c250); goto L53;
 L38:;
-    v1 = 13u; v2 = ADDRESS(c245); goto L53;
+    v1 = 13u; v2 = ADDRESS(c251); goto L53;
 L39:;
-    v1 = 24u; v2 = ADDRESS(c246); goto L53;
+    v1 = 24u; v2 = ADDRESS(c252); goto L53;
 L40:;
-    v1 = 11u; v2 = ADDRESS(c247); goto L53;
+    v1 = 11u; v2 = ADDRESS(c253); goto L53;
 L41:;
-    v1 = 12u; v2 = ADDRESS(c248); goto L53;
-L42:;
-    v1 = 13u; v2 = ADDRESS(c249); goto L53;
-L43:;
-    v1 = 7u; v2 = ADDRESS(c250); goto L53;
-L44:;
-    v1 = 12u; v2 = ADDRESS(c251); goto L53;
-L45:;
-    v1 = 13u; v2 = ADDRESS(c252); goto L53;
-L46:;
-    v1 = 14u; v2 = ADDRESS(c253); goto L53;
-L47:;
     v1 = 12u; v2 = ADDRESS(c254); goto L53;
-L48:;
+L42:;
     v1 = 13u; v2 = ADDRESS(c255); goto L53;
+L43:;
+    v1 = 7u; v2 = ADDRESS(c256); goto L53;
+L44:;
+    v1 = 12u; v2 = ADDRESS(c257); goto L53;
+L45:;
+    v1 = 13u; v2 = ADDRESS(c258); goto L53;
+L46:;
+    v1 = 14u; v2 = ADDRESS(c259); goto L53;
+L47:;
+    v1 = 12u; v2 = ADDRESS(c260); goto L53;
+L48:;
+    v1 = 13u; v2 = ADDRESS(c261); goto L53;
 L49:;
-    v1 = 24u; v2 = ADDRESS(c256); goto L53;
+    v1 = 24u; v2 = ADDRESS(c262); goto L53;
 L50:;
-    v1 = 11u; v2 = ADDRESS(c257); goto L53;
+    v1 = 11u; v2 = ADDRESS(c263); goto L53;
 L51:;
-    v1 = 12u; v2 = ADDRESS(c258); goto L53;
+    v1 = 12u; v2 = ADDRESS(c264); goto L53;
 L52:;
-    v1 = 13u; v2 = ADDRESS(c259); goto L53;
+    v1 = 13u; v2 = ADDRESS(c265); goto L53;
 L53:;
     v11 = (struct s5){ 0 };
     v11.m0 = v2;
@@ -20236,12 +21711,12 @@ L54:;
     UNREACHABLE;
 }
 
-static struct s5 f91(u8 a0, u8 a1) {
+static struct s5 f95(u8 a0, u8 a1) {
     u64 v2, v4, v6, v7;
     address v3, v5, v8, v9;
     struct s5 v10, v11;
     switch (a0) {
-    case 0u: v2 = 13u; v3 = ADDRESS(c260); goto L34;
+    case 0u: v2 = 13u; v3 = ADDRESS(c266); goto L34;
     case 1u: goto L1;
     case 2u: goto L2;
     case 3u: goto L3;
@@ -20278,75 +21753,75 @@ static struct s5 f91(u8 a0, u8 a1) {
     default: goto L35;
     }
 L1:;
-    v2 = 12u; v3 = ADDRESS(c261); goto L34;
+    v2 = 12u; v3 = ADDRESS(c267); goto L34;
 L2:;
-    v2 = 15u; v3 = ADDRESS(c262); goto L34;
+    v2 = 15u; v3 = ADDRESS(c268); goto L34;
 L3:;
-    v2 = 11u; v3 = ADDRESS(c263); goto L34;
+    v2 = 11u; v3 = ADDRESS(c269); goto L34;
 L4:;
-    v2 = 9u; v3 = ADDRESS(c264); goto L34;
+    v2 = 9u; v3 = ADDRESS(c270); goto L34;
 L5:;
-    v2 = 23u; v3 = ADDRESS(c265); goto L34;
+    v2 = 23u; v3 = ADDRESS(c271); goto L34;
 L6:;
-    v2 = 26u; v3 = ADDRESS(c266); goto L34;
+    v2 = 26u; v3 = ADDRESS(c272); goto L34;
 L7:;
-    v2 = 36u; v3 = ADDRESS(c267); goto L34;
+    v2 = 36u; v3 = ADDRESS(c273); goto L34;
 L8:;
-    v2 = 9u; v3 = ADDRESS(c268); goto L34;
+    v2 = 9u; v3 = ADDRESS(c274); goto L34;
 L9:;
-    v2 = 12u; v3 = ADDRESS(c269); goto L34;
+    v2 = 12u; v3 = ADDRESS(c275); goto L34;
 L10:;
-    v2 = 16u; v3 = ADDRESS(c270); goto L34;
+    v2 = 16u; v3 = ADDRESS(c276); goto L34;
 L11:;
-    v2 = 9u; v3 = ADDRESS(c271); goto L34;
+    v2 = 9u; v3 = ADDRESS(c277); goto L34;
 L12:;
-    v2 = 18u; v3 = ADDRESS(c272); goto L34;
+    v2 = 18u; v3 = ADDRESS(c278); goto L34;
 L13:;
-    v2 = 11u; v3 = ADDRESS(c273); goto L34;
+    v2 = 11u; v3 = ADDRESS(c279); goto L34;
 L14:;
-    v2 = 37u; v3 = ADDRESS(c274); goto L34;
+    v2 = 37u; v3 = ADDRESS(c280); goto L34;
 L15:;
-    v2 = 34u; v3 = ADDRESS(c275); goto L34;
+    v2 = 34u; v3 = ADDRESS(c281); goto L34;
 L16:;
-    v2 = 20u; v3 = ADDRESS(c276); goto L34;
+    v2 = 20u; v3 = ADDRESS(c282); goto L34;
 L17:;
-    v2 = 34u; v3 = ADDRESS(c277); goto L34;
+    v2 = 34u; v3 = ADDRESS(c283); goto L34;
 L18:;
-    v2 = 37u; v3 = ADDRESS(c278); goto L34;
+    v2 = 37u; v3 = ADDRESS(c284); goto L34;
 L19:;
-    v2 = 47u; v3 = ADDRESS(c279); goto L34;
+    v2 = 47u; v3 = ADDRESS(c285); goto L34;
 L20:;
-    v2 = 20u; v3 = ADDRESS(c280); goto L34;
+    v2 = 20u; v3 = ADDRESS(c286); goto L34;
 L21:;
-    v2 = 19u; v3 = ADDRESS(c281); goto L34;
+    v2 = 19u; v3 = ADDRESS(c287); goto L34;
 L22:;
-    v2 = 16u; v3 = ADDRESS(c282); goto L34;
+    v2 = 16u; v3 = ADDRESS(c288); goto L34;
 L23:;
-    v2 = 6u; v3 = ADDRESS(c283); goto L34;
+    v2 = 6u; v3 = ADDRESS(c289); goto L34;
 L24:;
-    v2 = 6u; v3 = ADDRESS(c284); goto L34;
+    v2 = 6u; v3 = ADDRESS(c290); goto L34;
 L25:;
-    v2 = 21u; v3 = ADDRESS(c285); goto L34;
+    v2 = 21u; v3 = ADDRESS(c291); goto L34;
 L26:;
-    v2 = 12u; v3 = ADDRESS(c286); goto L34;
+    v2 = 12u; v3 = ADDRESS(c292); goto L34;
 L27:;
-    v2 = 13u; v3 = ADDRESS(c287); goto L34;
+    v2 = 13u; v3 = ADDRESS(c293); goto L34;
 L28:;
-    v2 = 18u; v3 = ADDRESS(c288); goto L34;
+    v2 = 18u; v3 = ADDRESS(c294); goto L34;
 L29:;
-    v2 = 10u; v3 = ADDRESS(c289); goto L34;
+    v2 = 10u; v3 = ADDRESS(c295); goto L34;
 L30:;
-    v2 = 9u; v3 = ADDRESS(c290); goto L34;
+    v2 = 9u; v3 = ADDRESS(c296); goto L34;
 L31:;
-    v2 = 22u; v3 = ADDRESS(c291); goto L34;
+    v2 = 22u; v3 = ADDRESS(c297); goto L34;
 L32:;
-    v2 = 13u; v3 = ADDRESS(c292); goto L34;
+    v2 = 13u; v3 = ADDRESS(c298); goto L34;
 L33:;
     v4 = (u64)a1;
-    v5 = ADDRESS(c352) + v4 * 8u;
+    v5 = ADDRESS(c358) + v4 * 8u;
     v6 = load64(v5);
     v7 = (u64)a1;
-    v8 = ADDRESS(c353) + v7 * 8u;
+    v8 = ADDRESS(c359) + v7 * 8u;
     v9 = load_address(v8);
     v2 = v6; v3 = v9; goto L34;
 L34:;
@@ -20359,7 +21834,7 @@ L35:;
     UNREACHABLE;
 }
 
-static u64 f92(u16 a0, address a1) {
+static u64 f96(u16 a0, address a1) {
     u64 v2, v4, v12, v22;
     address v3, v6, v8, v13, v16, v19;
     u8 v5, v7, v9, v10, v11, v14, v15, v17, v18, v20, v21, v23;
@@ -20371,7 +21846,7 @@ static u64 f92(u16 a0, address a1) {
     switch (a0) {
     case 0u: goto L27;
     case 2u: goto L1;
-    case 8192u: v2 = 10u; v3 = ADDRESS(c158); goto L18;
+    case 8192u: v2 = 10u; v3 = ADDRESS(c164); goto L18;
     case 8193u: goto L3;
     case 8194u: goto L4;
     case 8195u: goto L5;
@@ -20393,39 +21868,39 @@ static u64 f92(u16 a0, address a1) {
     default: goto L19;
     }
 L1:;
-    v2 = 1u; v3 = ADDRESS(c157); goto L18;
-L2:;
-    v2 = 1u; v3 = ADDRESS(c167); goto L18;
-L3:;
-    v2 = 3u; v3 = ADDRESS(c159); goto L18;
-L4:;
-    v2 = 10u; v3 = ADDRESS(c160); goto L18;
-L5:;
-    v2 = 8u; v3 = ADDRESS(c161); goto L18;
-L6:;
-    v2 = 10u; v3 = ADDRESS(c162); goto L18;
-L7:;
     v2 = 1u; v3 = ADDRESS(c163); goto L18;
-L8:;
-    v2 = 1u; v3 = ADDRESS(c164); goto L18;
-L9:;
-    v2 = 1u; v3 = ADDRESS(c165); goto L18;
-L10:;
-    v2 = 1u; v3 = ADDRESS(c166); goto L18;
-L11:;
-    v2 = 1u; v3 = ADDRESS(c168); goto L18;
-L12:;
-    v2 = 1u; v3 = ADDRESS(c169); goto L18;
-L13:;
-    v2 = 1u; v3 = ADDRESS(c170); goto L18;
-L14:;
-    v2 = 1u; v3 = ADDRESS(c171); goto L18;
-L15:;
-    v2 = 1u; v3 = ADDRESS(c172); goto L18;
-L16:;
+L2:;
     v2 = 1u; v3 = ADDRESS(c173); goto L18;
+L3:;
+    v2 = 3u; v3 = ADDRESS(c165); goto L18;
+L4:;
+    v2 = 10u; v3 = ADDRESS(c166); goto L18;
+L5:;
+    v2 = 8u; v3 = ADDRESS(c167); goto L18;
+L6:;
+    v2 = 10u; v3 = ADDRESS(c168); goto L18;
+L7:;
+    v2 = 1u; v3 = ADDRESS(c169); goto L18;
+L8:;
+    v2 = 1u; v3 = ADDRESS(c170); goto L18;
+L9:;
+    v2 = 1u; v3 = ADDRESS(c171); goto L18;
+L10:;
+    v2 = 1u; v3 = ADDRESS(c172); goto L18;
+L11:;
+    v2 = 1u; v3 = ADDRESS(c174); goto L18;
+L12:;
+    v2 = 1u; v3 = ADDRESS(c175); goto L18;
+L13:;
+    v2 = 1u; v3 = ADDRESS(c176); goto L18;
+L14:;
+    v2 = 1u; v3 = ADDRESS(c177); goto L18;
+L15:;
+    v2 = 1u; v3 = ADDRESS(c178); goto L18;
+L16:;
+    v2 = 1u; v3 = ADDRESS(c179); goto L18;
 L17:;
-    v2 = 4u; v3 = ADDRESS(c174); goto L18;
+    v2 = 4u; v3 = ADDRESS(c180); goto L18;
 L18:;
     v10 = v5 == 0u;
     v11 = v7 == 33u;
@@ -20470,7 +21945,7 @@ L27:;
     UNREACHABLE;
 }
 
-static void f93(u8 a0, u8 a1, address a2) {
+static void f97(u8 a0, u8 a1, address a2) {
     u64 v3, v4, v5, v6, v7, v14, v19, v21, v23, v27, v29, v30, v31, v36, v42, v44;
     u64 v46, v50, v52, v53, v56, v64, v66, v74;
     address v8, v11, v12, v13, v15, v18, v20, v26, v28, v33, v34, v38, v41, v43, v49, v51;
@@ -20480,7 +21955,7 @@ static void f93(u8 a0, u8 a1, address a2) {
     u64 block0[3];
     v8 = ADDRESS(block0);
     memory_set(v8, 0u, 24u);
-    f88(v8, a0, a1);
+    f92(v8, a0, a1);
     v9 = load8(v8);
     v10 = v9 == 1u;
     if (v10) { goto L1; }
@@ -20554,7 +22029,7 @@ L9:;
     v50 = (u64)((u64)v42 + (u64)2u);
     v51 = v49 + v42 * 1u;
     v52 = (u64)v51;
-    v53 = (u64)((u64)v52 - (u64)ADDRESS(c294));
+    v53 = (u64)((u64)v52 - (u64)ADDRESS(c300));
     v54 = v53 < 2u;
     if (v54) { goto L10; }
     else { goto L11; }
@@ -20610,7 +22085,7 @@ L18:;
     return;
 }
 
-static struct s5 f94(u16 a0, address a1, u64 a2) {
+static struct s5 f98(u16 a0, address a1, u64 a2) {
     u8 v3, v4, v9, v11, v12, v17, v22, v25, v27, v30, v31, v32, v33, v36, v38, v40;
     u8 v45, v48, v49, v51, v52;
     u64 v5, v6, v8, v10, v13, v14, v15, v16, v19, v21, v24, v26, v28, v29, v35, v37;
@@ -20649,11 +22124,11 @@ static struct s5 f94(u16 a0, address a1, u64 a2) {
     case 49154u: goto L42;
     case 49156u: goto L45;
     case 49157u: goto L48;
-    default: v7 = ADDRESS(c148); v8 = 0u; goto L53;
+    default: v7 = ADDRESS(c155); v8 = 0u; goto L53;
     }
 L1:;
     v9 = a2 == 0u;
-    if (v9) { v7 = ADDRESS(c148); v8 = 0u; goto L53; }
+    if (v9) { v7 = ADDRESS(c155); v8 = 0u; goto L53; }
     else { goto L22; }
 L2:;
     v3 = 2u; v4 = 0u; goto L21;
@@ -20694,10 +22169,10 @@ L19:;
 L20:;
     v3 = 11u; v4 = 4u; goto L21;
 L21:;
-    v10 = f84(v3, v4);
+    v10 = f88(v3, v4);
     v11 = a2 == v10;
     if (v11) { goto L23; }
-    else { v7 = ADDRESS(c148); v8 = 0u; goto L53; }
+    else { v7 = ADDRESS(c155); v8 = 0u; goto L53; }
 L22:;
     v12 = load8(a1);
     v13 = (u64)v12;
@@ -20705,12 +22180,12 @@ L22:;
     v15 = (u64)((u64)v14 & (u64)1u);
     v16 = (u64)((u64)v15 + (u64)v14);
     v17 = a2 == v16;
-    v18 = v17 ? ADDRESS(c157) : ADDRESS(c148);
+    v18 = v17 ? ADDRESS(c163) : ADDRESS(c155);
     v19 = (u64)v17;
     v7 = v18; v8 = v19; goto L53;
 L23:;
     switch (v3) {
-    case 1u: v7 = ADDRESS(c157); v8 = 1u; goto L53;
+    case 1u: v7 = ADDRESS(c163); v8 = 1u; goto L53;
     case 2u: goto L24;
     case 3u: goto L25;
     case 4u: goto L26;
@@ -20730,31 +22205,31 @@ L23:;
     default: goto L37;
     }
 L24:;
-    v7 = ADDRESS(c158); v8 = 10u; goto L53;
+    v7 = ADDRESS(c164); v8 = 10u; goto L53;
 L25:;
-    v7 = ADDRESS(c159); v8 = 3u; goto L53;
+    v7 = ADDRESS(c165); v8 = 3u; goto L53;
 L26:;
-    v7 = ADDRESS(c160); v8 = 10u; goto L53;
+    v7 = ADDRESS(c166); v8 = 10u; goto L53;
 L27:;
-    v7 = ADDRESS(c161); v8 = 8u; goto L53;
+    v7 = ADDRESS(c167); v8 = 8u; goto L53;
 L28:;
-    v7 = ADDRESS(c162); v8 = 10u; goto L53;
+    v7 = ADDRESS(c168); v8 = 10u; goto L53;
 L29:;
-    v7 = ADDRESS(c163); v8 = 1u; goto L53;
+    v7 = ADDRESS(c169); v8 = 1u; goto L53;
 L30:;
-    v7 = ADDRESS(c164); v8 = 1u; goto L53;
+    v7 = ADDRESS(c170); v8 = 1u; goto L53;
 L31:;
-    v7 = ADDRESS(c165); v8 = 1u; goto L53;
+    v7 = ADDRESS(c171); v8 = 1u; goto L53;
 L32:;
-    v7 = ADDRESS(c166); v8 = 1u; goto L53;
-L33:;
     v7 = ADDRESS(c172); v8 = 1u; goto L53;
+L33:;
+    v7 = ADDRESS(c178); v8 = 1u; goto L53;
 L34:;
-    v7 = ADDRESS(c173); v8 = 1u; goto L53;
+    v7 = ADDRESS(c179); v8 = 1u; goto L53;
 L35:;
-    v7 = ADDRESS(c174); v8 = 4u; goto L53;
+    v7 = ADDRESS(c180); v8 = 4u; goto L53;
 L36:;
-    v7 = ADDRESS(c148); v8 = 0u; goto L53;
+    v7 = ADDRESS(c155); v8 = 0u; goto L53;
 L37:;
     UNREACHABLE;
 L38:;
@@ -20768,10 +22243,10 @@ L41:;
 L42:;
     v5 = 6u; v6 = 8u; goto L49;
 L43:;
-    v20 = f95(a1, a2);
+    v20 = f99(a1, a2);
     v21 = v20.m1;
     v22 = v21 == 0u;
-    if (v22) { v7 = ADDRESS(c148); v8 = 0u; goto L53; }
+    if (v22) { v7 = ADDRESS(c155); v8 = 0u; goto L53; }
     else { goto L44; }
 L44:;
     v23 = v20.m0;
@@ -20785,17 +22260,17 @@ L44:;
     v31 = (u8)(((u32)v27 & (u32)v30) & UINT64_C(1));
     v32 = a2 > 1u;
     v33 = (u8)(((u32)v32 & (u32)v31) & UINT64_C(1));
-    v34 = v33 ? ADDRESS(c303) : ADDRESS(c148);
+    v34 = v33 ? ADDRESS(c309) : ADDRESS(c155);
     v35 = v33 ? 10u : 0u;
     v7 = v34; v8 = v35; goto L53;
 L45:;
     v36 = a2 > 11u;
     if (v36) { goto L46; }
-    else { v7 = ADDRESS(c148); v8 = 0u; goto L53; }
+    else { v7 = ADDRESS(c155); v8 = 0u; goto L53; }
 L46:;
     v37 = (u64)((u64)a2 + (u64)UINT64_C(18446744073709551604));
     v38 = v37 == 0u;
-    if (v38) { v7 = ADDRESS(c148); v8 = 0u; goto L53; }
+    if (v38) { v7 = ADDRESS(c155); v8 = 0u; goto L53; }
     else { goto L47; }
 L47:;
     v39 = a1 + 12u * 1u;
@@ -20805,7 +22280,7 @@ L47:;
     v43 = (u64)((u64)v42 & (u64)1u);
     v44 = (u64)((u64)v43 + (u64)v42);
     v45 = v37 == v44;
-    v46 = v45 ? ADDRESS(c311) : ADDRESS(c148);
+    v46 = v45 ? ADDRESS(c317) : ADDRESS(c155);
     v47 = v45 ? 4u : 0u;
     v7 = v46; v8 = v47; goto L53;
 L48:;
@@ -20813,24 +22288,24 @@ L48:;
 L49:;
     v48 = a2 == v6;
     if (v48) { goto L51; }
-    else { v7 = ADDRESS(c148); v8 = 0u; goto L53; }
+    else { v7 = ADDRESS(c155); v8 = 0u; goto L53; }
 L50:;
     v49 = a2 > 7u;
     v50 = (u64)((u64)a2 & (u64)7u);
     v51 = v50 == 0u;
     v52 = (u8)(((u32)v49 & (u32)v51) & UINT64_C(1));
-    v53 = v52 ? ADDRESS(c307) : ADDRESS(c148);
+    v53 = v52 ? ADDRESS(c313) : ADDRESS(c155);
     v54 = (u64)v52;
     v7 = v53; v8 = v54; goto L53;
 L51:;
-    v55 = ADDRESS(c354) + v5 * 8u;
+    v55 = ADDRESS(c360) + v5 * 8u;
     v56 = load_address(v55);
-    v57 = ADDRESS(c355) + v5 * 8u;
+    v57 = ADDRESS(c361) + v5 * 8u;
     v58 = load64(v57);
     v7 = v56; v8 = v58; goto L53;
 L52:;
     v59 = (u64)v4;
-    v60 = ADDRESS(c361) + v59 * 8u;
+    v60 = ADDRESS(c367) + v59 * 8u;
     v61 = load_address(v60);
     v7 = v61; v8 = 1u; goto L53;
 L53:;
@@ -20841,7 +22316,7 @@ L53:;
     return v63;
 }
 
-static struct s5 f95(address a0, u64 a1) {
+static struct s5 f99(address a0, u64 a1) {
     u64 v2, v3, v5, v7, v11, v13, v16, v20, v21, v23, v24, v26, v29, v31, v34, v36;
     u64 v40, v41, v43, v44, v47, v50, v52, v58, v60, v63, v66, v68, v71, v73;
     address v4, v6, v9, v10, v15, v18, v25, v28, v30, v33, v35, v38, v45, v46, v49, v51;
@@ -20850,7 +22325,7 @@ static struct s5 f95(address a0, u64 a1) {
     u8 v64, v67, v69;
     struct s5 v74, v75;
     v8 = a1 < 3u;
-    if (v8) { v2 = 0u; v3 = 0u; v4 = ADDRESS(c148); goto L4; }
+    if (v8) { v2 = 0u; v3 = 0u; v4 = ADDRESS(c155); goto L4; }
     else { goto L1; }
 L1:;
     v9 = a0 + 2u * 1u;
@@ -20861,11 +22336,11 @@ L1:;
     v14 = v11 < v13;
     v15 = v10 + v13 * 1u;
     v16 = v11 > v13 ? (u64)((u64)v11 - (u64)v13) : 0u;
-    if (v14) { v2 = 0u; v3 = 0u; v4 = ADDRESS(c148); goto L4; }
+    if (v14) { v2 = 0u; v3 = 0u; v4 = ADDRESS(c155); goto L4; }
     else { goto L2; }
 L2:;
     v17 = v16 < 2u;
-    if (v17) { v2 = 0u; v3 = v16; v4 = ADDRESS(c148); goto L4; }
+    if (v17) { v2 = 0u; v3 = v16; v4 = ADDRESS(c155); goto L4; }
     else { goto L3; }
 L3:;
     v18 = v15 + 1u * 1u;
@@ -20882,12 +22357,12 @@ L4:;
     v27 = v26 < v2;
     v28 = v4 + v2 * 1u;
     v29 = v26 > v2 ? (u64)((u64)v26 - (u64)v2) : 0u;
-    v30 = v27 ? ADDRESS(c148) : v28;
+    v30 = v27 ? ADDRESS(c155) : v28;
     v31 = v27 ? 0u : v29;
     v32 = v31 < 2u;
     v33 = v30 + 2u * 1u;
     v34 = v31 > 2u ? (u64)((u64)v31 - (u64)2u) : 0u;
-    v35 = v32 ? ADDRESS(c148) : v33;
+    v35 = v32 ? ADDRESS(c155) : v33;
     v36 = v32 ? 0u : v34;
     v37 = v36 < 2u;
     if (v37) { v5 = 0u; goto L6; }
@@ -20903,16 +22378,16 @@ L5:;
     v5 = v44; goto L6;
 L6:;
     v45 = v35 + 2u * 1u;
-    v46 = v37 ? ADDRESS(c148) : v45;
+    v46 = v37 ? ADDRESS(c155) : v45;
     v47 = v36 > 2u ? (u64)((u64)v36 - (u64)2u) : 0u;
     v48 = v47 < v5;
     v49 = v46 + v5 * 1u;
     v50 = v47 > v5 ? (u64)((u64)v47 - (u64)v5) : 0u;
-    v51 = v48 ? ADDRESS(c148) : v49;
+    v51 = v48 ? ADDRESS(c155) : v49;
     v52 = v48 ? 0u : v50;
     v53 = v52 < 4u;
     v54 = v51 + 4u * 1u;
-    v55 = v53 ? ADDRESS(c148) : v54;
+    v55 = v53 ? ADDRESS(c155) : v54;
     v56 = v52 < 5u;
     if (v56) { v6 = v55; v7 = 0u; goto L10; }
     else { goto L7; }
@@ -20924,7 +22399,7 @@ L7:;
     v61 = v58 < v60;
     v62 = v57 + v60 * 1u;
     v63 = v58 > v60 ? (u64)((u64)v58 - (u64)v60) : 0u;
-    if (v61) { v6 = ADDRESS(c148); v7 = 0u; goto L10; }
+    if (v61) { v6 = ADDRESS(c155); v7 = 0u; goto L10; }
     else { goto L8; }
 L8:;
     v64 = v58 > v60;
@@ -20938,7 +22413,7 @@ L9:;
     v69 = v66 < v68;
     v70 = v65 + v68 * 1u;
     v71 = v66 > v68 ? (u64)((u64)v66 - (u64)v68) : 0u;
-    v72 = v69 ? ADDRESS(c148) : v70;
+    v72 = v69 ? ADDRESS(c155) : v70;
     v73 = v69 ? 0u : v71;
     v6 = v72; v7 = v73; goto L10;
 L10:;
@@ -20949,7 +22424,7 @@ L10:;
     return v75;
 }
 
-static void f96(address a0, u8 a1, u8 a2, address a3, u64 a4) {
+static void f100(address a0, u8 a1, u8 a2, address a3, u64 a4) {
     u64 v5, v7, v8, v10, v11, v13, v14, v16, v17, v18, v20, v22, v24, v25, v26, v28;
     u64 v30, v33, v35, v36, v40, v42, v43, v44, v45, v49, v50, v52, v53, v54, v55, v56;
     u64 v58, v59, v60, v62, v63, v64, v75, v76, v78, v79, v80, v81, v82, v85, v87, v88;
@@ -21134,7 +22609,7 @@ L15:;
 L16:;
     v131 = a4 < 2u;
     v132 = a3 + 2u * 1u;
-    v133 = v131 ? ADDRESS(c148) : v132;
+    v133 = v131 ? ADDRESS(c155) : v132;
     v134 = a4 > 2u ? (u64)((u64)a4 - (u64)2u) : 0u;
     v135 = (struct s5){ 0 };
     v135.m0 = v133;
@@ -21143,7 +22618,7 @@ L16:;
     v31 = v136; goto L60;
 L17:;
     v137 = a4 < 3u;
-    if (v137) { v34 = 9u; v35 = ADDRESS(c148); v36 = 0u; goto L63; }
+    if (v137) { v34 = 9u; v35 = ADDRESS(c155); v36 = 0u; goto L63; }
     else { goto L18; }
 L18:;
     v138 = a3 + 2u * 1u;
@@ -21154,11 +22629,11 @@ L18:;
     v143 = v140 < v142;
     v144 = v139 + v142 * 1u;
     v145 = v140 > v142 ? (u64)((u64)v140 - (u64)v142) : 0u;
-    if (v143) { v34 = 9u; v35 = ADDRESS(c148); v36 = 0u; goto L63; }
+    if (v143) { v34 = 9u; v35 = ADDRESS(c155); v36 = 0u; goto L63; }
     else { v23 = v144; v24 = v145; goto L54; }
 L19:;
     v146 = a4 < 3u;
-    if (v146) { v25 = 0u; v26 = 0u; v27 = ADDRESS(c148); goto L56; }
+    if (v146) { v25 = 0u; v26 = 0u; v27 = ADDRESS(c155); goto L56; }
     else { goto L20; }
 L20:;
     v147 = a3 + 2u * 1u;
@@ -21169,11 +22644,11 @@ L20:;
     v152 = v149 < v151;
     v153 = v148 + v151 * 1u;
     v154 = v149 > v151 ? (u64)((u64)v149 - (u64)v151) : 0u;
-    if (v152) { v25 = 0u; v26 = 0u; v27 = ADDRESS(c148); goto L56; }
+    if (v152) { v25 = 0u; v26 = 0u; v27 = ADDRESS(c155); goto L56; }
     else { goto L21; }
 L21:;
     v155 = v154 < 2u;
-    if (v155) { v25 = 0u; v26 = v154; v27 = ADDRESS(c148); goto L56; }
+    if (v155) { v25 = 0u; v26 = v154; v27 = ADDRESS(c155); goto L56; }
     else { goto L22; }
 L22:;
     v156 = v153 + 1u * 1u;
@@ -21187,7 +22662,7 @@ L22:;
     v25 = v162; v26 = v154; v27 = v163; goto L56;
 L23:;
     v164 = a4 < 3u;
-    if (v164) { v7 = 0u; v8 = 0u; v9 = ADDRESS(c148); goto L27; }
+    if (v164) { v7 = 0u; v8 = 0u; v9 = ADDRESS(c155); goto L27; }
     else { goto L24; }
 L24:;
     v165 = a3 + 2u * 1u;
@@ -21198,11 +22673,11 @@ L24:;
     v170 = v167 < v169;
     v171 = v166 + v169 * 1u;
     v172 = v167 > v169 ? (u64)((u64)v167 - (u64)v169) : 0u;
-    if (v170) { v7 = 0u; v8 = 0u; v9 = ADDRESS(c148); goto L27; }
+    if (v170) { v7 = 0u; v8 = 0u; v9 = ADDRESS(c155); goto L27; }
     else { goto L25; }
 L25:;
     v173 = v172 < 2u;
-    if (v173) { v7 = 0u; v8 = v172; v9 = ADDRESS(c148); goto L27; }
+    if (v173) { v7 = 0u; v8 = v172; v9 = ADDRESS(c155); goto L27; }
     else { goto L26; }
 L26:;
     v174 = v171 + 1u * 1u;
@@ -21219,16 +22694,16 @@ L27:;
     v183 = v182 < v7;
     v184 = v9 + v7 * 1u;
     v185 = v182 > v7 ? (u64)((u64)v182 - (u64)v7) : 0u;
-    v186 = v183 ? ADDRESS(c148) : v184;
+    v186 = v183 ? ADDRESS(c155) : v184;
     v187 = v183 ? 0u : v185;
     v188 = v187 < 2u;
     v189 = v186 + 2u * 1u;
     v190 = (u64)((u64)v187 + (u64)UINT64_C(18446744073709551614));
-    if (v188) { v34 = 9u; v35 = ADDRESS(c148); v36 = 0u; goto L63; }
+    if (v188) { v34 = 9u; v35 = ADDRESS(c155); v36 = 0u; goto L63; }
     else { v23 = v189; v24 = v190; goto L54; }
 L28:;
     v191 = a4 < 3u;
-    if (v191) { v10 = 0u; v11 = 0u; v12 = ADDRESS(c148); goto L32; }
+    if (v191) { v10 = 0u; v11 = 0u; v12 = ADDRESS(c155); goto L32; }
     else { goto L29; }
 L29:;
     v192 = a3 + 2u * 1u;
@@ -21239,11 +22714,11 @@ L29:;
     v197 = v194 < v196;
     v198 = v193 + v196 * 1u;
     v199 = v194 > v196 ? (u64)((u64)v194 - (u64)v196) : 0u;
-    if (v197) { v10 = 0u; v11 = 0u; v12 = ADDRESS(c148); goto L32; }
+    if (v197) { v10 = 0u; v11 = 0u; v12 = ADDRESS(c155); goto L32; }
     else { goto L30; }
 L30:;
     v200 = v199 < 2u;
-    if (v200) { v10 = 0u; v11 = v199; v12 = ADDRESS(c148); goto L32; }
+    if (v200) { v10 = 0u; v11 = v199; v12 = ADDRESS(c155); goto L32; }
     else { goto L31; }
 L31:;
     v201 = v198 + 1u * 1u;
@@ -21260,12 +22735,12 @@ L32:;
     v210 = v209 < v10;
     v211 = v12 + v10 * 1u;
     v212 = v209 > v10 ? (u64)((u64)v209 - (u64)v10) : 0u;
-    v213 = v210 ? ADDRESS(c148) : v211;
+    v213 = v210 ? ADDRESS(c155) : v211;
     v214 = v210 ? 0u : v212;
     v215 = v214 < 2u;
     v216 = v213 + 2u * 1u;
     v217 = v214 > 2u ? (u64)((u64)v214 - (u64)2u) : 0u;
-    v218 = v215 ? ADDRESS(c148) : v216;
+    v218 = v215 ? ADDRESS(c155) : v216;
     v219 = v215 ? 0u : v217;
     v220 = v219 < 2u;
     if (v220) { v28 = 0u; goto L58; }
@@ -21281,7 +22756,7 @@ L33:;
     v28 = v227; goto L58;
 L34:;
     v228 = a4 < 3u;
-    if (v228) { v13 = 0u; v14 = 0u; v15 = ADDRESS(c148); goto L38; }
+    if (v228) { v13 = 0u; v14 = 0u; v15 = ADDRESS(c155); goto L38; }
     else { goto L35; }
 L35:;
     v229 = a3 + 2u * 1u;
@@ -21292,11 +22767,11 @@ L35:;
     v234 = v231 < v233;
     v235 = v230 + v233 * 1u;
     v236 = v231 > v233 ? (u64)((u64)v231 - (u64)v233) : 0u;
-    if (v234) { v13 = 0u; v14 = 0u; v15 = ADDRESS(c148); goto L38; }
+    if (v234) { v13 = 0u; v14 = 0u; v15 = ADDRESS(c155); goto L38; }
     else { goto L36; }
 L36:;
     v237 = v236 < 2u;
-    if (v237) { v13 = 0u; v14 = v236; v15 = ADDRESS(c148); goto L38; }
+    if (v237) { v13 = 0u; v14 = v236; v15 = ADDRESS(c155); goto L38; }
     else { goto L37; }
 L37:;
     v238 = v235 + 1u * 1u;
@@ -21313,12 +22788,12 @@ L38:;
     v247 = v246 < v13;
     v248 = v15 + v13 * 1u;
     v249 = v246 > v13 ? (u64)((u64)v246 - (u64)v13) : 0u;
-    v250 = v247 ? ADDRESS(c148) : v248;
+    v250 = v247 ? ADDRESS(c155) : v248;
     v251 = v247 ? 0u : v249;
     v252 = v251 < 2u;
     v253 = v250 + 2u * 1u;
     v254 = v251 > 2u ? (u64)((u64)v251 - (u64)2u) : 0u;
-    v255 = v252 ? ADDRESS(c148) : v253;
+    v255 = v252 ? ADDRESS(c155) : v253;
     v256 = v252 ? 0u : v254;
     v257 = v256 < 2u;
     if (v257) { v16 = 0u; goto L40; }
@@ -21334,17 +22809,17 @@ L39:;
     v16 = v264; goto L40;
 L40:;
     v265 = v255 + 2u * 1u;
-    v266 = v257 ? ADDRESS(c148) : v265;
+    v266 = v257 ? ADDRESS(c155) : v265;
     v267 = v256 > 2u ? (u64)((u64)v256 - (u64)2u) : 0u;
     v268 = v267 < v16;
     v269 = v266 + v16 * 1u;
     v270 = v267 > v16 ? (u64)((u64)v267 - (u64)v16) : 0u;
-    v271 = v268 ? ADDRESS(c148) : v269;
+    v271 = v268 ? ADDRESS(c155) : v269;
     v272 = v268 ? 0u : v270;
     v273 = v272 < 4u;
     v274 = v271 + 4u * 1u;
     v275 = v272 > 4u ? (u64)((u64)v272 - (u64)4u) : 0u;
-    v276 = v273 ? ADDRESS(c148) : v274;
+    v276 = v273 ? ADDRESS(c155) : v274;
     v277 = v273 ? 0u : v275;
     v278 = (struct s5){ 0 };
     v278.m0 = v276;
@@ -21353,7 +22828,7 @@ L40:;
     v31 = v279; goto L60;
 L41:;
     v280 = a4 < 3u;
-    if (v280) { v17 = 0u; v18 = 0u; v19 = ADDRESS(c148); goto L45; }
+    if (v280) { v17 = 0u; v18 = 0u; v19 = ADDRESS(c155); goto L45; }
     else { goto L42; }
 L42:;
     v281 = a3 + 2u * 1u;
@@ -21364,11 +22839,11 @@ L42:;
     v286 = v283 < v285;
     v287 = v282 + v285 * 1u;
     v288 = v283 > v285 ? (u64)((u64)v283 - (u64)v285) : 0u;
-    if (v286) { v17 = 0u; v18 = 0u; v19 = ADDRESS(c148); goto L45; }
+    if (v286) { v17 = 0u; v18 = 0u; v19 = ADDRESS(c155); goto L45; }
     else { goto L43; }
 L43:;
     v289 = v288 < 2u;
-    if (v289) { v17 = 0u; v18 = v288; v19 = ADDRESS(c148); goto L45; }
+    if (v289) { v17 = 0u; v18 = v288; v19 = ADDRESS(c155); goto L45; }
     else { goto L44; }
 L44:;
     v290 = v287 + 1u * 1u;
@@ -21385,12 +22860,12 @@ L45:;
     v299 = v298 < v17;
     v300 = v19 + v17 * 1u;
     v301 = v298 > v17 ? (u64)((u64)v298 - (u64)v17) : 0u;
-    v302 = v299 ? ADDRESS(c148) : v300;
+    v302 = v299 ? ADDRESS(c155) : v300;
     v303 = v299 ? 0u : v301;
     v304 = v303 < 2u;
     v305 = v302 + 2u * 1u;
     v306 = v303 > 2u ? (u64)((u64)v303 - (u64)2u) : 0u;
-    v307 = v304 ? ADDRESS(c148) : v305;
+    v307 = v304 ? ADDRESS(c155) : v305;
     v308 = v304 ? 0u : v306;
     v309 = v308 < 2u;
     if (v309) { v20 = 0u; goto L47; }
@@ -21406,16 +22881,16 @@ L46:;
     v20 = v316; goto L47;
 L47:;
     v317 = v307 + 2u * 1u;
-    v318 = v309 ? ADDRESS(c148) : v317;
+    v318 = v309 ? ADDRESS(c155) : v317;
     v319 = v308 > 2u ? (u64)((u64)v308 - (u64)2u) : 0u;
     v320 = v319 < v20;
     v321 = v318 + v20 * 1u;
     v322 = v319 > v20 ? (u64)((u64)v319 - (u64)v20) : 0u;
-    v323 = v320 ? ADDRESS(c148) : v321;
+    v323 = v320 ? ADDRESS(c155) : v321;
     v324 = v320 ? 0u : v322;
     v325 = v324 < 4u;
     v326 = v323 + 4u * 1u;
-    v327 = v325 ? ADDRESS(c148) : v326;
+    v327 = v325 ? ADDRESS(c155) : v326;
     v328 = v324 < 5u;
     if (v328) { v21 = v327; v22 = 0u; goto L49; }
     else { goto L48; }
@@ -21427,7 +22902,7 @@ L48:;
     v333 = v330 < v332;
     v334 = v329 + v332 * 1u;
     v335 = v330 > v332 ? (u64)((u64)v330 - (u64)v332) : 0u;
-    v336 = v333 ? ADDRESS(c148) : v334;
+    v336 = v333 ? ADDRESS(c155) : v334;
     v337 = v333 ? 0u : v335;
     v21 = v336; v22 = v337; goto L49;
 L49:;
@@ -21437,10 +22912,10 @@ L49:;
     v339.m1 = v22;
     v31 = v339; goto L60;
 L50:;
-    v340 = f95(a3, a4);
+    v340 = f99(a3, a4);
     v31 = v340; goto L60;
 L51:;
-    v341 = f95(a3, a4);
+    v341 = f99(a3, a4);
     v342 = v341.m0;
     v343 = v341.m1;
     v344 = v343 == 0u;
@@ -21454,7 +22929,7 @@ L52:;
     v349 = v346 < v348;
     v350 = v345 + v348 * 1u;
     v351 = v346 > v348 ? (u64)((u64)v346 - (u64)v348) : 0u;
-    v352 = v349 ? ADDRESS(c148) : v350;
+    v352 = v349 ? ADDRESS(c155) : v350;
     v353 = v351 < 6u ? v351 : 6u;
     v354 = v349 ? 0u : v353;
     v29 = v352; v30 = v354; goto L59;
@@ -21462,7 +22937,7 @@ L53:;
     UNREACHABLE;
 L54:;
     v355 = v24 < 2u;
-    if (v355) { v34 = 9u; v35 = ADDRESS(c148); v36 = 0u; goto L63; }
+    if (v355) { v34 = 9u; v35 = ADDRESS(c155); v36 = 0u; goto L63; }
     else { goto L55; }
 L55:;
     v356 = v23 + 1u * 1u;
@@ -21497,7 +22972,7 @@ L57:;
     v34 = 0u; v35 = v379; v36 = 0u; goto L63;
 L58:;
     v380 = v218 + 2u * 1u;
-    v381 = v220 ? ADDRESS(c148) : v380;
+    v381 = v220 ? ADDRESS(c155) : v380;
     v382 = v219 > 2u ? (u64)((u64)v219 - (u64)2u) : 0u;
     v383 = v382 < v28;
     v384 = v381 + v28 * 1u;
@@ -21505,7 +22980,7 @@ L58:;
     v386 = v385 < 3u ? v385 : 3u;
     v387 = v383 ? 0u : v386;
     v388 = (u64)v384;
-    v389 = v383 ? ADDRESS(c148) : v388;
+    v389 = v383 ? ADDRESS(c155) : v388;
     v34 = 9u; v35 = v389; v36 = v387; goto L63;
 L59:;
     v390 = (u64)v29;
@@ -21580,7 +23055,7 @@ L66:;
     UNREACHABLE;
 }
 
-static void f97(u64 a0, address a1) {
+static void f101(u64 a0, address a1) {
     u64 v2, v3, v4, v5, v6, v7, v8, v11, v12, v13, v14, v20, v28, v30, v42, v44;
     u64 v45, v57, v68, v70, v72, v80, v85, v87, v89, v93;
     address v9, v21, v23, v25, v26, v27, v31, v33, v35, v36, v43, v46, v48, v50, v51, v58;
@@ -21605,7 +23080,7 @@ L1:;
     v18 = (u16)((u32)v15 - (u32)v17);
     v19 = (u16)((u32)v18 << (1u & 15u));
     v20 = (u64)v19;
-    v21 = ADDRESS(c317) + v20 * 1u;
+    v21 = ADDRESS(c323) + v20 * 1u;
     v22 = load8(v21);
     v23 = v21 + 1u * 1u;
     v24 = load8(v23);
@@ -21617,7 +23092,7 @@ L1:;
     v28 = (u64)((u64)v3 + (u64)UINT64_C(18446744073709551612));
     v29 = (u16)((u32)v16 << (1u & 15u));
     v30 = (u64)v29;
-    v31 = ADDRESS(c317) + v30 * 1u;
+    v31 = ADDRESS(c323) + v30 * 1u;
     v32 = load8(v31);
     v33 = v31 + 1u * 1u;
     v34 = load8(v33);
@@ -21646,7 +23121,7 @@ L4:;
 L5:;
     v44 = (u64)((u64)v4 + (u64)UINT64_C(18446744073709551614));
     v45 = (u64)((u64)v5 << (1u & 63u));
-    v46 = ADDRESS(c317) + v45 * 1u;
+    v46 = ADDRESS(c323) + v45 * 1u;
     v47 = load8(v46);
     v48 = v46 + 1u * 1u;
     v49 = load8(v48);
@@ -21662,7 +23137,7 @@ L6:;
     v55 = (u16)((u32)v52 - (u32)v54);
     v56 = (u16)((u32)v55 << (1u & 15u));
     v57 = (u64)v56;
-    v58 = ADDRESS(c317) + v57 * 1u;
+    v58 = ADDRESS(c323) + v57 * 1u;
     v59 = load8(v58);
     v60 = v58 + 1u * 1u;
     v61 = load8(v60);
@@ -21685,7 +23160,7 @@ L8:;
     v70 = (u64)((u64)v4 + (u64)UINT64_C(18446744073709551612));
     v71 = (u16)((u32)v53 << (1u & 15u));
     v72 = (u64)v71;
-    v73 = ADDRESS(c317) + v72 * 1u;
+    v73 = ADDRESS(c323) + v72 * 1u;
     v74 = load8(v73);
     v75 = v73 + 1u * 1u;
     v76 = load8(v75);
@@ -21727,7 +23202,7 @@ L13:;
     return;
 }
 
-static struct s5 f98(address a0, u64 a1) {
+static struct s5 f102(address a0, u64 a1) {
     u64 v2, v3, v4, v5, v6, v7, v8, v10, v11, v12, v13, v19, v27, v29, v41, v43;
     u64 v44, v56, v67, v69, v71, v79, v82;
     u8 v9, v21, v23, v31, v33, v36, v37, v38, v39, v40, v46, v48, v58, v60, v64, v65;
@@ -21751,7 +23226,7 @@ L1:;
     v17 = (u16)((u32)v14 - (u32)v16);
     v18 = (u16)((u32)v17 << (1u & 15u));
     v19 = (u64)v18;
-    v20 = ADDRESS(c317) + v19 * 1u;
+    v20 = ADDRESS(c323) + v19 * 1u;
     v21 = load8(v20);
     v22 = v20 + 1u * 1u;
     v23 = load8(v22);
@@ -21763,7 +23238,7 @@ L1:;
     v27 = (u64)((u64)v3 + (u64)UINT64_C(18446744073709551612));
     v28 = (u16)((u32)v15 << (1u & 15u));
     v29 = (u64)v28;
-    v30 = ADDRESS(c317) + v29 * 1u;
+    v30 = ADDRESS(c323) + v29 * 1u;
     v31 = load8(v30);
     v32 = v30 + 1u * 1u;
     v33 = load8(v32);
@@ -21792,7 +23267,7 @@ L4:;
 L5:;
     v43 = (u64)((u64)v4 + (u64)UINT64_C(18446744073709551614));
     v44 = (u64)((u64)v5 << (1u & 63u));
-    v45 = ADDRESS(c317) + v44 * 1u;
+    v45 = ADDRESS(c323) + v44 * 1u;
     v46 = load8(v45);
     v47 = v45 + 1u * 1u;
     v48 = load8(v47);
@@ -21808,7 +23283,7 @@ L6:;
     v54 = (u16)((u32)v51 - (u32)v53);
     v55 = (u16)((u32)v54 << (1u & 15u));
     v56 = (u64)v55;
-    v57 = ADDRESS(c317) + v56 * 1u;
+    v57 = ADDRESS(c323) + v56 * 1u;
     v58 = load8(v57);
     v59 = v57 + 1u * 1u;
     v60 = load8(v59);
@@ -21831,7 +23306,7 @@ L8:;
     v69 = (u64)((u64)v4 + (u64)UINT64_C(18446744073709551612));
     v70 = (u16)((u32)v52 << (1u & 15u));
     v71 = (u64)v70;
-    v72 = ADDRESS(c317) + v71 * 1u;
+    v72 = ADDRESS(c323) + v71 * 1u;
     v73 = load8(v72);
     v74 = v72 + 1u * 1u;
     v75 = load8(v74);
@@ -21859,7 +23334,7 @@ L11:;
     return v84;
 }
 
-static struct s4 f99(address a0, u64 a1) {
+static struct s4 f103(address a0, u64 a1) {
     u64 v2, v4, v5, v8, v12, v27;
     address v3, v9, v14, v16;
     u8 v6, v11, v13, v15, v17, v18, v19, v20, v21, v22, v23, v24, v25, v26, v28;
@@ -21868,10 +23343,10 @@ static struct s4 f99(address a0, u64 a1) {
     v2 = 0u; goto L1;
 L1:;
     v8 = (u64)((u64)v2 << (1u & 63u));
-    v9 = ADDRESS(c324) + v8 * 1u;
+    v9 = ADDRESS(c330) + v8 * 1u;
     v10 = load16(v9);
     switch (v10) {
-    case 0u: v3 = ADDRESS(c120); v4 = 19u; goto L22;
+    case 0u: v3 = ADDRESS(c126); v4 = 19u; goto L22;
     case 2u: goto L2;
     case 8192u: goto L3;
     case 8193u: goto L4;
@@ -21895,45 +23370,45 @@ L1:;
     default: goto L25;
     }
 L2:;
-    v3 = ADDRESS(c121); v4 = 16u; goto L22;
+    v3 = ADDRESS(c127); v4 = 16u; goto L22;
 L3:;
-    v3 = ADDRESS(c122); v4 = 16u; goto L22;
+    v3 = ADDRESS(c128); v4 = 16u; goto L22;
 L4:;
-    v3 = ADDRESS(c123); v4 = 16u; goto L22;
+    v3 = ADDRESS(c129); v4 = 16u; goto L22;
 L5:;
-    v3 = ADDRESS(c124); v4 = 15u; goto L22;
+    v3 = ADDRESS(c130); v4 = 15u; goto L22;
 L6:;
-    v3 = ADDRESS(c125); v4 = 24u; goto L22;
+    v3 = ADDRESS(c131); v4 = 24u; goto L22;
 L7:;
-    v3 = ADDRESS(c126); v4 = 13u; goto L22;
+    v3 = ADDRESS(c132); v4 = 13u; goto L22;
 L8:;
-    v3 = ADDRESS(c127); v4 = 9u; goto L22;
+    v3 = ADDRESS(c133); v4 = 9u; goto L22;
 L9:;
-    v3 = ADDRESS(c128); v4 = 9u; goto L22;
+    v3 = ADDRESS(c134); v4 = 9u; goto L22;
 L10:;
-    v3 = ADDRESS(c129); v4 = 6u; goto L22;
+    v3 = ADDRESS(c135); v4 = 6u; goto L22;
 L11:;
-    v3 = ADDRESS(c130); v4 = 10u; goto L22;
+    v3 = ADDRESS(c136); v4 = 10u; goto L22;
 L12:;
-    v3 = ADDRESS(c136); v4 = 21u; goto L22;
+    v3 = ADDRESS(c142); v4 = 21u; goto L22;
 L13:;
-    v3 = ADDRESS(c138); v4 = 24u; goto L22;
+    v3 = ADDRESS(c144); v4 = 24u; goto L22;
 L14:;
-    v3 = ADDRESS(c140); v4 = 17u; goto L22;
+    v3 = ADDRESS(c146); v4 = 17u; goto L22;
 L15:;
-    v3 = ADDRESS(c131); v4 = 14u; goto L22;
+    v3 = ADDRESS(c137); v4 = 14u; goto L22;
 L16:;
-    v3 = ADDRESS(c132); v4 = 11u; goto L22;
+    v3 = ADDRESS(c138); v4 = 11u; goto L22;
 L17:;
-    v3 = ADDRESS(c133); v4 = 12u; goto L22;
+    v3 = ADDRESS(c139); v4 = 12u; goto L22;
 L18:;
-    v3 = ADDRESS(c134); v4 = 14u; goto L22;
+    v3 = ADDRESS(c140); v4 = 14u; goto L22;
 L19:;
-    v3 = ADDRESS(c135); v4 = 14u; goto L22;
+    v3 = ADDRESS(c141); v4 = 14u; goto L22;
 L20:;
-    v3 = ADDRESS(c142); v4 = 15u; goto L22;
+    v3 = ADDRESS(c148); v4 = 15u; goto L22;
 L21:;
-    v3 = ADDRESS(c144); v4 = 27u; goto L22;
+    v3 = ADDRESS(c150); v4 = 27u; goto L22;
 L22:;
     v11 = v4 == a1;
     if (v11) { v5 = 0u; goto L24; }
@@ -21972,7 +23447,7 @@ L26:;
     return v30;
 }
 
-static struct s4 f100(address a0, u64 a1) {
+static struct s4 f104(address a0, u64 a1) {
     u8 v2, v3, v4, v5, v7, v8, v9, v11, v12, v13, v14, v15, v16, v17, v18, v19;
     u8 v20, v21, v22, v23, v24, v25, v26, v27, v29, v31, v32, v33, v34, v35, v36, v37;
     u8 v38, v39, v40, v41, v42, v43, v44, v45, v46, v47;
@@ -22095,7 +23570,7 @@ L22:;
     return v53;
 }
 
-static void f101(address a0, address a1, u64 a2) {
+static void f105(address a0, address a1, u64 a2) {
     u8 v3, v6, v7, v8, v11, v12, v13, v18, v20, v21, v23, v24, v26, v29, v31, v32;
     u8 v33, v34, v35, v36, v37, v38, v39, v40, v41, v42, v43, v44, v45, v46, v47, v50;
     u8 v60, v62, v63, v64, v65, v66, v67, v68, v69, v70, v71, v72, v73, v74, v75, v76;
@@ -22285,7 +23760,7 @@ L34:;
     v3 = v13; v4 = v14; goto L5;
 }
 
-static u32 f102(address a0, u64 a1, address a2, u64 a3) {
+static u32 f106(address a0, u64 a1, address a2, u64 a3) {
     u32 v4, v6, v7, v9, v13, v14, v15, v17, v18, v19, v20, v22, v23, v24, v25, v27;
     u32 v28, v29, v30, v32, v33, v34, v35, v37, v38, v39, v40, v42, v43, v44, v45, v47;
     u32 v48, v49, v50, v52, v53, v54, v60, v61, v62, v64, v65, v66, v67, v69, v70, v71;
@@ -22405,7 +23880,7 @@ L4:;
     return v104;
 }
 
-static void f103(address a0, address a1, u64 a2) {
+static void f107(address a0, address a1, u64 a2) {
     u32 v3, v31, v32, v33, v34, v35, v36, v37, v38, v39, v40, v41, v73, v74, v75, v77;
     u32 v78, v79, v80, v82, v83, v84, v85, v87, v88, v89, v90, v92, v93, v94, v95, v97;
     u32 v98, v99, v100, v102, v103, v104, v105, v107, v108, v109, v110, v112, v113, v114, v117, v118;
@@ -22439,7 +23914,7 @@ L1:;
     if (v19) { goto L4; }
     else { goto L2; }
 L2:;
-    v20 = f44(a1, 4u, ADDRESS(c326), 4u);
+    v20 = f43(a1, 4u, ADDRESS(c332), 4u);
     if (v20) { goto L5; }
     else { goto L4; }
 L3:;
@@ -22496,7 +23971,7 @@ L6:;
     if (v60) { goto L11; }
     else { goto L7; }
 L7:;
-    v61 = f44(v46, 4u, ADDRESS(c325), 4u);
+    v61 = f43(v46, 4u, ADDRESS(c331), 4u);
     if (v61) { goto L8; }
     else { goto L11; }
 L8:;
@@ -22632,7 +24107,7 @@ L12:;
     goto L3;
 }
 
-static void f104(address a0, address a1, address a2, address a3, u64 a4, address a5, u64 a6, address a7, u64 a8) {
+static void f108(address a0, address a1, address a2, address a3, u64 a4, address a5, u64 a6, address a7, u64 a8) {
     u8 v9, v10, v12, v13, v18, v19, v20, v21, v24, v25, v26, v27, v35, v38, v41, v54;
     u8 v57, v65, v66, v67, v68, v70, v71, v73, v76, v79, v81, v92, v94, v118, v131, v133;
     u8 v135, v142, v147, v148, v152, v155, v157, v159, v180, v181, v183, v184, v198, v205, v207, v209;
@@ -22739,7 +24214,7 @@ L9:;
     store64(v75, v14);
     return;
 L10:;
-    v76 = f105(a1, v53);
+    v76 = f109(a1, v53);
     if (v76) { goto L11; }
     else { v12 = 1u; v13 = 1u; v14 = 0u; goto L9; }
 L11:;
@@ -23017,7 +24492,7 @@ L33:;
     v219 = load8(a1);
     v220 = v219 == 0u;
     v221 = v220 ? 4u : 0u;
-    v222 = v220 ? ADDRESS(c327) : ADDRESS(c148);
+    v222 = v220 ? ADDRESS(c333) : ADDRESS(c155);
     v223 = a1 + 84u * 1u;
     v224 = load32(v223);
     v225 = v60 + 8216u * 1u;
@@ -23046,7 +24521,7 @@ L35:;
     v237 = (u64)((u64)v45 - (u64)v221);
     v238 = swap32(v224);
     store32(v46, v238);
-    v239 = f102(v46, 4u, v231, v237);
+    v239 = f106(v46, 4u, v231, v237);
     v240 = (u64)((u64)v45 + (u64)UINT64_C(18446744073709543398));
     v241 = v240 < 4u;
     if (v241) { goto L37; }
@@ -23067,7 +24542,7 @@ L37:;
     if (v247) { v12 = 1u; v13 = 2u; v14 = 0u; goto L9; }
     else { goto L38; }
 L38:;
-    v248 = f106(a1, v53);
+    v248 = f110(a1, v53);
     v249 = v248 == 0u;
     if (v249) { goto L39; }
     else { v12 = 1u; v13 = 3u; v14 = 0u; goto L9; }
@@ -23077,7 +24552,7 @@ L39:;
     v12 = 0u; v13 = 0u; v14 = v246; goto L9;
 }
 
-static u8 f105(address a0, address a1) {
+static u8 f109(address a0, address a1) {
     u64 v2, v3, v15, v18, v22, v25, v35, v36, v43, v50, v52, v55, v71, v76, v79, v87;
     u64 v90, v98, v104, v106, v114, v117;
     u8 v4, v5, v6, v8, v11, v12, v13, v19, v20, v26, v28, v29, v37, v38, v40, v41;
@@ -23340,7 +24815,7 @@ L40:;
     UNREACHABLE;
 }
 
-static u8 f106(address a0, address a1) {
+static u8 f110(address a0, address a1) {
     u16 v2, v3, v4, v19, v21, v23;
     u8 v5, v9, v10, v11, v15, v17, v33, v34, v36, v37, v38, v44, v45, v61, v62, v65;
     u8 v76, v78, v79, v81, v82, v83, v89, v90, v95, v97, v98, v99, v100, v101, v103, v104;
@@ -23415,7 +24890,7 @@ L5:;
     if (v44) { goto L6; }
     else { v6 = v43; goto L8; }
 L6:;
-    v45 = f107(v39);
+    v45 = f111(v39);
     if (v45) { goto L7; }
     else { v10 = 1u; goto L32; }
 L7:;
@@ -23447,7 +24922,7 @@ L8:;
     if (v61) { goto L9; }
     else { v7 = v60; goto L13; }
 L9:;
-    v62 = f108(v56);
+    v62 = f112(v56);
     if (v62) { goto L10; }
     else { goto L11; }
 L10:;
@@ -23576,7 +25051,7 @@ L33:;
     UNREACHABLE;
 }
 
-static u8 f107(address a0) {
+static u8 f111(address a0) {
     u8 v1, v5, v10, v14, v15, v21, v26;
     struct pair v2, v19, v23, v24;
     address v3, v6, v16, v28;
@@ -23629,7 +25104,7 @@ L6:;
     v1 = 1u; goto L1;
 }
 
-static u8 f108(address a0) {
+static u8 f112(address a0) {
     u8 v1, v5, v10, v14, v15, v19, v23;
     struct pair v2, v17, v20, v21;
     address v3, v6, v16, v25;
@@ -23679,7 +25154,7 @@ L6:;
     v1 = 1u; goto L1;
 }
 
-static void f109(address a0, address a1, address a2, u64 a3) {
+static void f113(address a0, address a1, address a2, u64 a3) {
     u8 v4, v7, v16, v17, v18, v23, v36, v37, v38, v39, v40, v42, v43, v44, v46, v47;
     u8 v48, v50, v51, v52, v53, v54, v55, v56, v61, v63, v65, v66, v67, v68, v70, v76;
     u8 v77, v81, v84, v88, v93, v100, v108, v110, v112, v113, v114, v115, v117, v123, v124, v125;
@@ -23743,7 +25218,7 @@ L2:;
     if (v52) { v4 = v39; goto L6; }
     else { goto L3; }
 L3:;
-    v53 = f44(a2, 4u, ADDRESS(c327), 4u);
+    v53 = f43(a2, 4u, ADDRESS(c333), 4u);
     if (v53) { v5 = 4u; goto L8; }
     else { goto L7; }
 L4:;
@@ -23821,7 +25296,7 @@ L14:;
     v97 = swap32(v96);
     v98 = swap32(v60);
     store32(v33, v98);
-    v99 = f102(v33, 4u, v57, v78);
+    v99 = f106(v33, 4u, v57, v78);
     v100 = v97 == v99;
     if (v100) { goto L33; }
     else { v17 = 0u; v18 = 0u; v19 = 0u; v20 = 0u; v21 = 0u; v22 = 0u; v23 = 1u; v24 = 0u; v25 = 0u; v26 = 0u; goto L63; }
@@ -24031,7 +25506,7 @@ L50:;
     else { v15 = 0u; goto L52; }
 L51:;
     v182 = (u64)v180;
-    v183 = ADDRESS(c356) + v182 * 8u;
+    v183 = ADDRESS(c362) + v182 * 8u;
     v184 = load64(v183);
     v15 = v184; goto L52;
 L52:;
@@ -24047,7 +25522,7 @@ L53:;
     if (v190) { goto L57; }
     else { goto L54; }
 L54:;
-    f110(v28, v143);
+    f114(v28, v143);
     v191 = load8(v28);
     v192 = v191 == 1u;
     if (v192) { goto L55; }
@@ -24066,7 +25541,7 @@ L55:;
     v199 = v31 + 8u * 1u;
     v200 = v30 + 6u * 1u;
     memory_cpy(v199, v200, 24u);
-    v201 = f105(a1, v31);
+    v201 = f109(a1, v31);
     if (v201) { goto L60; }
     else { v16 = 1u; goto L62; }
 L56:;
@@ -24093,7 +25568,7 @@ L60:;
     store8(v210, v194);
     v211 = v32 + 8u * 1u;
     memory_cpy(v211, v200, 24u);
-    v212 = f106(a1, v32);
+    v212 = f110(a1, v32);
     v213 = v212 == 0u;
     if (v213) { goto L61; }
     else { v16 = 2u; goto L62; }
@@ -24101,7 +25576,7 @@ L61:;
     v214 = load32(v59);
     v215 = swap32(v214);
     store32(v27, v215);
-    v216 = f102(v27, 4u, v57, v78);
+    v216 = f106(v27, 4u, v57, v78);
     store32(v59, v216);
     memory_cpy(v35, v30, 30u);
     memory_cpy(v34, v35, 30u);
@@ -24140,7 +25615,7 @@ L63:;
     goto L15;
 }
 
-static void f110(address a0, address a1) {
+static void f114(address a0, address a1) {
     u64 v2, v8, v11, v39, v40, v41, v42, v43, v44, v45, v46, v47, v48, v49, v50, v51;
     u64 v52, v53, v54, v55, v56, v57, v58, v59, v60, v61, v66, v67, v68, v73, v74, v75;
     u64 v77, v79, v81, v82, v83, v84, v85, v86, v87, v88, v89, v91, v109, v110, v111, v112;
@@ -24710,7 +26185,7 @@ L17:;
     goto L2;
 }
 
-static u8 f111(address a0, u64 a1, address a2) {
+static u8 f115(address a0, u64 a1, address a2) {
     address v3, v7, v8, v10, v14, v21, v24, v27, v30, v33, v36, v39, v42, v45, v48, v51;
     address v54, v57, v60, v63, v66, v69, v72, v75, v78, v81, v84, v87, v90, v93, v96, v99;
     address v102, v105, v108, v111, v114;
@@ -24949,121 +26424,128 @@ L38:;
     return v5;
 }
 
-static void f112(address a0, address a1, u64 a2) {
-    u64 v3, v4, v5, v11, v12, v13, v32, v40, v42, v50, v62, v63, v79, v89, v98, v99;
-    u16 v6, v7, v8, v9, v14, v15, v16, v17, v37, v38, v39, v47, v48, v49, v51, v56;
-    u16 v57, v58, v59, v60, v68, v69, v70, v71, v84, v85, v86, v87, v94, v95, v96, v97;
-    u16 v104, v105, v106, v107, v112, v113, v114, v115;
-    u8 v10, v18, v23, v24, v28, v30, v34, v36, v44, v46, v53, v55, v61, v65, v67, v72;
-    u8 v73, v75, v76, v77, v81, v83, v91, v93, v101, v103, v109, v111, v117, v118;
-    address v19, v20, v21, v22, v25, v26, v27, v29, v31, v33, v35, v41, v43, v45, v52, v54;
-    address v64, v66, v74, v78, v80, v82, v88, v90, v92, v100, v102, v108, v110, v116, v119, v120;
-    address v121, v122, v123, v124, v125, v126;
+static void f116(address a0, address a1, u64 a2) {
+    u8 v3, v4, v11, v19, v23, v24, v25, v26, v28, v29, v30, v32, v34, v40, v42, v43;
+    u8 v45, v47, v52, v54, v55, v57, v61, v65, v67, v68, v69, v70, v71, v72, v74, v76;
+    u8 v77, v78, v82, v84, v92, v94, v101, v103, v112, v114, v119, v120, v126, v128, v136, v138;
+    u8 v146, v148, v154, v156, v162, v163;
+    u64 v5, v6, v12, v13, v14, v39, v58, v59, v62, v63, v64, v66, v80, v88, v90, v98;
+    u64 v109, v110, v124, v134, v143, v144, v164;
+    u16 v7, v8, v9, v10, v15, v16, v17, v18, v35, v36, v37, v38, v41, v48, v49, v50;
+    u16 v51, v85, v86, v87, v95, v96, v97, v99, v104, v105, v106, v107, v108, v115, v116, v117;
+    u16 v118, v129, v130, v131, v132, v139, v140, v141, v142, v149, v150, v151, v152, v157, v158, v159;
+    u16 v160;
+    address v20, v21, v22, v27, v31, v33, v44, v46, v53, v56, v60, v73, v75, v79, v81, v83;
+    address v89, v91, v93, v100, v102, v111, v113, v121, v122, v123, v125, v127, v133, v135, v137, v145;
+    address v147, v153, v155, v161, v165, v166, v167, v168, v169, v170, v171, v172;
     u64 block0[1];
-    u64 block1[4];
-    u64 block2[4];
-    u64 block3[1];
-    v19 = ADDRESS(block0);
-    v20 = ADDRESS(block1);
-    v21 = ADDRESS(block2);
-    v22 = ADDRESS(block3);
-    memory_set(v21, 0u, 32u);
-    f8(v21, a1, a2);
-    v23 = load8(v21);
-    v24 = v23 == 0u;
-    if (v24) { goto L1; }
-    else { goto L2; }
+    u64 block1[1];
+    u64 block2[3];
+    v20 = ADDRESS(block0);
+    v21 = ADDRESS(block1);
+    v22 = ADDRESS(block2);
+    memory_set(v20, 0u, 3u);
+    v23 = a2 < 54u;
+    if (v23) { goto L6; }
+    else { goto L1; }
 L1:;
-    v25 = v21 + 8u * 1u;
-    v26 = load_address(v25);
-    v27 = v21 + 24u * 1u;
-    v28 = load8(v27);
-    v29 = v21 + 25u * 1u;
-    v30 = load8(v29);
-    v31 = v26 + 20u * 1u;
-    v32 = load64(v31);
-    v33 = v26 + 28u * 1u;
-    v34 = load8(v33);
-    v35 = v26 + 29u * 1u;
-    v36 = load8(v35);
-    v37 = (u16)v34;
-    v38 = (u16)((u32)v37 << (8u & 15u));
-    v39 = (u16)v36;
-    v40 = swap64(v32);
-    v41 = v26 + 34u * 1u;
-    v42 = load64(v41);
-    v43 = v26 + 42u * 1u;
-    v44 = load8(v43);
-    v45 = v26 + 43u * 1u;
-    v46 = load8(v45);
-    v47 = (u16)v44;
-    v48 = (u16)((u32)v47 << (8u & 15u));
-    v49 = (u16)v46;
-    v50 = swap64(v42);
-    v51 = (u16)((u32)v38 | (u32)v39);
-    v52 = v26 + 30u * 1u;
-    v53 = load8(v52);
-    v54 = v26 + 31u * 1u;
-    v55 = load8(v54);
-    v56 = (u16)v53;
-    v57 = (u16)((u32)v56 << (8u & 15u));
-    v58 = (u16)v55;
-    v59 = (u16)((u32)v57 | (u32)v58);
-    v60 = (u16)((u32)v48 | (u32)v49);
-    v61 = v30 == 0u;
-    v62 = v61 ? 52u : 54u;
-    v63 = v61 ? 53u : 55u;
-    v64 = v26 + v62 * 1u;
-    v65 = load8(v64);
-    v66 = v26 + v63 * 1u;
-    v67 = load8(v66);
-    v68 = (u16)v65;
-    v69 = (u16)((u32)v68 << (8u & 15u));
-    v70 = (u16)v67;
-    v71 = (u16)((u32)v69 | (u32)v70);
-    memory_set(v22, 0u, 7u);
-    v11 = 1u; v12 = v40; v13 = v50; v14 = v51; v15 = v59; v16 = v60; v17 = v71; v18 = v28; goto L7;
+    v24 = load8(a1);
+    v25 = (u8)((u32)v24 & (u32)15u);
+    v26 = v25 == 13u;
+    if (v26) { goto L2; }
+    else { goto L6; }
 L2:;
-    memory_set(v20, 0u, 32u);
-    f8(v20, a1, a2);
-    v72 = load8(v20);
-    v73 = v72 == 1u;
-    if (v73) { goto L3; }
-    else { goto L4; }
+    v27 = a1 + 1u * 1u;
+    v28 = load8(v27);
+    v29 = (u8)((u32)v28 & (u32)15u);
+    v30 = v29 == 2u;
+    if (v30) { goto L3; }
+    else { goto L6; }
 L3:;
-    v74 = v20 + 1u * 1u;
-    v75 = load8(v74);
-    v76 = (u8)((u32)v75 & (u32)252u);
-    v77 = v76 == 4u;
-    if (v77) { goto L5; }
+    v31 = a1 + 2u * 1u;
+    v32 = load8(v31);
+    v33 = a1 + 3u * 1u;
+    v34 = load8(v33);
+    v35 = (u16)v32;
+    v36 = (u16)((u32)v35 << (8u & 15u));
+    v37 = (u16)v34;
+    v38 = (u16)((u32)v36 | (u32)v37);
+    v39 = (u64)v38;
+    v40 = a2 < v39;
+    v41 = (u16)((u32)v38 + (u32)64063u);
+    v42 = v41 < 64117u;
+    v43 = (u8)(((u32)v42 | (u32)v40) & UINT64_C(1));
+    if (v43) { goto L6; }
     else { goto L4; }
 L4:;
-    memory_set(v19, 0u, 7u);
-    v3 = 0u; v4 = 0u; v5 = 0u; v6 = 0u; v7 = 0u; v8 = 0u; v9 = 0u; v10 = 0u; goto L6;
+    v44 = a1 + 48u * 1u;
+    v45 = load8(v44);
+    v46 = a1 + 49u * 1u;
+    v47 = load8(v46);
+    v48 = (u16)v45;
+    v49 = (u16)((u32)v48 << (8u & 15u));
+    v50 = (u16)v47;
+    v51 = (u16)((u32)v49 | (u32)v50);
+    v52 = v51 == 1u;
+    if (v52) { goto L5; }
+    else { goto L6; }
 L5:;
-    memory_set(v19, 0u, 7u);
-    v78 = a1 + 20u * 1u;
-    v79 = load64(v78);
-    v80 = a1 + 28u * 1u;
-    v81 = load8(v80);
-    v82 = a1 + 29u * 1u;
-    v83 = load8(v82);
-    v84 = (u16)v81;
-    v85 = (u16)((u32)v84 << (8u & 15u));
-    v86 = (u16)v83;
-    v87 = (u16)((u32)v85 | (u32)v86);
-    v88 = a1 + 34u * 1u;
-    v89 = load64(v88);
-    v90 = a1 + 42u * 1u;
-    v91 = load8(v90);
-    v92 = a1 + 43u * 1u;
-    v93 = load8(v92);
-    v94 = (u16)v91;
-    v95 = (u16)((u32)v94 << (8u & 15u));
-    v96 = (u16)v93;
-    v97 = (u16)((u32)v95 | (u32)v96);
-    v98 = swap64(v79);
-    v99 = swap64(v89);
+    v53 = a1 + 46u * 1u;
+    v54 = load8(v53);
+    v55 = (u8)((u32)v54 & (u32)15u);
+    v56 = a1 + 50u * 1u;
+    v57 = load8(v56);
+    v58 = (u64)v57;
+    v59 = (u64)((u64)v58 << (8u & 63u));
+    v60 = a1 + 51u * 1u;
+    v61 = load8(v60);
+    v62 = (u64)v61;
+    v63 = (u64)((u64)v59 | (u64)v62);
+    v64 = (u64)((u64)v63 + (u64)52u);
+    v65 = v64 == v39;
+    v66 = (u64)((u64)v39 & (u64)1u);
+    v67 = v66 == 0u;
+    v68 = (u8)(((u32)v67 & (u32)v65) & UINT64_C(1));
+    v69 = v55 < 5u;
+    v70 = v68 ? v69 : 0u;
+    if (v70) { v3 = v55; v4 = 1u; goto L8; }
+    else { goto L6; }
+L6:;
+    f8(v20, a1, a2);
+    v71 = load8(v20);
+    v72 = v71 == 0u;
+    if (v72) { goto L7; }
+    else { goto L9; }
+L7:;
+    v73 = v20 + 1u * 1u;
+    v74 = load8(v73);
+    v75 = v20 + 2u * 1u;
+    v76 = load8(v75);
+    v77 = v76;
+    v78 = v77 == 0u;
+    v3 = v74; v4 = v78; goto L8;
+L8:;
+    v79 = a1 + 20u * 1u;
+    v80 = load64(v79);
+    v81 = a1 + 28u * 1u;
+    v82 = load8(v81);
+    v83 = a1 + 29u * 1u;
+    v84 = load8(v83);
+    v85 = (u16)v82;
+    v86 = (u16)((u32)v85 << (8u & 15u));
+    v87 = (u16)v84;
+    v88 = swap64(v80);
+    v89 = a1 + 34u * 1u;
+    v90 = load64(v89);
+    v91 = a1 + 42u * 1u;
+    v92 = load8(v91);
+    v93 = a1 + 43u * 1u;
+    v94 = load8(v93);
+    v95 = (u16)v92;
+    v96 = (u16)((u32)v95 << (8u & 15u));
+    v97 = (u16)v94;
+    v98 = swap64(v90);
+    v99 = (u16)((u32)v86 | (u32)v87);
     v100 = a1 + 30u * 1u;
     v101 = load8(v100);
     v102 = a1 + 31u * 1u;
@@ -25072,43 +26554,204 @@ L5:;
     v105 = (u16)((u32)v104 << (8u & 15u));
     v106 = (u16)v103;
     v107 = (u16)((u32)v105 | (u32)v106);
-    v108 = a1 + 52u * 1u;
-    v109 = load8(v108);
-    v110 = a1 + 53u * 1u;
-    v111 = load8(v110);
-    v112 = (u16)v109;
-    v113 = (u16)((u32)v112 << (8u & 15u));
-    v114 = (u16)v111;
-    v115 = (u16)((u32)v113 | (u32)v114);
-    v116 = a1 + 46u * 1u;
-    v117 = load8(v116);
-    v118 = (u8)((u32)v117 & (u32)15u);
-    v3 = 1u; v4 = v98; v5 = v99; v6 = v87; v7 = v107; v8 = v97; v9 = v115; v10 = v118; goto L6;
-L6:;
-    memory_cpy(v22, v19, 7u);
-    v11 = v3; v12 = v4; v13 = v5; v14 = v6; v15 = v7; v16 = v8; v17 = v9; v18 = v10; goto L7;
-L7:;
-    store64(a0, v11);
-    v119 = a0 + 8u * 1u;
-    store64(v119, v12);
-    v120 = a0 + 16u * 1u;
-    store64(v120, v13);
-    v121 = a0 + 24u * 1u;
-    store16(v121, v14);
-    v122 = a0 + 26u * 1u;
-    store16(v122, v15);
-    v123 = a0 + 28u * 1u;
-    store16(v123, v16);
-    v124 = a0 + 30u * 1u;
-    store16(v124, v17);
-    v125 = a0 + 32u * 1u;
-    store8(v125, v18);
-    v126 = a0 + 33u * 1u;
-    memory_cpy(v126, v22, 7u);
+    v108 = (u16)((u32)v96 | (u32)v97);
+    v109 = v4 ? 52u : 54u;
+    v110 = v4 ? 53u : 55u;
+    v111 = a1 + v109 * 1u;
+    v112 = load8(v111);
+    v113 = a1 + v110 * 1u;
+    v114 = load8(v113);
+    v115 = (u16)v112;
+    v116 = (u16)((u32)v115 << (8u & 15u));
+    v117 = (u16)v114;
+    v118 = (u16)((u32)v116 | (u32)v117);
+    memory_set(v21, 0u, 7u);
+    v12 = 1u; v13 = v88; v14 = v98; v15 = v99; v16 = v107; v17 = v108; v18 = v118; v19 = v3; goto L12;
+L9:;
+    f117(v22, a1, a2);
+    v119 = load8(v22);
+    v120 = v119 == 1u;
+    if (v120) { goto L10; }
+    else { v5 = 0u; v6 = 0u; v7 = 0u; v8 = 0u; v9 = 0u; v10 = 0u; v11 = 0u; goto L11; }
+L10:;
+    v121 = v22 + 8u * 1u;
+    v122 = load_address(v121);
+    v123 = v122 + 20u * 1u;
+    v124 = load64(v123);
+    v125 = v122 + 28u * 1u;
+    v126 = load8(v125);
+    v127 = v122 + 29u * 1u;
+    v128 = load8(v127);
+    v129 = (u16)v126;
+    v130 = (u16)((u32)v129 << (8u & 15u));
+    v131 = (u16)v128;
+    v132 = (u16)((u32)v130 | (u32)v131);
+    v133 = v122 + 34u * 1u;
+    v134 = load64(v133);
+    v135 = v122 + 42u * 1u;
+    v136 = load8(v135);
+    v137 = v122 + 43u * 1u;
+    v138 = load8(v137);
+    v139 = (u16)v136;
+    v140 = (u16)((u32)v139 << (8u & 15u));
+    v141 = (u16)v138;
+    v142 = (u16)((u32)v140 | (u32)v141);
+    v143 = swap64(v124);
+    v144 = swap64(v134);
+    v145 = v122 + 30u * 1u;
+    v146 = load8(v145);
+    v147 = v122 + 31u * 1u;
+    v148 = load8(v147);
+    v149 = (u16)v146;
+    v150 = (u16)((u32)v149 << (8u & 15u));
+    v151 = (u16)v148;
+    v152 = (u16)((u32)v150 | (u32)v151);
+    v153 = v122 + 52u * 1u;
+    v154 = load8(v153);
+    v155 = v122 + 53u * 1u;
+    v156 = load8(v155);
+    v157 = (u16)v154;
+    v158 = (u16)((u32)v157 << (8u & 15u));
+    v159 = (u16)v156;
+    v160 = (u16)((u32)v158 | (u32)v159);
+    v161 = v122 + 46u * 1u;
+    v162 = load8(v161);
+    v163 = (u8)((u32)v162 & (u32)15u);
+    v5 = v143; v6 = v144; v7 = v132; v8 = v152; v9 = v142; v10 = v160; v11 = v163; goto L11;
+L11:;
+    memory_set(v21, 0u, 7u);
+    v164 = (u64)v119;
+    v12 = v164; v13 = v5; v14 = v6; v15 = v7; v16 = v8; v17 = v9; v18 = v10; v19 = v11; goto L12;
+L12:;
+    store64(a0, v12);
+    v165 = a0 + 8u * 1u;
+    store64(v165, v13);
+    v166 = a0 + 16u * 1u;
+    store64(v166, v14);
+    v167 = a0 + 24u * 1u;
+    store16(v167, v15);
+    v168 = a0 + 26u * 1u;
+    store16(v168, v16);
+    v169 = a0 + 28u * 1u;
+    store16(v169, v17);
+    v170 = a0 + 30u * 1u;
+    store16(v170, v18);
+    v171 = a0 + 32u * 1u;
+    store8(v171, v19);
+    v172 = a0 + 33u * 1u;
+    memory_cpy(v172, v21, 7u);
     return;
 }
 
-static u8 f113(u64 a0, address a1, u64 a2, address a3, u64 a4, u64 a5) {
+static void f117(address a0, address a1, u64 a2) {
+    u64 v3, v5, v23, v42, v43, v46, v47, v48, v50, v65, v66, v67, v68;
+    address v4, v6, v11, v15, v17, v28, v30, v37, v40, v44, v57, v61, v63, v69, v70;
+    u8 v7, v8, v9, v10, v12, v13, v14, v16, v18, v24, v26, v27, v29, v31, v36, v38;
+    u8 v39, v41, v45, v49, v51, v52, v53, v54, v55, v56, v58, v59, v60, v62, v64;
+    u16 v19, v20, v21, v22, v25, v32, v33, v34, v35;
+    u64 block0[1];
+    v6 = ADDRESS(block0);
+    memory_set(v6, 0u, 3u);
+    v7 = a2 < 54u;
+    if (v7) { goto L6; }
+    else { goto L1; }
+L1:;
+    v8 = load8(a1);
+    v9 = (u8)((u32)v8 & (u32)15u);
+    v10 = v9 == 13u;
+    if (v10) { goto L2; }
+    else { goto L6; }
+L2:;
+    v11 = a1 + 1u * 1u;
+    v12 = load8(v11);
+    v13 = (u8)((u32)v12 & (u32)15u);
+    v14 = v13 == 2u;
+    if (v14) { goto L3; }
+    else { goto L6; }
+L3:;
+    v15 = a1 + 2u * 1u;
+    v16 = load8(v15);
+    v17 = a1 + 3u * 1u;
+    v18 = load8(v17);
+    v19 = (u16)v16;
+    v20 = (u16)((u32)v19 << (8u & 15u));
+    v21 = (u16)v18;
+    v22 = (u16)((u32)v20 | (u32)v21);
+    v23 = (u64)v22;
+    v24 = a2 < v23;
+    v25 = (u16)((u32)v22 + (u32)64063u);
+    v26 = v25 < 64117u;
+    v27 = (u8)(((u32)v26 | (u32)v24) & UINT64_C(1));
+    if (v27) { goto L6; }
+    else { goto L4; }
+L4:;
+    v28 = a1 + 48u * 1u;
+    v29 = load8(v28);
+    v30 = a1 + 49u * 1u;
+    v31 = load8(v30);
+    v32 = (u16)v29;
+    v33 = (u16)((u32)v32 << (8u & 15u));
+    v34 = (u16)v31;
+    v35 = (u16)((u32)v33 | (u32)v34);
+    v36 = v35 == 1u;
+    if (v36) { goto L5; }
+    else { goto L6; }
+L5:;
+    v37 = a1 + 46u * 1u;
+    v38 = load8(v37);
+    v39 = (u8)((u32)v38 & (u32)15u);
+    v40 = a1 + 50u * 1u;
+    v41 = load8(v40);
+    v42 = (u64)v41;
+    v43 = (u64)((u64)v42 << (8u & 63u));
+    v44 = a1 + 51u * 1u;
+    v45 = load8(v44);
+    v46 = (u64)v45;
+    v47 = (u64)((u64)v43 | (u64)v46);
+    v48 = (u64)((u64)v47 + (u64)52u);
+    v49 = v48 == v23;
+    v50 = (u64)((u64)v23 & (u64)1u);
+    v51 = v50 == 0u;
+    v52 = (u8)(((u32)v51 & (u32)v49) & UINT64_C(1));
+    v53 = v39 < 5u;
+    v54 = v52 ? v53 : 0u;
+    if (v54) { goto L7; }
+    else { goto L6; }
+L6:;
+    f8(v6, a1, a2);
+    v55 = load8(v6);
+    v56 = v55 == 0u;
+    if (v56) { goto L7; }
+    else { goto L8; }
+L7:;
+    v3 = 0u; v4 = 0u; v5 = 0u; goto L10;
+L8:;
+    v57 = v6 + 1u * 1u;
+    v58 = load8(v57);
+    v59 = (u8)((u32)v58 & (u32)252u);
+    v60 = v59 == 4u;
+    if (v60) { goto L9; }
+    else { v3 = 0u; v4 = 0u; v5 = 0u; goto L10; }
+L9:;
+    v61 = a1 + 2u * 1u;
+    v62 = load8(v61);
+    v63 = a1 + 3u * 1u;
+    v64 = load8(v63);
+    v65 = (u64)v62;
+    v66 = (u64)((u64)v65 << (8u & 63u));
+    v67 = (u64)v64;
+    v68 = (u64)((u64)v66 | (u64)v67);
+    v3 = 1u; v4 = a1; v5 = v68; goto L10;
+L10:;
+    store64(a0, v3);
+    v69 = a0 + 8u * 1u;
+    store_address(v69, v4);
+    v70 = a0 + 16u * 1u;
+    store64(v70, v5);
+    return;
+}
+
+static u8 f118(u64 a0, address a1, u64 a2, address a3, u64 a4, u64 a5) {
     u64 v6, v8, v12, v13, v16, v17, v18, v19, v20, v21, v22, v24, v25, v26, v27, v28;
     u64 v31, v32, v35, v36, v37, v40, v41, v42, v43, v44, v45, v46, v47, v48, v49, v50;
     u64 v51, v52, v54, v55, v56, v58, v59, v61, v69, v72, v84, v86, v88, v90, v91, v92;
@@ -25254,7 +26897,7 @@ L13:;
     v7 = 1u; goto L10;
 }
 
-static void f114(address a0, u32 a1, address a2, u64 a3) {
+static void f119(address a0, u32 a1, address a2, u64 a3) {
     u64 v4, v5, v6, v7, v8, v9, v10, v12, v14, v15, v27, v44, v45, v46, v47, v48;
     u64 v49, v50, v51, v52, v53, v54, v55, v56, v57, v58, v59, v60, v61, v62, v63, v64;
     u64 v65, v66, v67, v68, v69, v70, v71, v72, v74, v75, v76, v94, v95, v96, v97, v98;
@@ -25548,7 +27191,7 @@ L7:;
     else { v6 = v5; goto L9; }
 L8:;
     v251 = (u64)((u64)v5 + (u64)32u);
-    v252 = f115(v16, v251, a3);
+    v252 = f120(v16, v251, a3);
     v253 = (u64)((u64)a3 - (u64)v252);
     v254 = v253 > 31u;
     if (v254) { v5 = v252; goto L7; }
@@ -25685,7 +27328,7 @@ L19:;
     v358 = (u64)((u64)v10 + (u64)1u);
     v359 = a2 + v358 * 1u;
     v360 = (u64)((u64)a3 - (u64)v358);
-    f101(v17, a2, v10);
+    f105(v17, a2, v10);
     v361 = load8(v17);
     v362 = v361 == 1u;
     if (v362) { goto L21; }
@@ -25740,7 +27383,7 @@ L27:;
     v11 = 1u; v12 = v366; v13 = v385; goto L20;
 }
 
-static u64 f115(address a0, u64 a1, u64 a2) {
+static u64 f120(address a0, u64 a1, u64 a2) {
     u64 v3, v4, v5, v10, v11, v28, v29, v30, v31, v32, v33, v34, v35, v36, v37, v38;
     u64 v39, v40, v41, v42, v43, v44, v45, v46, v47, v48, v49, v50, v51, v52, v53, v70;
     u64 v71, v72, v73, v74, v75, v76, v77, v78, v79, v80, v81, v82, v83, v84, v85, v86;
@@ -26134,7 +27777,7 @@ L4:;
     return v4;
 }
 
-static void f116(address a0, u16 a1, address a2, u64 a3) {
+static void f121(address a0, u16 a1, address a2, u64 a3) {
     u64 v4, v5, v8, v10, v11, v12, v15, v16, v21, v22, v25, v26, v27, v28, v31, v32;
     u64 v33, v36, v37, v40, v41, v46, v47, v50, v51, v52, v55, v56, v59, v60, v63, v64;
     u64 v67, v68, v71, v73, v74, v77, v79, v80, v84, v85, v113, v129, v131, v132, v134, v135;
@@ -26227,7 +27870,7 @@ static void f116(address a0, u16 a1, address a2, u64 a3) {
     v110 = v98 + 8u * 1u;
     store64(v110, 0u);
     store_address(v98, v100);
-    v111 = f94(a1, a2, a3);
+    v111 = f98(a1, a2, a3);
     v112 = v111.m0;
     v113 = v111.m1;
     v114 = v113 == 0u;
@@ -26251,7 +27894,7 @@ L2:;
     v127 = v100 + 16u * 1u;
     store_address(v100, v92);
     memory_set(v103, 0u, 16u);
-    v128 = f120(v100, 6u);
+    v128 = f125(v100, 6u);
     if (v128) { goto L3; }
     else { goto L7; }
 L3:;
@@ -26261,7 +27904,7 @@ L3:;
     v132 = (u64)((u64)v131 + (u64)6u);
     v133 = v130 + v131 * 1u;
     v134 = (u64)v133;
-    v135 = (u64)((u64)v134 - (u64)ADDRESS(c313));
+    v135 = (u64)((u64)v134 - (u64)ADDRESS(c319));
     v136 = v135 < 6u;
     if (v136) { goto L4; }
     else { goto L5; }
@@ -26279,7 +27922,7 @@ L4:;
     store8(v141, 32u);
     goto L6;
 L5:;
-    memory_cpy(v133, ADDRESS(c313), 6u);
+    memory_cpy(v133, ADDRESS(c319), 6u);
     goto L6;
 L6:;
     store_address(v100, v130);
@@ -26290,7 +27933,7 @@ L7:;
     v142 = (u8)(((u32)v128 ^ (u32)1u) & UINT64_C(1));
     v143 = (u8)v142;
     store8(v110, v143);
-    f117(a2, a3, v98);
+    f122(a2, a3, v98);
     v144 = load8(v110);
     v145 = v144 == 0u;
     if (v145) { goto L9; }
@@ -26314,7 +27957,7 @@ L10:;
     if (v154) { goto L11; }
     else { v4 = v151; v5 = v153; goto L13; }
 L11:;
-    v155 = f120(v146, 1u);
+    v155 = f125(v146, 1u);
     if (v155) { goto L12; }
     else { v6 = 1u; goto L14; }
 L12:;
@@ -26334,7 +27977,7 @@ L14:;
     v161 = (u8)v6;
     v89 = v161; goto L225;
 L15:;
-    v162 = f121(v146, ADDRESS(c314), 1u);
+    v162 = f126(v146, ADDRESS(c320), 1u);
     v89 = v162; goto L225;
 L16:;
     v163 = (u64)((u64)v8 * (u64)6u);
@@ -26364,7 +28007,7 @@ L17:;
     if (v183) { v9 = 0u; goto L19; }
     else { goto L18; }
 L18:;
-    v184 = f121(v180, ADDRESS(c148), 0u);
+    v184 = f126(v180, ADDRESS(c155), 0u);
     v9 = v184; goto L19;
 L19:;
     store8(v110, v9);
@@ -26372,7 +28015,7 @@ L19:;
     store8(v97, v165);
     store8(v115, v167);
     store8(v116, v169);
-    v186 = f90(v97);
+    v186 = f94(v97);
     v187 = v186.m0;
     v188 = v186.m1;
     if (v185) { goto L20; }
@@ -26392,7 +28035,7 @@ L21:;
     if (v196) { goto L22; }
     else { v10 = v192; v11 = v194; goto L24; }
 L22:;
-    v197 = f120(v180, v188);
+    v197 = f125(v180, v188);
     if (v197) { goto L23; }
     else { v13 = 1u; goto L28; }
 L23:;
@@ -26431,7 +28074,7 @@ L28:;
     v212 = (u8)v13;
     v14 = v212; goto L30;
 L29:;
-    v213 = f121(v180, v187, v188);
+    v213 = f126(v180, v187, v188);
     v14 = v213; goto L30;
 L30:;
     store8(v110, v14);
@@ -26452,7 +28095,7 @@ L32:;
     if (v221) { goto L33; }
     else { v15 = v218; v16 = v220; goto L35; }
 L33:;
-    v222 = f120(v180, 1u);
+    v222 = f125(v180, 1u);
     if (v222) { goto L34; }
     else { v17 = 1u; goto L36; }
 L34:;
@@ -26472,7 +28115,7 @@ L36:;
     v228 = (u8)v17;
     v18 = v228; goto L38;
 L37:;
-    v229 = f121(v180, ADDRESS(c316), 1u);
+    v229 = f126(v180, ADDRESS(c322), 1u);
     v18 = v229; goto L38;
 L38:;
     store8(v110, v18);
@@ -26509,7 +28152,7 @@ L43:;
     if (v242) { goto L44; }
     else { v21 = v238; v22 = v240; goto L46; }
 L44:;
-    v243 = f120(v233, 2u);
+    v243 = f125(v233, 2u);
     if (v243) { goto L45; }
     else { v23 = 1u; goto L50; }
 L45:;
@@ -26521,7 +28164,7 @@ L46:;
     v247 = load_address(v233);
     v248 = v247 + v22 * 1u;
     v249 = (u64)v248;
-    v250 = (u64)((u64)v249 - (u64)ADDRESS(c294));
+    v250 = (u64)((u64)v249 - (u64)ADDRESS(c300));
     v251 = v250 < 2u;
     if (v251) { goto L47; }
     else { goto L48; }
@@ -26542,7 +28185,7 @@ L50:;
     v253 = (u8)v23;
     v24 = v253; goto L52;
 L51:;
-    v254 = f121(v233, ADDRESS(c294), 2u);
+    v254 = f126(v233, ADDRESS(c300), 2u);
     v24 = v254; goto L52;
 L52:;
     store8(v110, v24);
@@ -26554,13 +28197,13 @@ L53:;
 L54:;
     v256 = v177 + v25 * 1u;
     v257 = load8(v256);
-    f118(v257, v98);
+    f123(v257, v98);
     v258 = (u64)((u64)v25 + (u64)1u);
     v259 = v258 == v232;
     if (v259) { goto L214; }
     else { v25 = v258; goto L54; }
 L55:;
-    f96(v96, v173, v175, v177, v178);
+    f100(v96, v173, v175, v177, v178);
     v260 = load8(v96);
     v261 = load8(v117);
     v262 = load8(v118);
@@ -26588,11 +28231,11 @@ L55:;
     default: goto L213;
     }
 L56:;
-    f122(v270, v98);
+    f127(v270, v98);
     goto L214;
 L57:;
     memory_set(v95, 0u, 40u);
-    v272 = f98(v95, v270);
+    v272 = f102(v95, v270);
     v273 = v272.m0;
     v274 = v272.m1;
     v275 = v19 == 0u;
@@ -26615,7 +28258,7 @@ L59:;
     if (v285) { goto L60; }
     else { v26 = v281; v27 = v283; goto L62; }
 L60:;
-    v286 = f120(v276, v274);
+    v286 = f125(v276, v274);
     if (v286) { goto L61; }
     else { v29 = 1u; goto L66; }
 L61:;
@@ -26654,7 +28297,7 @@ L66:;
     v301 = (u8)v29;
     v30 = v301; goto L68;
 L67:;
-    v302 = f121(v276, v273, v274);
+    v302 = f126(v276, v273, v274);
     v30 = v302; goto L68;
 L68:;
     store8(v110, v30);
@@ -26664,7 +28307,7 @@ L69:;
 L70:;
     v303 = (u8)((v261) & UINT64_C(1));
     v304 = v303 ? 4u : 5u;
-    v305 = v303 ? ADDRESS(c175) : ADDRESS(c176);
+    v305 = v303 ? ADDRESS(c181) : ADDRESS(c182);
     v306 = v19 == 0u;
     if (v306) { goto L72; }
     else { goto L71; }
@@ -26687,7 +28330,7 @@ L73:;
     if (v316) { goto L74; }
     else { v31 = v312; v32 = v314; goto L76; }
 L74:;
-    v317 = f120(v307, v304);
+    v317 = f125(v307, v304);
     if (v317) { goto L75; }
     else { v34 = 1u; goto L80; }
 L75:;
@@ -26725,7 +28368,7 @@ L80:;
     v332 = (u8)v34;
     v35 = v332; goto L82;
 L81:;
-    v333 = f121(v307, v305, v304);
+    v333 = f126(v307, v305, v304);
     v35 = v333; goto L82;
 L82:;
     store8(v110, v35);
@@ -26753,7 +28396,7 @@ L85:;
     if (v346) { goto L86; }
     else { v36 = v343; v37 = v345; goto L88; }
 L86:;
-    v347 = f120(v338, 1u);
+    v347 = f125(v338, 1u);
     if (v347) { goto L87; }
     else { v38 = 1u; goto L89; }
 L87:;
@@ -26773,14 +28416,14 @@ L89:;
     v353 = (u8)v38;
     v39 = v353; goto L91;
 L90:;
-    v354 = f121(v338, ADDRESS(c315), 1u);
+    v354 = f126(v338, ADDRESS(c321), 1u);
     v39 = v354; goto L91;
 L91:;
     store8(v110, v39);
     goto L92;
 L92:;
     v355 = (u64)((u64)v334 >> (16u & 63u));
-    f122(v355, v98);
+    f127(v355, v98);
     v356 = load8(v110);
     v357 = v356 == 0u;
     if (v357) { goto L93; }
@@ -26801,7 +28444,7 @@ L94:;
     if (v366) { goto L95; }
     else { v40 = v363; v41 = v365; goto L97; }
 L95:;
-    v367 = f120(v358, 1u);
+    v367 = f125(v358, 1u);
     if (v367) { goto L96; }
     else { v42 = 1u; goto L98; }
 L96:;
@@ -26821,7 +28464,7 @@ L98:;
     v373 = (u8)v42;
     v43 = v373; goto L100;
 L99:;
-    v374 = f121(v358, ADDRESS(c318), 1u);
+    v374 = f126(v358, ADDRESS(c324), 1u);
     v43 = v374; goto L100;
 L100:;
     store8(v110, v43);
@@ -26834,7 +28477,7 @@ L102:;
     v377 = (u32)((u32)v44 * (u32)10u);
     v378 = (u32)((u32)v377 >> (16u & 31u));
     v379 = (u64)v378;
-    f122(v379, v98);
+    f127(v379, v98);
     v380 = (u32)((u32)v377 & (u32)65534u);
     v381 = v380 == 0u;
     v382 = (u8)((u32)v45 + (u32)255u);
@@ -26844,27 +28487,27 @@ L102:;
     else { v44 = v380; v45 = v382; goto L102; }
 L103:;
     v385 = (u8)(v270);
-    f118(v261, v98);
-    f118(v262, v98);
-    f118(v263, v98);
-    f118(v265, v98);
-    f118(v267, v98);
-    f118(v268, v98);
-    f118(v269, v98);
-    f118(v385, v98);
+    f123(v261, v98);
+    f123(v262, v98);
+    f123(v263, v98);
+    f123(v265, v98);
+    f123(v267, v98);
+    f123(v268, v98);
+    f123(v269, v98);
+    f123(v385, v98);
     goto L214;
 L104:;
-    f118(v262, v98);
-    f118(v263, v98);
-    f118(v265, v98);
-    f118(v267, v98);
-    f118(v268, v98);
-    f118(v269, v98);
+    f123(v262, v98);
+    f123(v263, v98);
+    f123(v265, v98);
+    f123(v267, v98);
+    f123(v268, v98);
+    f123(v269, v98);
     v386 = (u8)(v270);
-    f118(v386, v98);
+    f123(v386, v98);
     v387 = (u64)((u64)v270 >> (8u & 63u));
     v388 = (u8)(v387);
-    f118(v388, v98);
+    f123(v388, v98);
     v389 = load8(v110);
     v390 = v389 == 0u;
     if (v390) { goto L105; }
@@ -26885,7 +28528,7 @@ L106:;
     if (v399) { goto L107; }
     else { v46 = v396; v47 = v398; goto L109; }
 L107:;
-    v400 = f120(v391, 1u);
+    v400 = f125(v391, 1u);
     if (v400) { goto L108; }
     else { v48 = 1u; goto L110; }
 L108:;
@@ -26905,7 +28548,7 @@ L110:;
     v406 = (u8)v48;
     v49 = v406; goto L112;
 L111:;
-    v407 = f121(v391, ADDRESS(c319), 1u);
+    v407 = f126(v391, ADDRESS(c325), 1u);
     v49 = v407; goto L112;
 L112:;
     store8(v110, v49);
@@ -26913,11 +28556,11 @@ L112:;
 L113:;
     v408 = (u64)((u64)v270 >> (16u & 63u));
     v409 = (u64)((u64)v408 & (u64)65535u);
-    f122(v409, v98);
+    f127(v409, v98);
     goto L214;
 L114:;
     memory_set(v94, 0u, 24u);
-    f88(v94, v261, v262);
+    f92(v94, v261, v262);
     v410 = load8(v94);
     v411 = v410 == 1u;
     if (v411) { goto L115; }
@@ -26945,7 +28588,7 @@ L117:;
     if (v424) { goto L118; }
     else { v50 = v420; v51 = v422; goto L120; }
 L118:;
-    v425 = f120(v415, v413);
+    v425 = f125(v415, v413);
     if (v425) { goto L119; }
     else { v53 = 1u; goto L124; }
 L119:;
@@ -26984,7 +28627,7 @@ L124:;
     v440 = (u8)v53;
     v54 = v440; goto L126;
 L125:;
-    v441 = f121(v415, v412, v413);
+    v441 = f126(v415, v412, v413);
     v54 = v441; goto L126;
 L126:;
     store8(v110, v54);
@@ -27010,7 +28653,7 @@ L129:;
     if (v452) { goto L130; }
     else { v55 = v448; v56 = v450; goto L132; }
 L130:;
-    v453 = f120(v443, 2u);
+    v453 = f125(v443, 2u);
     if (v453) { goto L131; }
     else { v57 = 1u; goto L136; }
 L131:;
@@ -27022,7 +28665,7 @@ L132:;
     v457 = load_address(v443);
     v458 = v457 + v56 * 1u;
     v459 = (u64)v458;
-    v460 = (u64)((u64)v459 - (u64)ADDRESS(c294));
+    v460 = (u64)((u64)v459 - (u64)ADDRESS(c300));
     v461 = v460 < 2u;
     if (v461) { goto L133; }
     else { goto L134; }
@@ -27043,13 +28686,13 @@ L136:;
     v463 = (u8)v57;
     v58 = v463; goto L138;
 L137:;
-    v464 = f121(v443, ADDRESS(c294), 2u);
+    v464 = f126(v443, ADDRESS(c300), 2u);
     v58 = v464; goto L138;
 L138:;
     store8(v110, v58);
     goto L139;
 L139:;
-    f118(v262, v98);
+    f123(v262, v98);
     goto L140;
 L140:;
     goto L214;
@@ -27074,7 +28717,7 @@ L143:;
     if (v475) { goto L144; }
     else { v59 = v471; v60 = v473; goto L146; }
 L144:;
-    v476 = f120(v466, 6u);
+    v476 = f125(v466, 6u);
     if (v476) { goto L145; }
     else { v61 = 1u; goto L150; }
 L145:;
@@ -27086,7 +28729,7 @@ L146:;
     v480 = load_address(v466);
     v481 = v480 + v60 * 1u;
     v482 = (u64)v481;
-    v483 = (u64)((u64)v482 - (u64)ADDRESS(c320));
+    v483 = (u64)((u64)v482 - (u64)ADDRESS(c326));
     v484 = v483 < 6u;
     if (v484) { goto L147; }
     else { goto L148; }
@@ -27104,7 +28747,7 @@ L147:;
     store8(v489, 32u);
     goto L149;
 L148:;
-    memory_cpy(v481, ADDRESS(c320), 6u);
+    memory_cpy(v481, ADDRESS(c326), 6u);
     goto L149;
 L149:;
     store_address(v466, v480);
@@ -27115,14 +28758,14 @@ L150:;
     v490 = (u8)v61;
     v62 = v490; goto L152;
 L151:;
-    v491 = f121(v466, ADDRESS(c320), 6u);
+    v491 = f126(v466, ADDRESS(c326), 6u);
     v62 = v491; goto L152;
 L152:;
     store8(v110, v62);
     goto L153;
 L153:;
     v492 = (u64)v262;
-    f122(v492, v98);
+    f127(v492, v98);
     v493 = load8(v110);
     v494 = v493 == 0u;
     if (v494) { goto L154; }
@@ -27144,7 +28787,7 @@ L155:;
     if (v504) { goto L156; }
     else { v63 = v500; v64 = v502; goto L158; }
 L156:;
-    v505 = f120(v495, 12u);
+    v505 = f125(v495, 12u);
     if (v505) { goto L157; }
     else { v65 = 1u; goto L162; }
 L157:;
@@ -27156,7 +28799,7 @@ L158:;
     v509 = load_address(v495);
     v510 = v509 + v64 * 1u;
     v511 = (u64)v510;
-    v512 = (u64)((u64)v511 - (u64)ADDRESS(c321));
+    v512 = (u64)((u64)v511 - (u64)ADDRESS(c327));
     v513 = v512 < 12u;
     if (v513) { goto L159; }
     else { goto L160; }
@@ -27186,7 +28829,7 @@ L159:;
     store8(v524, 120u);
     goto L161;
 L160:;
-    memory_cpy(v510, ADDRESS(c321), 12u);
+    memory_cpy(v510, ADDRESS(c327), 12u);
     goto L161;
 L161:;
     store_address(v495, v509);
@@ -27197,13 +28840,13 @@ L162:;
     v525 = (u8)v65;
     v66 = v525; goto L164;
 L163:;
-    v526 = f121(v495, ADDRESS(c321), 12u);
+    v526 = f126(v495, ADDRESS(c327), 12u);
     v66 = v526; goto L164;
 L164:;
     store8(v110, v66);
     goto L165;
 L165:;
-    f118(v263, v98);
+    f123(v263, v98);
     v527 = load8(v110);
     v528 = v527 == 0u;
     if (v528) { goto L166; }
@@ -27225,7 +28868,7 @@ L167:;
     if (v538) { goto L168; }
     else { v67 = v534; v68 = v536; goto L170; }
 L168:;
-    v539 = f120(v529, 12u);
+    v539 = f125(v529, 12u);
     if (v539) { goto L169; }
     else { v69 = 1u; goto L174; }
 L169:;
@@ -27237,7 +28880,7 @@ L170:;
     v543 = load_address(v529);
     v544 = v543 + v68 * 1u;
     v545 = (u64)v544;
-    v546 = (u64)((u64)v545 - (u64)ADDRESS(c322));
+    v546 = (u64)((u64)v545 - (u64)ADDRESS(c328));
     v547 = v546 < 12u;
     if (v547) { goto L171; }
     else { goto L172; }
@@ -27267,7 +28910,7 @@ L171:;
     store8(v558, 120u);
     goto L173;
 L172:;
-    memory_cpy(v544, ADDRESS(c322), 12u);
+    memory_cpy(v544, ADDRESS(c328), 12u);
     goto L173;
 L173:;
     store_address(v529, v543);
@@ -27278,14 +28921,14 @@ L174:;
     v559 = (u8)v69;
     v70 = v559; goto L176;
 L175:;
-    v560 = f121(v529, ADDRESS(c322), 12u);
+    v560 = f126(v529, ADDRESS(c328), 12u);
     v70 = v560; goto L176;
 L176:;
     store8(v110, v70);
     goto L177;
 L177:;
-    f118(v267, v98);
-    f118(v265, v98);
+    f123(v267, v98);
+    f123(v265, v98);
     goto L214;
 L178:;
     v561 = (address)v270;
@@ -27316,10 +28959,10 @@ L181:;
     if (v574) { goto L182; }
     else { goto L183; }
 L182:;
-    v575 = f119(v571, v93, 1u);
+    v575 = f124(v571, v93, 1u);
     v72 = v575; goto L184;
 L183:;
-    v576 = f121(v571, v93, 1u);
+    v576 = f126(v571, v93, 1u);
     v72 = v576; goto L184;
 L184:;
     store8(v110, v72);
@@ -27344,7 +28987,7 @@ L187:;
     if (v586) { goto L188; }
     else { v73 = v582; v74 = v584; goto L190; }
 L188:;
-    v587 = f120(v577, 2u);
+    v587 = f125(v577, 2u);
     if (v587) { goto L189; }
     else { v75 = 1u; goto L194; }
 L189:;
@@ -27356,7 +28999,7 @@ L190:;
     v591 = load_address(v577);
     v592 = v591 + v74 * 1u;
     v593 = (u64)v592;
-    v594 = (u64)((u64)v593 - (u64)ADDRESS(c323));
+    v594 = (u64)((u64)v593 - (u64)ADDRESS(c329));
     v595 = v594 < 2u;
     if (v595) { goto L191; }
     else { goto L192; }
@@ -27377,13 +29020,13 @@ L194:;
     v597 = (u8)v75;
     v76 = v597; goto L196;
 L195:;
-    v598 = f121(v577, ADDRESS(c323), 2u);
+    v598 = f126(v577, ADDRESS(c329), 2u);
     v76 = v598; goto L196;
 L196:;
     store8(v110, v76);
     goto L197;
 L197:;
-    f118(v564, v98);
+    f123(v564, v98);
     goto L198;
 L198:;
     v599 = (u64)((u64)v71 + (u64)1u);
@@ -27392,7 +29035,7 @@ L198:;
     else { v71 = v599; goto L179; }
 L199:;
     v601 = (address)v270;
-    f117(v601, v271, v98);
+    f122(v601, v271, v98);
     goto L214;
 L200:;
     v602 = v271 < 8u;
@@ -27403,28 +29046,28 @@ L201:;
     v77 = v271; v78 = v603; goto L202;
 L202:;
     v604 = load8(v78);
-    f118(v604, v98);
+    f123(v604, v98);
     v605 = v78 + 1u * 1u;
     v606 = load8(v605);
-    f118(v606, v98);
+    f123(v606, v98);
     v607 = v78 + 2u * 1u;
     v608 = load8(v607);
-    f118(v608, v98);
+    f123(v608, v98);
     v609 = v78 + 3u * 1u;
     v610 = load8(v609);
-    f118(v610, v98);
+    f123(v610, v98);
     v611 = v78 + 4u * 1u;
     v612 = load8(v611);
-    f118(v612, v98);
+    f123(v612, v98);
     v613 = v78 + 5u * 1u;
     v614 = load8(v613);
-    f118(v614, v98);
+    f123(v614, v98);
     v615 = v78 + 6u * 1u;
     v616 = load8(v615);
-    f118(v616, v98);
+    f123(v616, v98);
     v617 = v78 + 7u * 1u;
     v618 = load8(v617);
-    f118(v618, v98);
+    f123(v618, v98);
     v619 = v78 + 8u * 1u;
     v620 = (u64)((u64)v77 + (u64)UINT64_C(18446744073709551608));
     v621 = v620 > 7u;
@@ -27451,7 +29094,7 @@ L205:;
     if (v632) { goto L206; }
     else { v79 = v629; v80 = v631; goto L208; }
 L206:;
-    v633 = f120(v624, 1u);
+    v633 = f125(v624, 1u);
     if (v633) { goto L207; }
     else { v81 = 1u; goto L209; }
 L207:;
@@ -27471,7 +29114,7 @@ L209:;
     v639 = (u8)v81;
     v82 = v639; goto L211;
 L210:;
-    v640 = f121(v624, ADDRESS(c316), 1u);
+    v640 = f126(v624, ADDRESS(c322), 1u);
     v82 = v640; goto L211;
 L211:;
     store8(v110, v82);
@@ -27503,7 +29146,7 @@ L217:;
     if (v651) { goto L218; }
     else { v84 = v648; v85 = v650; goto L220; }
 L218:;
-    v652 = f120(v643, 1u);
+    v652 = f125(v643, 1u);
     if (v652) { goto L219; }
     else { v86 = 1u; goto L221; }
 L219:;
@@ -27523,7 +29166,7 @@ L221:;
     v658 = (u8)v86;
     v87 = v658; goto L223;
 L222:;
-    v659 = f121(v643, ADDRESS(c314), 1u);
+    v659 = f126(v643, ADDRESS(c320), 1u);
     v87 = v659; goto L223;
 L223:;
     store8(v110, v87);
@@ -27562,7 +29205,7 @@ L229:;
     return;
 }
 
-static void f117(address a0, u64 a1, address a2) {
+static void f122(address a0, u64 a1, address a2) {
     u64 v3, v4, v7, v14, v17, v19, v22, v23, v24, v31;
     u8 v5, v6, v8, v10, v11, v15, v20, v21, v27, v28, v30, v32;
     address v9, v12, v13, v16, v18, v25, v26, v29;
@@ -27591,7 +29234,7 @@ L3:;
     if (v20) { goto L4; }
     else { v3 = v17; v4 = v19; goto L6; }
 L4:;
-    v21 = f120(v12, 1u);
+    v21 = f125(v12, 1u);
     if (v21) { goto L5; }
     else { v5 = 1u; goto L7; }
 L5:;
@@ -27611,7 +29254,7 @@ L7:;
     v27 = (u8)v5;
     v6 = v27; goto L9;
 L8:;
-    v28 = f121(v12, ADDRESS(c315), 1u);
+    v28 = f126(v12, ADDRESS(c321), 1u);
     v6 = v28; goto L9;
 L9:;
     store8(v9, v6);
@@ -27619,7 +29262,7 @@ L9:;
 L10:;
     v29 = a0 + v7 * 1u;
     v30 = load8(v29);
-    f118(v30, a2);
+    f123(v30, a2);
     v31 = (u64)((u64)v7 + (u64)1u);
     v32 = v31 == a1;
     if (v32) { goto L11; }
@@ -27628,7 +29271,7 @@ L11:;
     return;
 }
 
-static void f118(u8 a0, address a1) {
+static void f123(u8 a0, address a1) {
     u8 v2, v3, v7, v8, v9, v10, v11, v12, v13, v17, v18, v19, v20, v21, v22, v23;
     u8 v24, v25, v29, v30, v31;
     address v4, v5, v6, v14, v15, v26, v27;
@@ -27657,10 +29300,10 @@ L1:;
     if (v17) { goto L2; }
     else { goto L3; }
 L2:;
-    v18 = f119(v14, v5, 1u);
+    v18 = f124(v14, v5, 1u);
     v2 = v18; goto L4;
 L3:;
-    v19 = f121(v14, v5, 1u);
+    v19 = f126(v14, v5, 1u);
     v2 = v19; goto L4;
 L4:;
     store8(v6, v2);
@@ -27682,10 +29325,10 @@ L5:;
     if (v29) { goto L6; }
     else { goto L7; }
 L6:;
-    v30 = f119(v26, v4, 1u);
+    v30 = f124(v26, v4, 1u);
     v3 = v30; goto L8;
 L7:;
-    v31 = f121(v26, v4, 1u);
+    v31 = f126(v26, v4, 1u);
     v3 = v31; goto L8;
 L8:;
     store8(v6, v3);
@@ -27694,7 +29337,7 @@ L9:;
     return;
 }
 
-static u8 f119(address a0, address a1, u64 a2) {
+static u8 f124(address a0, address a1, u64 a2) {
     u64 v3, v4, v5, v6, v7, v15, v27, v41, v51, v54, v56, v57, v60, v61, v62, v65;
     u64 v66, v67, v72;
     u8 v8, v9, v10, v12, v14, v16, v18, v19, v20, v21, v23, v24, v25, v26, v28, v30;
@@ -27799,7 +29442,7 @@ L15:;
     if (v58) { goto L16; }
     else { v5 = v54; v6 = v56; goto L18; }
 L16:;
-    v59 = f120(a0, a2);
+    v59 = f125(a0, a2);
     if (v59) { goto L17; }
     else { v8 = 1u; goto L22; }
 L17:;
@@ -27841,7 +29484,7 @@ L23:;
     return v9;
 }
 
-static u8 f120(address a0, u64 a1) {
+static u8 f125(address a0, u64 a1) {
     u8 v2, v7, v12, v16, v17, v21, v25;
     struct pair v3, v19, v22, v23;
     address v4, v8, v18, v27;
@@ -27892,7 +29535,7 @@ L6:;
     v2 = 1u; goto L1;
 }
 
-static u8 f121(address a0, address a1, u64 a2) {
+static u8 f126(address a0, address a1, u64 a2) {
     u64 v3, v4, v5, v6, v7, v15, v17, v18, v23, v25, v33, v34, v41, v43;
     u8 v8, v9, v13, v14, v16, v20, v21, v22, v24, v26, v27, v28, v29, v30, v31, v32;
     u8 v36, v38, v39, v42, v44, v45, v46, v47;
@@ -27935,13 +29578,13 @@ L6:;
     if (v26) { goto L8; }
     else { v5 = v25; goto L7; }
 L7:;
-    v27 = f119(a0, ADDRESS(c339), 4u);
+    v27 = f124(a0, ADDRESS(c345), 4u);
     v28 = (u8)((v27) & UINT64_C(1));
     if (v28) { v8 = 1u; goto L16; }
     else { goto L6; }
 L8:;
     store8(v10, 1u);
-    v29 = f119(a0, v19, v17);
+    v29 = f124(a0, v19, v17);
     v30 = (u8)((v29) & UINT64_C(1));
     if (v30) { v8 = 1u; goto L16; }
     else { v6 = v15; goto L9; }
@@ -27975,19 +29618,19 @@ L13:;
     if (v44) { goto L15; }
     else { v7 = v43; goto L14; }
 L14:;
-    v45 = f119(a0, ADDRESS(c339), 4u);
+    v45 = f124(a0, ADDRESS(c345), 4u);
     v46 = (u8)((v45) & UINT64_C(1));
     if (v46) { v8 = 1u; goto L16; }
     else { goto L13; }
 L15:;
     store8(v37, 0u);
-    v47 = f119(a0, v35, v33);
+    v47 = f124(a0, v35, v33);
     v8 = v47; goto L16;
 L16:;
     return v8;
 }
 
-static void f122(u64 a0, address a1) {
+static void f127(u64 a0, address a1) {
     u64 v2, v3, v4, v5, v6, v7, v8, v13, v14, v15, v16, v22, v30, v32, v44, v46;
     u64 v47, v59, v70, v72, v74, v82, v88, v91, v93, v94, v97, v98, v99;
     u8 v9, v10, v12, v24, v26, v34, v36, v39, v40, v41, v42, v43, v49, v51, v61, v63;
@@ -28013,7 +29656,7 @@ L1:;
     v20 = (u16)((u32)v17 - (u32)v19);
     v21 = (u16)((u32)v20 << (1u & 15u));
     v22 = (u64)v21;
-    v23 = ADDRESS(c317) + v22 * 1u;
+    v23 = ADDRESS(c323) + v22 * 1u;
     v24 = load8(v23);
     v25 = v23 + 1u * 1u;
     v26 = load8(v25);
@@ -28025,7 +29668,7 @@ L1:;
     v30 = (u64)((u64)v3 + (u64)UINT64_C(18446744073709551612));
     v31 = (u16)((u32)v18 << (1u & 15u));
     v32 = (u64)v31;
-    v33 = ADDRESS(c317) + v32 * 1u;
+    v33 = ADDRESS(c323) + v32 * 1u;
     v34 = load8(v33);
     v35 = v33 + 1u * 1u;
     v36 = load8(v35);
@@ -28054,7 +29697,7 @@ L4:;
 L5:;
     v46 = (u64)((u64)v4 + (u64)UINT64_C(18446744073709551614));
     v47 = (u64)((u64)v5 << (1u & 63u));
-    v48 = ADDRESS(c317) + v47 * 1u;
+    v48 = ADDRESS(c323) + v47 * 1u;
     v49 = load8(v48);
     v50 = v48 + 1u * 1u;
     v51 = load8(v50);
@@ -28070,7 +29713,7 @@ L6:;
     v57 = (u16)((u32)v54 - (u32)v56);
     v58 = (u16)((u32)v57 << (1u & 15u));
     v59 = (u64)v58;
-    v60 = ADDRESS(c317) + v59 * 1u;
+    v60 = ADDRESS(c323) + v59 * 1u;
     v61 = load8(v60);
     v62 = v60 + 1u * 1u;
     v63 = load8(v62);
@@ -28093,7 +29736,7 @@ L8:;
     v72 = (u64)((u64)v4 + (u64)UINT64_C(18446744073709551612));
     v73 = (u16)((u32)v55 << (1u & 15u));
     v74 = (u64)v73;
-    v75 = ADDRESS(c317) + v74 * 1u;
+    v75 = ADDRESS(c323) + v74 * 1u;
     v76 = load8(v75);
     v77 = v75 + 1u * 1u;
     v78 = load8(v77);
@@ -28127,7 +29770,7 @@ L11:;
     if (v95) { goto L12; }
     else { v7 = v91; v8 = v93; goto L14; }
 L12:;
-    v96 = f120(v86, v82);
+    v96 = f125(v86, v82);
     if (v96) { goto L13; }
     else { v9 = 1u; goto L15; }
 L13:;
@@ -28147,7 +29790,7 @@ L15:;
     v102 = (u8)v9;
     v10 = v102; goto L17;
 L16:;
-    v103 = f121(v86, v81, v82);
+    v103 = f126(v86, v81, v82);
     v10 = v103; goto L17;
 L17:;
     store8(v83, v10);
@@ -28156,7 +29799,7 @@ L18:;
     return;
 }
 
-static void f123(address a0, u64 a1) {
+static void f128(address a0, u64 a1) {
     u64 v2, v3, v4, v5, v6, v8, v10, v12, v14, v15, v16, v18, v20, v22, v48, v61;
     u64 v62, v63, v65, v69, v71, v74, v78, v82, v85, v87, v90, v92, v100, v101, v121, v125;
     u64 v137, v138, v141, v147, v159, v163, v186, v188, v190, v192, v195, v197, v200, v205, v208, v210;
@@ -28286,7 +29929,7 @@ L9:;
     store16(v57, 1u);
     v76 = (u16)(v3);
     store16(v58, v76);
-    v77 = f105(v56, v44);
+    v77 = f109(v56, v44);
     if (v77) { v5 = v2; goto L20; }
     else { goto L10; }
 L10:;
@@ -28379,7 +30022,7 @@ L23:;
     v114 = v43 + 18u * 1u;
     store16(v114, 65535u);
     v115 = a0 + 8u * 1u;
-    v116 = f105(v115, v43);
+    v116 = f109(v115, v43);
     if (v116) { goto L24; }
     else { goto L27; }
 L24:;
@@ -28391,7 +30034,7 @@ L24:;
     v119 = load_address(v118);
     v120 = a0 + 192u * 1u;
     v121 = load64(v120);
-    f104(v42, v115, v41, ADDRESS(c148), 0u, ADDRESS(c148), 0u, v119, v121);
+    f108(v42, v115, v41, ADDRESS(c155), 0u, ADDRESS(c155), 0u, v119, v121);
     v122 = load8(v42);
     v123 = v122 == 0u;
     if (v123) { goto L25; }
@@ -28469,7 +30112,7 @@ L35:;
     v152 = v40 + 18u * 1u;
     store16(v152, v149);
     v153 = a0 + 8u * 1u;
-    v154 = f105(v153, v40);
+    v154 = f109(v153, v40);
     if (v154) { goto L36; }
     else { goto L39; }
 L36:;
@@ -28481,7 +30124,7 @@ L36:;
     v157 = load_address(v156);
     v158 = a0 + 192u * 1u;
     v159 = load64(v158);
-    f104(v39, v153, v38, ADDRESS(c148), 0u, ADDRESS(c148), 0u, v157, v159);
+    f108(v39, v153, v38, ADDRESS(c155), 0u, ADDRESS(c155), 0u, v157, v159);
     v160 = load8(v39);
     v161 = v160 == 0u;
     if (v161) { goto L37; }
@@ -28531,7 +30174,7 @@ L42:;
     store8(v37, 2u);
     v182 = (u16)(v8);
     store16(v179, v182);
-    v183 = f105(v178, v37);
+    v183 = f109(v178, v37);
     if (v183) { goto L43; }
     else { goto L50; }
 L43:;
@@ -28624,11 +30267,11 @@ L57:;
     store8(v36, 4u);
     v226 = v36 + 18u * 1u;
     store16(v226, 65535u);
-    v227 = f105(v225, v36);
+    v227 = f109(v225, v36);
     if (v227) { goto L58; }
     else { goto L59; }
 L58:;
-    f124(a0, a1);
+    f129(a0, a1);
     goto L19;
 L59:;
     v228 = a0 + 172u * 1u;
@@ -28749,7 +30392,7 @@ L76:;
     store8(v35, 2u);
     v286 = (u16)(v16);
     store16(v283, v286);
-    v287 = f105(v282, v35);
+    v287 = f109(v282, v35);
     if (v287) { goto L77; }
     else { goto L84; }
 L77:;
@@ -28842,7 +30485,7 @@ L91:;
     store8(v34, 4u);
     v330 = v34 + 18u * 1u;
     store16(v330, 65535u);
-    v331 = f105(v329, v34);
+    v331 = f109(v329, v34);
     if (v331) { goto L98; }
     else { goto L92; }
 L92:;
@@ -28854,7 +30497,7 @@ L92:;
     store8(v333, 7u);
     v334 = v33 + 18u * 1u;
     store16(v334, 65535u);
-    v335 = f105(v329, v33);
+    v335 = f109(v329, v33);
     if (v335) { goto L93; }
     else { goto L96; }
 L93:;
@@ -28866,7 +30509,7 @@ L93:;
     v338 = load_address(v337);
     v339 = a0 + 192u * 1u;
     v340 = load64(v339);
-    f104(v32, v329, v31, ADDRESS(c148), 0u, ADDRESS(c148), 0u, v338, v340);
+    f108(v32, v329, v31, ADDRESS(c155), 0u, ADDRESS(c155), 0u, v338, v340);
     v341 = load8(v32);
     v342 = v341 == 0u;
     if (v342) { goto L94; }
@@ -28916,7 +30559,7 @@ L99:;
     store8(v359, 3u);
     v360 = v30 + 18u * 1u;
     store16(v360, 65535u);
-    v361 = f105(v329, v30);
+    v361 = f109(v329, v30);
     if (v361) { goto L100; }
     else { goto L103; }
 L100:;
@@ -28928,7 +30571,7 @@ L100:;
     v364 = load_address(v363);
     v365 = a0 + 192u * 1u;
     v366 = load64(v365);
-    f104(v29, v329, v28, ADDRESS(c148), 0u, ADDRESS(c148), 0u, v364, v366);
+    f108(v29, v329, v28, ADDRESS(c155), 0u, ADDRESS(c155), 0u, v364, v366);
     v367 = load8(v29);
     v368 = v367 == 0u;
     if (v368) { goto L101; }
@@ -28964,7 +30607,7 @@ L103:;
 L104:;
     goto L19;
 L105:;
-    f124(a0, a1);
+    f129(a0, a1);
     goto L19;
 L106:;
     v381 = a0 + 104u * 1u;
@@ -29009,7 +30652,7 @@ L112:;
     v400 = v27 + 18u * 1u;
     store16(v400, v397);
     v401 = a0 + 8u * 1u;
-    v402 = f105(v401, v27);
+    v402 = f109(v401, v27);
     v403 = (u16)v24;
     if (v402) { goto L113; }
     else { goto L116; }
@@ -29022,7 +30665,7 @@ L113:;
     v406 = load_address(v405);
     v407 = a0 + 192u * 1u;
     v408 = load64(v407);
-    f104(v26, v401, v25, ADDRESS(c148), 0u, ADDRESS(c148), 0u, v406, v408);
+    f108(v26, v401, v25, ADDRESS(c155), 0u, ADDRESS(c155), 0u, v406, v408);
     v409 = load8(v26);
     v410 = v409 == 0u;
     if (v410) { goto L114; }
@@ -29073,7 +30716,7 @@ L119:;
     UNREACHABLE;
 }
 
-static void f124(address a0, u64 a1) {
+static void f129(address a0, u64 a1) {
     address v2, v3, v4, v5, v9, v10, v11, v13, v14, v15, v16, v20, v22, v23, v24, v25;
     address v26, v27, v28, v29, v30, v31, v32, v33, v34, v35;
     u64 v6, v7, v17, v21;
@@ -29098,7 +30741,7 @@ L1:;
     v10 = v4 + 18u * 1u;
     store16(v10, 65535u);
     v11 = a0 + 8u * 1u;
-    v12 = f105(v11, v4);
+    v12 = f109(v11, v4);
     if (v12) { goto L2; }
     else { goto L5; }
 L2:;
@@ -29110,7 +30753,7 @@ L2:;
     v15 = load_address(v14);
     v16 = a0 + 192u * 1u;
     v17 = load64(v16);
-    f104(v3, v11, v2, ADDRESS(c148), 0u, ADDRESS(c148), 0u, v15, v17);
+    f108(v3, v11, v2, ADDRESS(c155), 0u, ADDRESS(c155), 0u, v15, v17);
     v18 = load8(v3);
     v19 = v18 == 0u;
     if (v19) { goto L3; }
@@ -29159,7 +30802,7 @@ L8:;
     return;
 }
 
-static void f125(address a0, address a1, u64 a2) {
+static void f130(address a0, address a1, u64 a2) {
     u16 v3, v6, v9, v10, v12, v13, v56, v57, v58, v59, v64, v65, v66, v67, v75, v76;
     u16 v77, v78, v102, v103, v105, v106;
     address v4, v14, v19, v24, v26, v28, v30, v32, v34, v36, v38, v40, v42, v44, v46, v52;
@@ -29304,7 +30947,7 @@ L8:;
     return;
 }
 
-static void f126(address a0, u16 a1, u8 a2) {
+static void f131(address a0, u16 a1, u8 a2) {
     u64 v3, v6, v10, v11, v14, v15, v19, v24, v26, v29, v31, v38, v43, v45, v48, v50;
     u64 v57, v61, v64;
     u8 v4, v8, v12, v16, v22, v30, v32, v35, v36, v37, v39, v41, v49, v51, v54, v55;
@@ -29446,7 +31089,7 @@ L22:;
     return;
 }
 
-static void f127(address a0, u64 a1, u8 a2, u16 a3, address a4, u64 a5) {
+static void f132(address a0, u64 a1, u8 a2, u16 a3, address a4, u64 a5) {
     u16 v6, v8, v10, v12, v17, v19, v20, v22, v42, v63, v102, v133, v139, v185, v215, v235;
     u16 v240, v259, v291, v310;
     u64 v7, v9, v11, v13, v14, v21, v23, v46, v47, v51, v53, v57, v59, v61, v64, v66;
@@ -29593,7 +31236,7 @@ L10:;
     store8(v76, 1u);
     goto L11;
 L11:;
-    f123(a0, a1);
+    f128(a0, a1);
     goto L90;
 L12:;
     store16(v39, 13u);
@@ -29663,7 +31306,7 @@ L21:;
     store8(v111, 1u);
     goto L22;
 L22:;
-    f123(a0, a1);
+    f128(a0, a1);
     goto L90;
 L23:;
     memory_set(v38, 0u, 32u);
@@ -29675,7 +31318,7 @@ L23:;
     v114 = v38 + 18u * 1u;
     store16(v114, v42);
     v115 = a0 + 8u * 1u;
-    v116 = f105(v115, v38);
+    v116 = f109(v115, v38);
     if (v116) { goto L24; }
     else { goto L27; }
 L24:;
@@ -29687,7 +31330,7 @@ L24:;
     v119 = load_address(v118);
     v120 = a0 + 192u * 1u;
     v121 = load64(v120);
-    f104(v37, v115, v36, ADDRESS(c148), 0u, ADDRESS(c148), 0u, v119, v121);
+    f108(v37, v115, v36, ADDRESS(c155), 0u, ADDRESS(c155), 0u, v119, v121);
     v122 = load8(v37);
     v123 = v122 == 0u;
     if (v123) { goto L25; }
@@ -29756,7 +31399,7 @@ L33:;
     v143 = v35 + 18u * 1u;
     store16(v143, 65535u);
     v144 = a0 + 8u * 1u;
-    v145 = f105(v144, v35);
+    v145 = f109(v144, v35);
     if (v145) { goto L34; }
     else { goto L37; }
 L34:;
@@ -29768,7 +31411,7 @@ L34:;
     v148 = load_address(v147);
     v149 = a0 + 192u * 1u;
     v150 = load64(v149);
-    f104(v34, v144, v33, ADDRESS(c148), 0u, ADDRESS(c148), 0u, v148, v150);
+    f108(v34, v144, v33, ADDRESS(c155), 0u, ADDRESS(c155), 0u, v148, v150);
     v151 = load8(v34);
     v152 = v151 == 0u;
     if (v152) { goto L35; }
@@ -29819,7 +31462,7 @@ L40:;
     v166 = v32 + 18u * 1u;
     store16(v166, v133);
     v167 = a0 + 8u * 1u;
-    v168 = f105(v167, v32);
+    v168 = f109(v167, v32);
     if (v168) { goto L41; }
     else { goto L44; }
 L41:;
@@ -29831,7 +31474,7 @@ L41:;
     v171 = load_address(v170);
     v172 = a0 + 192u * 1u;
     v173 = load64(v172);
-    f104(v31, v167, v30, ADDRESS(c148), 0u, ADDRESS(c148), 0u, v171, v173);
+    f108(v31, v167, v30, ADDRESS(c155), 0u, ADDRESS(c155), 0u, v171, v173);
     v174 = load8(v31);
     v175 = v174 == 0u;
     if (v175) { goto L42; }
@@ -29893,7 +31536,7 @@ L47:;
     v194 = load_address(v193);
     v195 = a0 + 192u * 1u;
     v196 = load64(v195);
-    f104(v29, v192, v28, ADDRESS(c148), 0u, ADDRESS(c148), 0u, v194, v196);
+    f108(v29, v192, v28, ADDRESS(c155), 0u, ADDRESS(c155), 0u, v194, v196);
     v197 = load8(v29);
     v198 = v197 == 0u;
     if (v198) { goto L48; }
@@ -29928,7 +31571,7 @@ L51:;
     v213 = load8(v212);
     v15 = v213; goto L52;
 L52:;
-    f128(a0, a1, v185, v15);
+    f133(a0, a1, v185, v15);
     goto L90;
 L53:;
     v214 = a5 < 258u ? a5 : 258u;
@@ -29963,7 +31606,7 @@ L56:;
     v224 = load_address(v223);
     v225 = a0 + 192u * 1u;
     v226 = load64(v225);
-    f104(v27, v222, v26, a4, v214, ADDRESS(c148), 0u, v224, v226);
+    f108(v27, v222, v26, a4, v214, ADDRESS(c155), 0u, v224, v226);
     v227 = load8(v27);
     v228 = v227 == 0u;
     if (v228) { goto L57; }
@@ -29993,7 +31636,7 @@ L60:;
     else { goto L62; }
 L61:;
     v238 = load8(v236);
-    f128(a0, a1, v235, v238);
+    f133(a0, a1, v235, v238);
     goto L90;
 L62:;
     v239 = a5 < 258u ? a5 : 258u;
@@ -30028,7 +31671,7 @@ L65:;
     v249 = load_address(v248);
     v250 = a0 + 192u * 1u;
     v251 = load64(v250);
-    f104(v25, v247, v24, a4, v239, ADDRESS(c148), 0u, v249, v251);
+    f108(v25, v247, v24, a4, v239, ADDRESS(c155), 0u, v249, v251);
     v252 = load8(v25);
     v253 = v252 == 0u;
     if (v253) { goto L66; }
@@ -30073,7 +31716,7 @@ L71:;
     store8(v271, 1u);
     goto L72;
 L72:;
-    f123(a0, a1);
+    f128(a0, a1);
     goto L90;
 L73:;
     store16(v39, 13u);
@@ -30176,7 +31819,7 @@ L86:;
     store8(v323, 1u);
     goto L87;
 L87:;
-    f123(a0, a1);
+    f128(a0, a1);
     goto L90;
 L88:;
     store16(v39, 13u);
@@ -30197,7 +31840,7 @@ L91:;
     UNREACHABLE;
 }
 
-static void f128(address a0, u64 a1, u16 a2, u8 a3) {
+static void f133(address a0, u64 a1, u16 a2, u8 a3) {
     u16 v4, v6, v17, v41;
     u64 v5, v7, v11, v12, v14, v20, v31, v35, v37, v39, v42, v44, v48, v52;
     address v8, v9, v10, v15, v16, v19, v22, v23, v26, v27, v28, v29, v30, v32, v33, v34;
@@ -30289,7 +31932,7 @@ L11:;
     store8(v54, 1u);
     goto L12;
 L12:;
-    f123(a0, a1);
+    f128(a0, a1);
     goto L14;
 L13:;
     v55 = a0 + 172u * 1u;
@@ -30307,7 +31950,7 @@ L14:;
     return;
 }
 
-static u8 f129(address a0) {
+static u8 f134(address a0) {
     u64 v1, v6, v11, v13, v15, v16, v18, v20, v24, v25, v27, v29, v32, v34, v38, v40;
     u64 v41, v43, v45, v49, v50, v52, v54, v57, v59;
     struct pair v2, v3, v26, v30, v31, v51, v55, v56;
@@ -30320,7 +31963,7 @@ static u8 f129(address a0) {
     else { v1 = v6; goto L3; }
 L1:;
     v8 = a0 + 48u * 1u;
-    v9 = f130(v8);
+    v9 = f135(v8);
     v10 = (u8)((v9) & UINT64_C(1));
     if (v10) { v4 = 1u; goto L17; }
     else { goto L2; }
@@ -30424,7 +32067,7 @@ L17:;
     return v4;
 }
 
-static u8 f130(address a0) {
+static u8 f135(address a0) {
     u64 v1, v2, v3, v5, v7, v8, v9, v10, v12, v13, v14, v15, v19, v22, v23, v24;
     u64 v25, v32, v34, v35, v36, v39, v40, v47, v118, v119, v121, v124, v127, v128, v131, v133;
     u64 v134, v135, v136, v138, v139, v141, v142, v144, v150, v151, v153, v155, v158, v160, v162, v163;
@@ -30749,7 +32392,7 @@ L30:;
     if (v190) { goto L31; }
     else { v9 = v7; v10 = 0u; goto L33; }
 L31:;
-    v191 = f131(a0, v3);
+    v191 = f136(a0, v3);
     if (v191) { goto L32; }
     else { goto L36; }
 L32:;
@@ -30940,7 +32583,7 @@ L44:;
     return v16;
 }
 
-static u8 f131(address a0, u64 a1) {
+static u8 f136(address a0, u64 a1) {
     u8 v2, v7, v12, v16, v17, v23, v28;
     struct pair v3, v21, v25, v26;
     address v4, v8, v18, v30;
@@ -30994,7 +32637,7 @@ L6:;
     v2 = 1u; goto L1;
 }
 
-static void f132(address a0, address a1, u64 a2, address a3, address a4, u16 a5, u16 a6) {
+static void f137(address a0, address a1, u64 a2, address a3, address a4, u16 a5, u16 a6) {
     u8 v7, v16, v19, v24, v30, v31, v32, v36, v41, v53, v54, v55, v57, v58, v59, v61;
     u8 v62, v63, v65, v66, v67, v68, v70, v71, v73, v74, v75, v77, v78, v79, v80, v84;
     u8 v86, v90, v92, v94, v96, v98, v100, v102, v104, v106, v108, v110, v112, v114, v116, v118;
@@ -31066,7 +32709,7 @@ L1:;
     if (v67) { v16 = 0u; goto L38; }
     else { goto L2; }
 L2:;
-    v68 = f44(a1, 4u, (ADDRESS(c341) + 8u * 1u), 4u);
+    v68 = f43(a1, 4u, (ADDRESS(c347) + 8u * 1u), 4u);
     if (v68) { goto L3; }
     else { v16 = 0u; goto L38; }
 L3:;
@@ -31327,14 +32970,14 @@ L17:;
     if (v251) { goto L18; }
     else { goto L39; }
 L18:;
-    f11(v43, v44);
+    f10(v43, v44);
     v252 = v43 + 64u * 1u;
     v253 = load64(v252);
     v254 = load8(v222);
     v255 = v254 == 0u;
     v256 = load_address(v228);
     v257 = load64(v229);
-    v258 = v255 ? ADDRESS(c148) : v256;
+    v258 = v255 ? ADDRESS(c155) : v256;
     v259 = v255 ? 0u : v257;
     v260 = a2 < v253;
     if (v260) { goto L33; }
@@ -31390,7 +33033,7 @@ L24:;
     if (v292) { goto L27; }
     else { goto L33; }
 L25:;
-    v293 = f44(a1, v253, v43, v253);
+    v293 = f43(a1, v253, v43, v253);
     v294 = v262 == v259;
     v295 = (u8)(((u32)v294 & (u32)v293) & UINT64_C(1));
     if (v295) { goto L27; }
@@ -31451,7 +33094,7 @@ L32:;
 L33:;
     goto L39;
 L34:;
-    v328 = f44(v261, v262, v258, v259);
+    v328 = f43(v261, v262, v258, v259);
     if (v328) { goto L36; }
     else { goto L39; }
 L35:;
@@ -31613,7 +33256,7 @@ L50:;
     goto L37;
 }
 
-static struct s1 f133(address a0, u64 a1) {
+static struct s1 f138(address a0, u64 a1) {
     u64 v2, v3, v5, v12, v14, v23, v26, v27, v35, v36, v38;
     address v4, v6, v9, v13, v15, v17, v19, v20, v21, v22, v29, v30, v32, v39;
     u8 v7, v8, v10, v11, v18, v24, v25, v28, v34, v37, v40;
@@ -31692,12 +33335,13 @@ L10:;
     return v42;
 }
 
-static void f134(address a0, address a1, u64 a2, address a3, u64 a4, address a5, u64 a6) {
-    u64 v7, v9, v15, v34, v38, v40, v45, v54, v57, v60;
-    u8 v8, v10, v13, v16, v19, v20, v22, v24, v28, v30, v41, v42, v43, v44, v48, v55;
-    u8 v58, v59, v61, v62;
-    address v11, v12, v14, v17, v21, v23, v25, v26, v27, v29, v31, v32, v33, v35, v36, v37;
-    address v39, v46, v47, v49, v50, v51, v52, v53, v56, v63, v64, v65, v66, v67;
+static void f139(address a0, address a1, u64 a2, address a3, u64 a4, address a5, u64 a6) {
+    u64 v7, v9, v15, v35, v39, v41, v44, v49, v58, v61, v64;
+    u8 v8, v10, v13, v16, v19, v20, v22, v24, v28, v31, v45, v46, v47, v48, v52, v59;
+    u8 v62, v63, v65, v66, v67;
+    address v11, v12, v14, v17, v21, v23, v25, v26, v27, v29, v30, v32, v33, v34, v36, v37;
+    address v38, v40, v42, v43, v50, v51, v53, v54, v55, v56, v57, v60, v68, v69, v70, v71;
+    address v72;
     struct s1 v18;
     u64 block0[2];
     u64 block1[1];
@@ -31705,7 +33349,7 @@ static void f134(address a0, address a1, u64 a2, address a3, u64 a4, address a5,
     v12 = ADDRESS(block1);
     memory_set(v11, 0u, 16u);
     memory_set(v12, 0u, 7u);
-    f135(v11, a1, a2, a3, a4, a5, a6);
+    f140(v11, a1, a2, a3, a4, a5, a6);
     v13 = load8(v11);
     v14 = v11 + 8u * 1u;
     v15 = load64(v14);
@@ -31714,7 +33358,7 @@ static void f134(address a0, address a1, u64 a2, address a3, u64 a4, address a5,
     else { goto L3; }
 L1:;
     v17 = (address)v15;
-    v18 = f150(a5, a6, v17);
+    v18 = f155(a5, a6, v17);
     v19 = v18.m0;
     v20 = v19 == 0u;
     if (v20) { goto L4; }
@@ -31737,91 +33381,102 @@ L3:;
 L4:;
     v28 = v18.m1;
     memory_set(v12, 0u, 7u);
-    v8 = 0u; v9 = v15; v10 = v28; goto L16;
+    v8 = 0u; v9 = v15; v10 = v28; goto L18;
 L5:;
-    v29 = v17 + 240u * 1u;
-    v30 = load8(v29);
-    v31 = v17 + 248u * 1u;
-    v32 = load_address(v31);
-    v33 = v17 + 264u * 1u;
-    v34 = load64(v33);
-    v35 = v17 + 392u * 1u;
-    v36 = load_address(v35);
-    v37 = v17 + 400u * 1u;
-    v38 = load64(v37);
-    v39 = v17 + 408u * 1u;
-    v40 = load64(v39);
+    v29 = v17 + 424u * 1u;
+    v30 = v17 + 240u * 1u;
+    v31 = load8(v30);
+    v32 = v17 + 248u * 1u;
+    v33 = load_address(v32);
+    v34 = v17 + 264u * 1u;
+    v35 = load64(v34);
+    v36 = v17 + 392u * 1u;
+    v37 = load_address(v36);
+    v38 = v17 + 400u * 1u;
+    v39 = load64(v38);
+    v40 = v17 + 408u * 1u;
+    v41 = load64(v40);
+    v42 = load_address(v29);
+    v43 = v17 + 440u * 1u;
+    v44 = load64(v43);
     portable_rattle_dealloc(v17);
-    v41 = v30 == 0u;
-    v42 = v34 == 0u;
-    v43 = v41 ? 1u : v42;
-    if (v43) { goto L7; }
+    v45 = v31 == 0u;
+    v46 = v35 == 0u;
+    v47 = v45 ? 1u : v46;
+    if (v47) { goto L7; }
     else { goto L6; }
 L6:;
-    portable_rattle_dealloc(v32);
+    portable_rattle_dealloc(v33);
     goto L7;
 L7:;
-    v44 = v38 == 0u;
-    if (v44) { goto L14; }
+    v48 = v39 == 0u;
+    if (v48) { goto L14; }
     else { v7 = 0u; goto L8; }
 L8:;
-    v45 = (u64)((u64)v7 * (u64)2144u);
-    v46 = v36 + v45 * 1u;
-    v47 = v46 + 1432u * 1u;
-    v48 = load8(v47);
-    v49 = v46 + 1440u * 1u;
-    v50 = load_address(v49);
-    v51 = v46 + 1464u * 1u;
-    v52 = load_address(v51);
-    v53 = v46 + 1480u * 1u;
-    v54 = load64(v53);
-    v55 = v48 == 0u;
-    if (v55) { goto L13; }
+    v49 = (u64)((u64)v7 * (u64)2144u);
+    v50 = v37 + v49 * 1u;
+    v51 = v50 + 1432u * 1u;
+    v52 = load8(v51);
+    v53 = v50 + 1440u * 1u;
+    v54 = load_address(v53);
+    v55 = v50 + 1464u * 1u;
+    v56 = load_address(v55);
+    v57 = v50 + 1480u * 1u;
+    v58 = load64(v57);
+    v59 = v52 == 0u;
+    if (v59) { goto L13; }
     else { goto L9; }
 L9:;
-    v56 = v46 + 1456u * 1u;
-    v57 = load64(v56);
-    v58 = v57 == 0u;
-    if (v58) { goto L11; }
+    v60 = v50 + 1456u * 1u;
+    v61 = load64(v60);
+    v62 = v61 == 0u;
+    if (v62) { goto L11; }
     else { goto L10; }
 L10:;
-    portable_rattle_dealloc(v50);
+    portable_rattle_dealloc(v54);
     goto L11;
 L11:;
-    v59 = v54 == 0u;
-    if (v59) { goto L13; }
+    v63 = v58 == 0u;
+    if (v63) { goto L13; }
     else { goto L12; }
 L12:;
-    portable_rattle_dealloc(v52);
+    portable_rattle_dealloc(v56);
     goto L13;
 L13:;
-    v60 = (u64)((u64)v7 + (u64)1u);
-    v61 = v60 == v38;
-    if (v61) { goto L14; }
-    else { v7 = v60; goto L8; }
+    v64 = (u64)((u64)v7 + (u64)1u);
+    v65 = v64 == v39;
+    if (v65) { goto L14; }
+    else { v7 = v64; goto L8; }
 L14:;
-    v62 = v40 == 0u;
-    if (v62) { v8 = 3u; v9 = 0u; v10 = 0u; goto L16; }
+    v66 = v41 == 0u;
+    if (v66) { goto L16; }
     else { goto L15; }
 L15:;
-    portable_rattle_dealloc(v36);
-    v8 = 3u; v9 = 0u; v10 = 0u; goto L16;
+    portable_rattle_dealloc(v37);
+    goto L16;
 L16:;
+    v67 = v44 == 0u;
+    if (v67) { v8 = 3u; v9 = 0u; v10 = 0u; goto L18; }
+    else { goto L17; }
+L17:;
+    portable_rattle_dealloc(v42);
+    v8 = 3u; v9 = 0u; v10 = 0u; goto L18;
+L18:;
     store8(a0, v19);
-    v63 = a0 + 1u * 1u;
-    store8(v63, v8);
-    v64 = a0 + 2u * 1u;
-    store8(v64, 0u);
-    v65 = a0 + 8u * 1u;
-    store64(v65, v9);
-    v66 = a0 + 16u * 1u;
-    store8(v66, v10);
-    v67 = a0 + 17u * 1u;
-    memory_cpy(v67, v12, 7u);
+    v68 = a0 + 1u * 1u;
+    store8(v68, v8);
+    v69 = a0 + 2u * 1u;
+    store8(v69, 0u);
+    v70 = a0 + 8u * 1u;
+    store64(v70, v9);
+    v71 = a0 + 16u * 1u;
+    store8(v71, v10);
+    v72 = a0 + 17u * 1u;
+    memory_cpy(v72, v12, 7u);
     goto L2;
 }
 
-static void f135(address a0, address a1, u64 a2, address a3, u64 a4, address a5, u64 a6) {
+static void f140(address a0, address a1, u64 a2, address a3, u64 a4, address a5, u64 a6) {
     u8 v7, v8, v9, v10, v11, v19, v20, v21, v23, v24, v25, v26, v28, v29, v30, v32;
     u8 v33, v34, v36, v37, v38, v39, v41, v42, v44, v45, v47, v48, v49, v50, v52, v54;
     u8 v55, v60, v62, v63, v65, v68, v69, v70, v78, v79, v82, v84, v87, v88, v89;
@@ -31843,9 +33498,9 @@ static void f135(address a0, address a1, u64 a2, address a3, u64 a4, address a5,
     v17 = ADDRESS(block4);
     memory_set(v14, 0u, 384u);
     memory_set(v15, 0u, 48u);
-    f25(v14);
+    f24(v14);
     memory_cpy(v13, v14, 384u);
-    v18 = f133(a3, a4);
+    v18 = f138(a3, a4);
     v19 = v18.m0;
     v20 = v19 == 1u;
     if (v20) { goto L1; }
@@ -31880,7 +33535,7 @@ L4:;
     if (v38) { v7 = 2u; v8 = 0u; goto L13; }
     else { goto L5; }
 L5:;
-    v39 = f44(a5, 4u, (ADDRESS(c341) + 8u * 1u), 4u);
+    v39 = f43(a5, 4u, (ADDRESS(c347) + 8u * 1u), 4u);
     if (v39) { goto L6; }
     else { v7 = 2u; v8 = 0u; goto L13; }
 L6:;
@@ -31896,7 +33551,7 @@ L7:;
     if (v45) { goto L8; }
     else { v7 = 2u; v8 = 2u; goto L13; }
 L8:;
-    v46 = f136(a5, a6, v13);
+    v46 = f141(a5, a6, v13);
     v47 = v46.m0;
     v48 = v47 == 0u;
     if (v48) { goto L9; }
@@ -31925,7 +33580,7 @@ L11:;
 L12:;
     store64(v16, v22);
     v61 = (u16)(v58);
-    f148(v15, v16, v61, a3, a4);
+    f153(v15, v16, v61, a3, a4);
     v62 = load8(v15);
     v63 = v62 == 0u;
     if (v63) { goto L16; }
@@ -31957,7 +33612,7 @@ L15:;
 L16:;
     v76 = v15 + 8u * 1u;
     memory_cpy(v17, v13, 384u);
-    v77 = f149(v17, v76);
+    v77 = f154(v17, v76);
     v78 = v77.m0;
     v79 = v78 == 0u;
     v80 = v77.m1;
@@ -31981,7 +33636,7 @@ L18:;
     v9 = 1u; v10 = 3u; v11 = 0u; v12 = 0u; goto L15;
 }
 
-static struct s1 f136(address a0, u64 a1, address a2) {
+static struct s1 f141(address a0, u64 a1, address a2) {
     u8 v3, v4, v6, v9, v12, v14, v19, v22, v25, v30, v35, v36, v37, v38, v40, v41;
     u8 v47, v48, v49, v50, v51, v52, v53;
     address v5, v7, v10, v15, v16, v26, v27, v31, v32, v33, v39, v43;
@@ -32037,7 +33692,7 @@ L5:;
     store_address(v32, v27);
     v33 = v5 + 16u * 1u;
     store64(v33, v29);
-    v34 = f137(a0, a1, a2);
+    v34 = f142(a0, a1, a2);
     v35 = v34.m0;
     v36 = v35 == 0u;
     if (v36) { goto L6; }
@@ -32055,7 +33710,7 @@ L7:;
     v43 = a2 + v42 * 1u;
     v44 = load64(v43);
     v45 = (u16)(v44);
-    v46 = f144(v5, v45);
+    v46 = f149(v5, v45);
     v47 = v46.m0;
     v48 = v46.m1;
     v49 = v47 != 0u;
@@ -32072,7 +33727,7 @@ L8:;
     return v55;
 }
 
-static struct s1 f137(address a0, u64 a1, address a2) {
+static struct s1 f142(address a0, u64 a1, address a2) {
     u8 v3, v4, v5, v6, v8, v12, v14, v16, v17, v29, v30, v32, v33, v34, v36, v37;
     u8 v38, v40, v41, v42, v43, v45, v46, v47, v48, v49, v50, v51, v52, v53;
     address v7, v9, v18, v19, v20, v21, v22, v23, v24, v25, v26, v27, v28, v31, v35, v39;
@@ -32135,11 +33790,11 @@ L1:;
 L2:;
     v5 = 0u; v6 = 0u; goto L9;
 L3:;
-    v43 = f44(a0, 12u, v7, 12u);
+    v43 = f43(a0, 12u, v7, 12u);
     if (v43) { goto L4; }
     else { v5 = 0u; v6 = 0u; goto L9; }
 L4:;
-    v44 = f138(a2, v9, v10);
+    v44 = f143(a2, v9, v10);
     v45 = v44.m0;
     v46 = v45 == 0u;
     if (v46) { goto L5; }
@@ -32150,7 +33805,7 @@ L5:;
     if (v48) { goto L6; }
     else { v3 = 0u; goto L7; }
 L6:;
-    v49 = f143(a2, v9, v10);
+    v49 = f148(a2, v9, v10);
     v3 = v49; goto L7;
 L7:;
     v50 = (u8)v3;
@@ -32168,7 +33823,7 @@ L9:;
     return v55;
 }
 
-static struct s1 f138(address a0, address a1, u64 a2) {
+static struct s1 f143(address a0, address a1, u64 a2) {
     u8 v3, v4, v7, v10, v12, v15, v18, v21, v23, v24, v26, v27, v28, v30, v31;
     address v5, v6, v8, v13, v14, v22, v25;
     u64 v9, v11, v16, v17, v19, v20;
@@ -32205,7 +33860,7 @@ L3:;
     else { goto L4; }
 L4:;
     v22 = v14 + 1u * 1u;
-    f139(v6, a1, v13, v11);
+    f144(v6, a1, v13, v11);
     v23 = load8(v6);
     v24 = v23 == 1u;
     if (v24) { goto L5; }
@@ -32217,11 +33872,11 @@ L5:;
     if (v26) { goto L6; }
     else { goto L7; }
 L6:;
-    v27 = f140(a0, v5, v22, v20);
+    v27 = f145(a0, v5, v22, v20);
     v28 = (u8)v27;
     v3 = v28; v4 = 0u; goto L8;
 L7:;
-    v29 = f141(a0, v5, v22, v20);
+    v29 = f146(a0, v5, v22, v20);
     v30 = v29.m0;
     v31 = v29.m1;
     v3 = v31; v4 = v30; goto L8;
@@ -32233,7 +33888,7 @@ L8:;
     return v33;
 }
 
-static void f139(address a0, address a1, address a2, u64 a3) {
+static void f144(address a0, address a1, address a2, u64 a3) {
     address v4, v5, v6, v8, v9, v10, v11, v13, v15, v19, v21, v23, v25, v27, v31, v36;
     address v42, v44, v46, v48, v50, v52, v54, v56, v81, v83, v85, v87, v89, v91, v93, v95;
     address v121, v123, v129, v133, v135, v141, v143, v145, v147, v160, v162, v164, v166, v168, v170, v174;
@@ -32568,7 +34223,7 @@ L3:;
     goto L1;
 }
 
-static u8 f140(address a0, address a1, address a2, u64 a3) {
+static u8 f145(address a0, address a1, address a2, u64 a3) {
     u64 v4, v6, v48, v68, v125, v147, v148, v149, v150, v151, v152, v153, v154, v155, v156, v157;
     u64 v158, v159, v160, v161, v162, v163, v164, v165, v166, v167, v168, v169, v179, v190, v304, v308;
     u64 v334, v335, v336, v337, v340, v343, v344, v347, v354, v356, v365, v378, v380;
@@ -33012,7 +34667,7 @@ L3:;
     v295 = v56 + 192u * 1u;
     store64(v295, v6);
     memory_set(v52, 0u, 144u);
-    f27(v52, a1, v56, v6);
+    f26(v52, a1, v56, v6);
     v296 = load8(v52);
     v297 = v296 == 0u;
     if (v297) { goto L4; }
@@ -33082,7 +34737,7 @@ L6:;
     else { goto L7; }
 L7:;
     v339 = v51 + 136u * 1u;
-    f31(v51, v337);
+    f30(v51, v337);
     v340 = load64(v339);
     v48 = v340; goto L8;
 L8:;
@@ -33252,7 +34907,7 @@ L13:;
     return v297;
 }
 
-static struct s1 f141(address a0, address a1, address a2, u64 a3) {
+static struct s1 f146(address a0, address a1, address a2, u64 a3) {
     u64 v4, v8, v10, v13, v15, v17, v39, v40, v41, v42, v43, v44, v45, v46, v47, v48;
     u64 v49, v50, v51, v52, v53, v54, v55, v56, v57, v58, v59, v60, v61, v71, v82, v92;
     u8 v5, v6, v9, v14, v20, v22, v24, v26, v28, v30, v32, v34, v36, v38, v62, v64;
@@ -33362,7 +35017,7 @@ L3:;
     if (v83) { goto L4; }
     else { v4 = v82; goto L3; }
 L4:;
-    f142(v7, a1, v16, v8);
+    f147(v7, a1, v16, v8);
     v84 = load8(v7);
     v85 = v84 == 0u;
     if (v85) { goto L5; }
@@ -33402,7 +35057,7 @@ L9:;
     return v101;
 }
 
-static void f142(address a0, address a1, address a2, u64 a3) {
+static void f147(address a0, address a1, address a2, u64 a3) {
     address v4, v6, v14, v16, v17, v18, v19, v20, v21, v22, v23, v24, v25, v29, v30, v31;
     address v32, v33, v36, v37, v42, v60, v64, v67, v69, v71, v74, v75, v81, v83, v85, v87;
     address v89, v91, v93, v95, v97, v100, v102, v122, v124, v126, v128, v129, v130, v131, v132, v141;
@@ -33475,7 +35130,7 @@ L2:;
     else { goto L3; }
 L3:;
     memory_set(v21, 0u, 24u);
-    f28(v21, v32, v38);
+    f27(v21, v32, v38);
     v40 = load8(v21);
     v41 = v40 == 0u;
     if (v41) { goto L4; }
@@ -33527,7 +35182,7 @@ L12:;
 L13:;
     v59 = (u64)((u64)v7 * (u64)24u);
     v60 = a2 + v59 * 1u;
-    f30(v20, v60);
+    f29(v20, v60);
     v61 = load8(v20);
     v62 = v61 == 0u;
     if (v62) { goto L12; }
@@ -33713,7 +35368,7 @@ L26:;
     else { goto L27; }
 L27:;
     v193 = v19 + 136u * 1u;
-    f31(v19, v191);
+    f30(v19, v191);
     v194 = load64(v193);
     v15 = v194; goto L28;
 L28:;
@@ -33917,7 +35572,7 @@ L33:;
     goto L18;
 }
 
-static u8 f143(address a0, address a1, u64 a2) {
+static u8 f148(address a0, address a1, u64 a2) {
     u8 v3, v5, v8, v12, v14, v16, v17, v23, v27, v28, v29, v30, v31, v35, v36, v37;
     u8 v41, v42, v43, v44, v45, v46, v47, v48, v51, v52, v55, v56, v59, v60, v64, v65;
     u8 v66, v70, v71, v72, v73, v77, v78, v79, v80, v84, v85, v86, v87, v88, v89, v90;
@@ -33937,7 +35592,7 @@ static u8 f143(address a0, address a1, u64 a2) {
     v19 = ADDRESS(block1);
     v20 = ADDRESS(block2);
     memory_set(v19, 0u, 1176u);
-    f79(v19, a0);
+    f82(v19, a0);
     memory_cpy(v20, v19, 1176u);
     v21 = v20 + 1168u * 1u;
     v22 = load64(v21);
@@ -34038,7 +35693,7 @@ L6:;
     if (v96) { goto L7; }
     else { goto L8; }
 L7:;
-    v97 = f43(v18, v22);
+    v97 = f42(v18, v22);
     v16 = v97; goto L26;
 L8:;
     v98 = v22 < 65u;
@@ -34154,7 +35809,7 @@ L27:;
     return v17;
 }
 
-static struct s1 f144(address a0, u16 a1) {
+static struct s1 f149(address a0, u16 a1) {
     u8 v2, v3, v22, v27, v32, v33, v36, v37, v38, v40;
     address v4, v5, v6, v7, v8, v9, v10, v11, v12, v13, v14, v15, v16, v17, v18, v19;
     address v20, v21, v29, v30, v31, v34, v39;
@@ -34220,7 +35875,7 @@ L2:;
     memory_set(v31, 0u, 1264u);
     goto L3;
 L3:;
-    v32 = f145(a0, v4);
+    v32 = f150(a0, v4);
     v33 = load8(v4);
     v34 = v4 + 24u * 1u;
     v35 = load64(v34);
@@ -34242,7 +35897,7 @@ L5:;
     return v42;
 }
 
-static u8 f145(address a0, address a1) {
+static u8 f150(address a0, address a1) {
     u8 v2, v5, v7, v8, v9, v10, v11, v12, v13, v14, v15, v16, v19, v20, v23, v37;
     u8 v38, v40, v43, v44, v45, v46, v47, v48, v49, v50, v51, v52, v53, v54, v55, v56;
     u8 v57, v58, v59, v60, v64, v65, v66, v67, v68, v69, v70, v71, v72, v73, v74, v75;
@@ -34280,7 +35935,7 @@ L3:;
     v34 = v18 + 16u * 1u;
     v35 = v18 + 48u * 1u;
     v36 = v18 + 56u * 1u;
-    f146(v18, v25, v22, a1);
+    f151(v18, v25, v22, a1);
     v37 = load8(v18);
     v38 = v37 == 1u;
     if (v38) { goto L4; }
@@ -34303,7 +35958,7 @@ L5:;
     v50 = load8(v26);
     v3 = v41; v4 = v39; v5 = 1u; v6 = v42; v7 = v43; v8 = v44; v9 = v45; v10 = v46; v11 = v47; v12 = v48; v13 = v49; v14 = v50; goto L6;
 L6:;
-    f146(v18, v3, v4, a1);
+    f151(v18, v3, v4, a1);
     v51 = load8(v18);
     v52 = v51 == 1u;
     if (v52) { goto L7; }
@@ -34387,7 +36042,7 @@ L19:;
     v2 = v91; goto L1;
 }
 
-static void f146(address a0, address a1, u64 a2, address a3) {
+static void f151(address a0, address a1, u64 a2, address a3) {
     u8 v4, v12, v13, v18, v28, v31, v34, v38, v42, v45, v48, v51, v52, v54, v57, v60;
     u8 v63, v66, v70, v73, v76, v79, v82, v86, v89, v90, v91, v92, v93, v94, v95, v96;
     u8 v97, v98, v101, v105, v111, v114, v115, v124, v128, v131, v135, v138, v139, v141, v143, v144;
@@ -34765,7 +36420,7 @@ L50:;
 L51:;
     v186 = a3 + v21 * 1u;
     v187 = load64(v186);
-    v188 = f147(v4, v51, v22, v187);
+    v188 = f152(v4, v51, v22, v187);
     if (v188) { goto L54; }
     else { goto L55; }
 L52:;
@@ -34807,7 +36462,7 @@ L55:;
     goto L2;
 }
 
-static u8 f147(u8 a0, u8 a1, address a2, u64 a3) {
+static u8 f152(u8 a0, u8 a1, address a2, u64 a3) {
     address v4, v9, v13, v15, v20, v22;
     u64 v5, v10, v16, v23;
     u8 v6, v7, v8, v11, v12, v14, v17, v18, v19, v21, v24, v25, v26, v27;
@@ -34888,7 +36543,7 @@ L16:;
     return v6;
 }
 
-static void f148(address a0, address a1, u16 a2, address a3, u64 a4) {
+static void f153(address a0, address a1, u16 a2, address a3, u64 a4) {
     u64 v5, v6, v7, v8, v10, v12, v15, v18, v20, v29, v34, v37, v39, v41, v45, v52;
     u64 v54, v57, v59, v61, v62, v63, v65, v67, v70, v72, v75, v79, v94, v97, v106, v109;
     u64 v112;
@@ -35111,144 +36766,148 @@ L23:;
     return;
 }
 
-static struct s3 f149(address a0, address a1) {
-    u64 v2, v16, v18, v20, v24, v26, v28, v30, v32, v51, v60, v63, v66;
-    u8 v3, v11, v31, v47, v48, v49, v50, v54, v61, v64, v65, v67, v68;
-    address v4, v5, v6, v7, v8, v9, v10, v12, v13, v14, v15, v17, v19, v21, v22, v23;
-    address v25, v27, v33, v34, v35, v36, v37, v38, v39, v40, v41, v42, v43, v44, v45, v46;
-    address v52, v53, v55, v56, v57, v58, v59, v62;
-    struct pair v29;
-    struct s3 v69, v70;
-    u64 block0[29];
-    u64 block1[1];
-    u64 block2[14];
+static struct s3 f154(address a0, address a1) {
+    u64 v2, v17, v19, v21, v25, v27, v29, v31, v33, v53, v62, v65, v68;
+    u8 v3, v12, v32, v49, v50, v51, v52, v56, v63, v66, v67, v69, v70;
+    address v4, v5, v6, v7, v8, v9, v10, v11, v13, v14, v15, v16, v18, v20, v22, v23;
+    address v24, v26, v28, v34, v35, v36, v37, v38, v39, v40, v41, v42, v43, v44, v45, v46;
+    address v47, v48, v54, v55, v57, v58, v59, v60, v61, v64;
+    struct pair v30;
+    struct s3 v71, v72;
+    u64 block0[1];
+    u64 block1[29];
+    u64 block2[1];
+    u64 block3[14];
     v5 = ADDRESS(block0);
     v6 = ADDRESS(block1);
     v7 = ADDRESS(block2);
-    v8 = load_address(a0);
-    v9 = a0 + 8u * 1u;
-    v10 = a0 + 240u * 1u;
-    v11 = load8(v10);
-    v12 = a0 + 241u * 1u;
-    v13 = a0 + 248u * 1u;
-    v14 = load_address(v13);
-    v15 = a0 + 256u * 1u;
-    v16 = load64(v15);
-    v17 = a0 + 264u * 1u;
-    v18 = load64(v17);
-    v19 = a0 + 272u * 1u;
-    v20 = load64(a1);
-    v21 = a1 + 8u * 1u;
-    v22 = load_address(v21);
-    v23 = a1 + 16u * 1u;
-    v24 = load64(v23);
-    v25 = a1 + 24u * 1u;
-    v26 = load64(v25);
-    v27 = a1 + 32u * 1u;
-    v28 = load64(v27);
-    memory_cpy(v5, v9, 232u);
-    memory_cpy(v6, v12, 7u);
-    memory_cpy(v7, v19, 112u);
-    v29 = portable_rattle_alloc(616u, 8u);
-    v30 = v29.m0;
-    v31 = (u8)((v30) & UINT64_C(1));
-    if (v31) { goto L1; }
+    v8 = ADDRESS(block3);
+    v9 = load_address(a0);
+    v10 = a0 + 8u * 1u;
+    v11 = a0 + 240u * 1u;
+    v12 = load8(v11);
+    v13 = a0 + 241u * 1u;
+    v14 = a0 + 248u * 1u;
+    v15 = load_address(v14);
+    v16 = a0 + 256u * 1u;
+    v17 = load64(v16);
+    v18 = a0 + 264u * 1u;
+    v19 = load64(v18);
+    v20 = a0 + 272u * 1u;
+    v21 = load64(a1);
+    v22 = a1 + 8u * 1u;
+    v23 = load_address(v22);
+    v24 = a1 + 16u * 1u;
+    v25 = load64(v24);
+    v26 = a1 + 24u * 1u;
+    v27 = load64(v26);
+    v28 = a1 + 32u * 1u;
+    v29 = load64(v28);
+    memory_cpy(v6, v10, 232u);
+    memory_cpy(v7, v13, 7u);
+    memory_cpy(v8, v20, 112u);
+    v30 = portable_rattle_alloc(640u, 8u);
+    v31 = v30.m0;
+    v32 = (u8)((v31) & UINT64_C(1));
+    if (v32) { goto L1; }
     else { goto L2; }
 L1:;
-    v32 = v29.m1;
-    v33 = (address)v32;
-    store_address(v33, v8);
-    v34 = v33 + 8u * 1u;
-    memory_cpy(v34, v5, 232u);
-    v35 = v33 + 240u * 1u;
-    store8(v35, v11);
-    v36 = v33 + 241u * 1u;
-    memory_cpy(v36, v6, 7u);
-    v37 = v33 + 248u * 1u;
-    store_address(v37, v14);
-    v38 = v33 + 256u * 1u;
-    store64(v38, v16);
-    v39 = v33 + 264u * 1u;
-    store64(v39, v18);
-    v40 = v33 + 272u * 1u;
-    memory_cpy(v40, v7, 112u);
-    v41 = v33 + 384u * 1u;
-    store64(v41, v20);
-    v42 = v33 + 392u * 1u;
-    store_address(v42, v22);
-    v43 = v33 + 400u * 1u;
-    store64(v43, v24);
-    v44 = v33 + 408u * 1u;
-    store64(v44, v26);
-    v45 = v33 + 416u * 1u;
-    store64(v45, v28);
-    v46 = v33 + 424u * 1u;
-    memory_set(v46, 0u, 190u);
-    v3 = 0u; v4 = v33; goto L13;
+    v33 = v30.m1;
+    v34 = (address)v33;
+    store_address(v34, v9);
+    v35 = v34 + 8u * 1u;
+    memory_cpy(v35, v6, 232u);
+    v36 = v34 + 240u * 1u;
+    store8(v36, v12);
+    v37 = v34 + 241u * 1u;
+    memory_cpy(v37, v7, 7u);
+    v38 = v34 + 248u * 1u;
+    store_address(v38, v15);
+    v39 = v34 + 256u * 1u;
+    store64(v39, v17);
+    v40 = v34 + 264u * 1u;
+    store64(v40, v19);
+    v41 = v34 + 272u * 1u;
+    memory_cpy(v41, v8, 112u);
+    v42 = v34 + 384u * 1u;
+    store64(v42, v21);
+    v43 = v34 + 392u * 1u;
+    store_address(v43, v23);
+    v44 = v34 + 400u * 1u;
+    store64(v44, v25);
+    v45 = v34 + 408u * 1u;
+    store64(v45, v27);
+    v46 = v34 + 416u * 1u;
+    store64(v46, v29);
+    v47 = v34 + 424u * 1u;
+    store_address(v47, v5);
+    v48 = v34 + 432u * 1u;
+    memory_set(v48, 0u, 206u);
+    v3 = 0u; v4 = v34; goto L13;
 L2:;
-    v47 = v11 != 1u;
-    v48 = v18 == 0u;
-    v49 = v47 ? 1u : v48;
-    if (v49) { goto L4; }
+    v49 = v12 != 1u;
+    v50 = v19 == 0u;
+    v51 = v49 ? 1u : v50;
+    if (v51) { goto L4; }
     else { goto L3; }
 L3:;
-    portable_rattle_dealloc(v14);
+    portable_rattle_dealloc(v15);
     goto L4;
 L4:;
-    v50 = v24 == 0u;
-    if (v50) { goto L11; }
+    v52 = v25 == 0u;
+    if (v52) { goto L11; }
     else { v2 = 0u; goto L5; }
 L5:;
-    v51 = (u64)((u64)v2 * (u64)2144u);
-    v52 = v22 + v51 * 1u;
-    v53 = v52 + 1432u * 1u;
-    v54 = load8(v53);
-    v55 = v52 + 1440u * 1u;
-    v56 = load_address(v55);
-    v57 = v52 + 1464u * 1u;
+    v53 = (u64)((u64)v2 * (u64)2144u);
+    v54 = v23 + v53 * 1u;
+    v55 = v54 + 1432u * 1u;
+    v56 = load8(v55);
+    v57 = v54 + 1440u * 1u;
     v58 = load_address(v57);
-    v59 = v52 + 1480u * 1u;
-    v60 = load64(v59);
-    v61 = v54 == 0u;
-    if (v61) { goto L10; }
+    v59 = v54 + 1464u * 1u;
+    v60 = load_address(v59);
+    v61 = v54 + 1480u * 1u;
+    v62 = load64(v61);
+    v63 = v56 == 0u;
+    if (v63) { goto L10; }
     else { goto L6; }
 L6:;
-    v62 = v52 + 1456u * 1u;
-    v63 = load64(v62);
-    v64 = v63 == 0u;
-    if (v64) { goto L8; }
+    v64 = v54 + 1456u * 1u;
+    v65 = load64(v64);
+    v66 = v65 == 0u;
+    if (v66) { goto L8; }
     else { goto L7; }
 L7:;
-    portable_rattle_dealloc(v56);
+    portable_rattle_dealloc(v58);
     goto L8;
 L8:;
-    v65 = v60 == 0u;
-    if (v65) { goto L10; }
+    v67 = v62 == 0u;
+    if (v67) { goto L10; }
     else { goto L9; }
 L9:;
-    portable_rattle_dealloc(v58);
+    portable_rattle_dealloc(v60);
     goto L10;
 L10:;
-    v66 = (u64)((u64)v2 + (u64)1u);
-    v67 = v66 == v24;
-    if (v67) { goto L11; }
-    else { v2 = v66; goto L5; }
+    v68 = (u64)((u64)v2 + (u64)1u);
+    v69 = v68 == v25;
+    if (v69) { goto L11; }
+    else { v2 = v68; goto L5; }
 L11:;
-    v68 = v26 == 0u;
-    if (v68) { v3 = 1u; v4 = 0u; goto L13; }
+    v70 = v27 == 0u;
+    if (v70) { v3 = 1u; v4 = 0u; goto L13; }
     else { goto L12; }
 L12:;
-    portable_rattle_dealloc(v22);
+    portable_rattle_dealloc(v23);
     v3 = 1u; v4 = 0u; goto L13;
 L13:;
-    v69 = (struct s3){ 0 };
-    v69.m0 = v3;
-    v70 = v69;
-    v70.m1 = v4;
-    return v70;
+    v71 = (struct s3){ 0 };
+    v71.m0 = v3;
+    v72 = v71;
+    v72.m1 = v4;
+    return v72;
 }
 
-static struct s1 f150(address a0, u64 a1, address a2) {
+static struct s1 f155(address a0, u64 a1, address a2) {
     u8 v3, v4, v7, v10, v13, v15, v20, v23, v26, v31, v53, v54, v59, v64, v69, v70;
     u8 v73, v74, v75;
     address v5, v6, v8, v11, v16, v17, v27, v28, v32, v33, v34, v35, v36, v37, v38, v39;
@@ -35377,7 +37036,7 @@ L8:;
     TRAP;
     UNREACHABLE;
 L9:;
-    v69 = f151(v5, v6, a2);
+    v69 = f156(v5, v6, a2);
     v70 = load8(v6);
     v71 = v6 + 24u * 1u;
     v72 = load64(v71);
@@ -35398,7 +37057,7 @@ L11:;
     return v78;
 }
 
-static u8 f151(address a0, address a1, address a2) {
+static u8 f156(address a0, address a1, address a2) {
     address v3, v8, v9, v13, v14, v17, v19, v20, v21, v22, v23, v24, v25, v26, v27, v28;
     address v29, v32, v36, v37, v41, v44, v46, v49;
     u64 v4, v7, v10, v18, v33, v38, v39, v43, v45, v50;
@@ -35430,7 +37089,7 @@ L1:;
     v29 = v13 + 16u * 1u;
     v3 = v20; v4 = v18; v5 = 0u; v6 = 0u; goto L2;
 L2:;
-    f146(v14, v3, v4, a1);
+    f151(v14, v3, v4, a1);
     v30 = load8(v14);
     v31 = v30 == 1u;
     if (v31) { goto L3; }
@@ -35478,7 +37137,7 @@ L9:;
     else { v9 = v44; v10 = v45; goto L7; }
 L10:;
     v53 = load16(v28);
-    f68(a2, v21, v53, v29, v8, v38);
+    f62(a2, v21, v53, v29, v8, v38);
     v11 = 0u; goto L11;
 L11:;
     v54 = (u8)((u32)v11 + (u32)v5);
@@ -35493,7 +37152,7 @@ L13:;
     return v12;
 }
 
-static void f152(address a0, address a1, address a2, u64 a3, address a4, u64 a5) {
+static void f157(address a0, address a1, address a2, u64 a3, address a4, u64 a5) {
     u64 v6, v17, v18, v36, v39, v41, v43, v49, v60, v71, v74, v80, v99, v101, v105, v109;
     u64 v157, v160, v264, v266, v314, v330, v333, v334;
     address v7, v16, v19, v20, v21, v22, v23, v24, v25, v26, v27, v28, v29, v30, v31, v32;
@@ -35835,7 +37494,7 @@ L5:;
     if (v233) { goto L10; }
     else { goto L6; }
 L6:;
-    f26(v21, v32, v7, a3);
+    f25(v21, v32, v7, a3);
     v234 = load8(v21);
     v235 = v234 == 0u;
     if (v235) { goto L7; }
@@ -35859,7 +37518,7 @@ L9:;
     memory_cpy(v244, v245, 384u);
     v11 = v10; v12 = v9; v13 = v8; v14 = 1u; v15 = v234; goto L11;
 L10:;
-    f142(v20, v32, v7, a3);
+    f147(v20, v32, v7, a3);
     v246 = load8(v20);
     v247 = v20 + 1u * 1u;
     v248 = load8(v247);
@@ -35906,7 +37565,7 @@ L13:;
     memory_set(v273, 0u, 416u);
     goto L12;
 L14:;
-    v274 = f133(a4, a5);
+    v274 = f138(a4, a5);
     v275 = v274.m0;
     v276 = v274.m1;
     v277 = v275 == 1u;
@@ -36096,7 +37755,7 @@ L35:;
     goto L12;
 }
 
-static u8 f153(address a0) {
+static u8 f158(address a0) {
     u8 v1, v5, v10, v14, v15, v21, v26;
     struct pair v2, v19, v23, v24;
     address v3, v6, v16, v28;
@@ -36149,7 +37808,7 @@ L6:;
     v1 = 1u; goto L1;
 }
 
-static u8 f154(address a0) {
+static u8 f159(address a0) {
     u8 v1, v5, v10, v14, v15, v21, v26;
     struct pair v2, v19, v23, v24;
     address v3, v6, v16, v28;
@@ -36202,7 +37861,7 @@ L6:;
     v1 = 1u; goto L1;
 }
 
-static u8 f155(address a0) {
+static u8 f160(address a0) {
     u8 v1, v5, v10, v14, v15, v21, v26;
     struct pair v2, v19, v23, v24;
     address v3, v6, v16, v28;
@@ -36255,7 +37914,7 @@ L6:;
     v1 = 1u; goto L1;
 }
 
-static u32 f156(address a0, address a1) {
+static u32 f161(address a0, address a1) {
     u64 v2, v10, v12, v16, v18, v22, v24, v28, v30, v32, v34, v36, v38, v56, v58, v67;
     u64 v72, v76, v82;
     u32 v3;
@@ -36360,7 +38019,7 @@ L3:;
     v67 = load64(v66);
     portable_rattle_dealloc(v61);
     v68 = (address)v67;
-    f12(v65, v68);
+    f11(v65, v68);
     goto L4;
 L4:;
     store64(a0, v58);
@@ -36369,7 +38028,7 @@ L4:;
     memory_set(v69, 0u, 7u);
     v3 = 0u; goto L18;
 L5:;
-    f15(v39);
+    f14(v39);
     v3 = 35u; goto L18;
 L6:;
     v70 = v12 == 0u;
@@ -36428,7 +38087,7 @@ L18:;
     return v3;
 }
 
-static void f157(address a0, address a1, address a2, address a3, u64 a4) {
+static void f162(address a0, address a1, address a2, address a3, u64 a4) {
     u64 v5, v13, v15, v16, v23, v37, v39, v40, v44, v46;
     address v6, v7, v8, v9, v10, v14, v19, v20, v21, v22, v24, v25, v30, v35, v41, v42;
     address v43, v45, v49, v51, v53, v55, v56, v57, v58, v59;
@@ -36503,9 +38162,9 @@ L4:;
     if (v47) { goto L5; }
     else { v5 = v46; goto L4; }
 L5:;
-    f158(v9, a2);
+    f163(v9, a2);
     memory_set(v6, 0u, 80u);
-    f159(v6, a1, v9, v8, a4);
+    f164(v6, a1, v9, v8, a4);
     v48 = load8(v6);
     v49 = v6 + 1u * 1u;
     v50 = load8(v49);
@@ -36527,7 +38186,7 @@ L5:;
     goto L2;
 }
 
-static void f158(address a0, address a1) {
+static void f163(address a0, address a1) {
     u64 v2, v4, v30, v34, v64, v68, v81, v82, v84, v85;
     u16 v3, v8, v23, v27, v42, v56, v66, v73, v74, v87, v88, v90, v91, v98, v99, v103;
     u16 v105, v106;
@@ -36806,7 +38465,7 @@ L3:;
     return;
 }
 
-static void f159(address a0, address a1, address a2, address a3, u64 a4) {
+static void f164(address a0, address a1, address a2, address a3, u64 a4) {
     address v5, v13, v21, v22, v23, v24, v25, v34, v38, v40, v44, v46, v51, v53, v55, v59;
     address v61, v63, v67, v71, v81, v82, v85, v87, v90, v93, v100, v101, v103, v106, v108, v110;
     address v112, v126, v127, v129, v133, v134, v138, v166, v167, v169, v174, v176, v178, v182, v184, v186;
@@ -36951,7 +38610,7 @@ L13:;
     else { goto L14; }
 L14:;
     v100 = a1 + 192u * 1u;
-    f160(v22, a2, a1, v100);
+    f165(v22, a2, a1, v100);
     v101 = v22 + 20u * 1u;
     v102 = load64(v101);
     v103 = v22 + 34u * 1u;
@@ -37028,7 +38687,7 @@ L25:;
     else { v14 = v139; v15 = v140; goto L23; }
 L26:;
     memory_cpy(v23, v21, 72u);
-    f160(v24, a2, a1, v100);
+    f165(v24, a2, a1, v100);
     memory_cpy(v100, v24, 36u);
     v142 = load8(a2);
     v143 = load8(v34);
@@ -37247,7 +38906,7 @@ L37:;
     goto L36;
 }
 
-static void f160(address a0, address a1, address a2, address a3) {
+static void f165(address a0, address a1, address a2, address a3) {
     u64 v4, v6, v7, v8, v18, v20, v24, v26, v28, v30, v49, v50, v51, v52, v53, v54;
     u64 v55, v56, v57, v58, v59, v60, v64, v66, v67, v69, v71, v90, v91, v92, v93, v94;
     u64 v95, v96, v97, v98, v99, v100, v101, v103, v107, v109;
@@ -37415,7 +39074,7 @@ L6:;
     return;
 }
 
-static void f161(address a0, address a1, address a2, address a3, u64 a4) {
+static void f166(address a0, address a1, address a2, address a3, u64 a4) {
     u64 v5, v16, v18, v19, v26, v40, v42, v43, v47, v49;
     u8 v6, v14, v15, v20, v25, v29, v30, v31, v32, v34, v35, v36, v37, v39, v41, v50;
     u8 v51, v53, v55, v57, v60, v64, v65, v67, v68, v69;
@@ -37458,7 +39117,7 @@ L2:;
     memory_set(v24, 0u, 72u);
     goto L1;
 L3:;
-    f158(v10, a2);
+    f163(v10, a2);
     memory_set(v8, 0u, 1536u);
     v25 = a4 == 0u;
     if (v25) { goto L5; }
@@ -37497,7 +39156,7 @@ L4:;
     else { v5 = v49; goto L4; }
 L5:;
     memory_set(v7, 0u, 80u);
-    f159(v7, v12, v10, v8, a4);
+    f164(v7, v12, v10, v8, a4);
     v51 = load8(v7);
     v52 = v7 + 1u * 1u;
     v53 = load8(v52);
@@ -37514,9 +39173,9 @@ L5:;
 L6:;
     memory_cpy(v9, v58, 72u);
     v61 = a1 + 8u * 1u;
-    f159(v11, v61, v10, v8, a4);
+    f164(v11, v61, v10, v8, a4);
     v62 = a1 + 392u * 1u;
-    f159(v11, v62, v10, v8, a4);
+    f164(v11, v62, v10, v8, a4);
     v63 = a1 + 840u * 1u;
     v64 = load8(v63);
     v65 = (u8)((v64) & UINT64_C(1));
@@ -37547,7 +39206,7 @@ L9:;
     goto L1;
 }
 
-static void f162(address a0, address a1, u8 a2, u16 a3, u16 a4, address a5, u64 a6) {
+static void f167(address a0, address a1, u8 a2, u16 a3, u16 a4, address a5, u64 a6) {
     u64 v7, v31, v33, v44, v74, v80, v81, v82, v83, v89, v90, v93, v94, v97, v98;
     u8 v8, v9, v10, v11, v12, v13, v14, v15, v16, v17, v18, v26, v27, v29, v30, v35;
     u8 v39, v40, v45, v46, v47, v56, v57, v58, v59, v60, v61, v75, v76, v77, v78, v79;
@@ -37645,7 +39304,7 @@ L8:;
     store_address(v53, a5);
     v54 = v20 + 16u * 1u;
     store64(v54, a6);
-    v55 = a1 + 424u * 1u;
+    v55 = a1 + 448u * 1u;
     v56 = load8(v55);
     v57 = v56 == 1u;
     v58 = v27 == 1u;
@@ -37687,7 +39346,7 @@ L10:;
     if (v75) { goto L11; }
     else { v7 = v74; goto L10; }
 L11:;
-    f33(v23, a1, v21);
+    f32(v23, a1, v21);
     memory_cpy(v22, v23, 256u);
     switch (a3) {
     case 0u: v8 = 0u; v9 = 0u; v10 = 0u; v11 = 0u; goto L32;
@@ -37870,12 +39529,12 @@ L53:;
     store8(v101, v14);
     v102 = v19 + 3u * 1u;
     store8(v102, v15);
-    v103 = f36(v19, a5, a6);
+    v103 = f35(v19, a5, a6);
     if (v103) { goto L54; }
     else { v16 = 1u; v17 = 4u; v18 = 3u; goto L55; }
 L54:;
-    f37(a1, v10, v11, v20);
-    f42(v25, a1, v22);
+    f36(a1, v10, v11, v20);
+    f41(v25, a1, v22);
     v104 = v24 + 1u * 1u;
     memory_cpy(v104, v25, 68u);
     v16 = 0u; v17 = 0u; v18 = 0u; goto L55;
@@ -37891,398 +39550,429 @@ L55:;
     goto L2;
 }
 
-static void f163(address a0, address a1, u16 a2, address a3, u64 a4) {
-    u16 v5, v7, v8, v9, v10, v27, v35, v37, v41, v43, v49, v86, v87, v88, v89, v90;
-    u16 v91, v92, v93, v127, v139, v140, v141, v142, v143, v144, v145, v146, v147;
-    u64 v6, v24, v26, v33, v47, v70, v71, v81, v83, v85, v102, v104, v117, v124, v126;
-    u8 v11, v12, v20, v22, v23, v28, v30, v31, v39, v48, v61, v62, v65, v67, v68, v73;
-    u8 v75, v77, v79, v100, v105, v106, v108, v109, v110, v112, v114, v115, v118, v119, v120, v121;
-    u8 v122, v123, v128, v129, v130, v132, v134, v136, v138;
-    address v13, v14, v15, v16, v17, v18, v19, v21, v25, v29, v32, v34, v36, v38, v40, v42;
-    address v44, v45, v46, v50, v51, v52, v53, v54, v55, v56, v57, v58, v59, v60, v63, v64;
-    address v66, v69, v72, v74, v76, v78, v80, v82, v84, v94, v95, v96, v97, v98, v99, v101;
-    address v103, v107, v111, v113, v116, v125, v131, v133, v135, v137, v148, v149, v150, v151, v152, v153;
-    address v154, v155, v156, v157, v158;
+static void f168(address a0, address a1, u16 a2, address a3, u64 a4) {
+    u16 v5, v11, v12, v13, v14, v31, v43, v45, v49, v51, v57, v81, v82, v83, v84, v87;
+    u16 v94, v95, v96, v97, v150, v151, v152, v153, v154, v155, v156, v157, v191, v203, v204, v205;
+    u16 v206, v207, v208, v209, v210, v211;
+    u8 v6, v7, v8, v9, v15, v16, v24, v26, v27, v32, v38, v39, v47, v56, v69, v70;
+    u8 v71, v72, v74, v75, v76, v78, v80, v86, v88, v89, v91, v93, v98, v100, v101, v103;
+    u8 v107, v111, v113, v114, v115, v116, v117, v118, v120, v122, v124, v126, v135, v139, v141, v143;
+    u8 v145, v164, v169, v170, v172, v173, v174, v176, v178, v179, v182, v183, v184, v185, v186, v187;
+    u8 v192, v193, v194, v196, v198, v200, v202;
+    u64 v10, v28, v30, v37, v41, v55, v85, v104, v105, v108, v109, v110, v112, v127, v128, v129;
+    u64 v130, v136, v137, v147, v149, v166, v168, v181, v188, v190;
+    address v17, v18, v19, v20, v21, v22, v23, v25, v29, v33, v34, v35, v36, v40, v42, v44;
+    address v46, v48, v50, v52, v53, v54, v58, v59, v60, v61, v62, v63, v64, v65, v66, v67;
+    address v68, v73, v77, v79, v90, v92, v99, v102, v106, v119, v121, v123, v125, v131, v132, v133;
+    address v134, v138, v140, v142, v144, v146, v148, v158, v159, v160, v161, v162, v163, v165, v167, v171;
+    address v175, v177, v180, v189, v195, v197, v199, v201, v212, v213, v214, v215, v216, v217, v218, v219;
+    address v220, v221, v222;
     u64 block0[3];
-    u64 block1[3];
-    u64 block2[4];
+    u64 block1[1];
+    u64 block2[3];
     u64 block3[17];
     u64 block4[6];
     u64 block5[17];
     u64 block6[17];
-    v13 = ADDRESS(block0);
-    v14 = ADDRESS(block1);
-    v15 = ADDRESS(block2);
-    v16 = ADDRESS(block3);
-    v17 = ADDRESS(block4);
-    v18 = ADDRESS(block5);
-    v19 = ADDRESS(block6);
-    v20 = a2 == 0u;
-    if (v20) { goto L3; }
+    v17 = ADDRESS(block0);
+    v18 = ADDRESS(block1);
+    v19 = ADDRESS(block2);
+    v20 = ADDRESS(block3);
+    v21 = ADDRESS(block4);
+    v22 = ADDRESS(block5);
+    v23 = ADDRESS(block6);
+    v24 = a2 == 0u;
+    if (v24) { goto L3; }
     else { goto L1; }
 L1:;
-    v21 = a1 + 240u * 1u;
-    v22 = load8(v21);
-    v23 = v22 == 0u;
-    v24 = v23 ? 376u : 256u;
-    v25 = a1 + v24 * 1u;
-    v26 = load64(v25);
-    v27 = (u16)(v26);
-    v28 = a2 > v27;
-    if (v28) { goto L3; }
+    v25 = a1 + 240u * 1u;
+    v26 = load8(v25);
+    v27 = v26 == 0u;
+    v28 = v27 ? 376u : 256u;
+    v29 = a1 + v28 * 1u;
+    v30 = load64(v29);
+    v31 = (u16)(v30);
+    v32 = a2 > v31;
+    if (v32) { goto L3; }
     else { goto L4; }
 L2:;
     return;
 L3:;
     store8(a0, 1u);
-    v29 = a0 + 1u * 1u;
-    memory_set(v29, 0u, 153u);
+    v33 = a0 + 1u * 1u;
+    memory_set(v33, 0u, 153u);
     goto L2;
 L4:;
-    f83(v17, a1, a3, a4);
-    v30 = load8(v17);
-    v31 = v30 == 1u;
-    if (v31) { goto L5; }
+    v34 = a1 + 424u * 1u;
+    v35 = load_address(v34);
+    v36 = a1 + 432u * 1u;
+    v37 = load64(v36);
+    f87(v21, a1, v35, v37, a3, a4);
+    v38 = load8(v21);
+    v39 = v38 == 1u;
+    if (v39) { goto L5; }
     else { goto L8; }
 L5:;
-    v32 = v17 + 8u * 1u;
-    v33 = load64(v32);
-    v34 = v17 + 16u * 1u;
-    v35 = load16(v34);
-    v36 = v17 + 18u * 1u;
-    v37 = load16(v36);
-    v38 = v17 + 24u * 1u;
-    v39 = load8(v38);
-    v40 = v17 + 26u * 1u;
-    v41 = load16(v40);
-    v42 = v17 + 28u * 1u;
+    v40 = v21 + 8u * 1u;
+    v41 = load64(v40);
+    v42 = v21 + 16u * 1u;
     v43 = load16(v42);
-    v44 = v17 + 32u * 1u;
-    v45 = load_address(v44);
-    v46 = v17 + 40u * 1u;
-    v47 = load64(v46);
-    memory_set(v16, 0u, 130u);
-    v48 = v47 > 130u;
-    if (v48) { v5 = 0u; goto L7; }
+    v44 = v21 + 18u * 1u;
+    v45 = load16(v44);
+    v46 = v21 + 24u * 1u;
+    v47 = load8(v46);
+    v48 = v21 + 26u * 1u;
+    v49 = load16(v48);
+    v50 = v21 + 28u * 1u;
+    v51 = load16(v50);
+    v52 = v21 + 32u * 1u;
+    v53 = load_address(v52);
+    v54 = v21 + 40u * 1u;
+    v55 = load64(v54);
+    memory_set(v20, 0u, 130u);
+    v56 = v55 > 130u;
+    if (v56) { v5 = 0u; goto L7; }
     else { goto L6; }
 L6:;
-    memory_cpy(v16, v45, v47);
-    v49 = (u16)(v47);
-    v5 = v49; goto L7;
+    memory_cpy(v20, v53, v55);
+    v57 = (u16)(v55);
+    v5 = v57; goto L7;
 L7:;
-    memory_cpy(v18, v16, 130u);
+    memory_cpy(v22, v20, 130u);
     store8(a0, 0u);
-    v50 = a0 + 1u * 1u;
-    store8(v50, 0u);
-    v51 = a0 + 2u * 1u;
-    store16(v51, 1u);
-    v52 = a0 + 4u * 1u;
-    store64(v52, v33);
-    v53 = a0 + 12u * 1u;
-    store16(v53, v35);
-    v54 = a0 + 14u * 1u;
-    store16(v54, v37);
-    v55 = a0 + 16u * 1u;
-    store16(v55, v41);
-    v56 = a0 + 18u * 1u;
-    store16(v56, v43);
-    v57 = a0 + 20u * 1u;
-    store16(v57, v5);
-    v58 = a0 + 22u * 1u;
-    store8(v58, v39);
-    v59 = a0 + 23u * 1u;
-    memory_cpy(v59, v18, 130u);
-    v60 = a0 + 153u * 1u;
-    store8(v60, 0u);
+    v58 = a0 + 1u * 1u;
+    store8(v58, 0u);
+    v59 = a0 + 2u * 1u;
+    store16(v59, 1u);
+    v60 = a0 + 4u * 1u;
+    store64(v60, v41);
+    v61 = a0 + 12u * 1u;
+    store16(v61, v43);
+    v62 = a0 + 14u * 1u;
+    store16(v62, v45);
+    v63 = a0 + 16u * 1u;
+    store16(v63, v49);
+    v64 = a0 + 18u * 1u;
+    store16(v64, v51);
+    v65 = a0 + 20u * 1u;
+    store16(v65, v5);
+    v66 = a0 + 22u * 1u;
+    store8(v66, v47);
+    v67 = a0 + 23u * 1u;
+    memory_cpy(v67, v22, 130u);
+    v68 = a0 + 153u * 1u;
+    store8(v68, 0u);
     goto L2;
 L8:;
-    memory_set(v15, 0u, 32u);
-    f8(v15, a3, a4);
-    v61 = load8(v15);
-    v62 = v61 == 0u;
-    if (v62) { goto L9; }
-    else { v6 = 0u; v7 = 0u; v8 = 0u; v9 = 0u; v10 = 0u; v11 = 0u; v12 = 0u; goto L19; }
+    memory_set(v18, 0u, 3u);
+    v69 = a4 < 54u;
+    if (v69) { goto L14; }
+    else { goto L9; }
 L9:;
-    v63 = v15 + 8u * 1u;
-    memory_cpy(v14, v63, 24u);
-    v64 = v14 + 16u * 1u;
-    v65 = load8(v64);
-    v66 = v14 + 17u * 1u;
-    v67 = load8(v66);
-    v68 = v67 == 0u;
-    v69 = load_address(v14);
-    v70 = v68 ? 52u : 54u;
-    v71 = v68 ? 53u : 55u;
-    v72 = v69 + v70 * 1u;
-    v73 = load8(v72);
-    v74 = v69 + v71 * 1u;
-    v75 = load8(v74);
-    v76 = v69 + 42u * 1u;
-    v77 = load8(v76);
-    v78 = v69 + 43u * 1u;
-    v79 = load8(v78);
-    v80 = v14 + 8u * 1u;
-    v81 = load64(v80);
-    v82 = v69 + 54u * 1u;
-    v83 = (u64)((u64)v81 + (u64)UINT64_C(18446744073709551562));
-    v84 = v68 ? v82 : ADDRESS(c148);
-    v85 = v68 ? v83 : 0u;
-    v86 = (u16)v77;
-    v87 = (u16)((u32)v86 << (8u & 15u));
-    v88 = (u16)v79;
-    v89 = (u16)((u32)v87 | (u32)v88);
-    v90 = (u16)v73;
-    v91 = (u16)((u32)v90 << (8u & 15u));
-    v92 = (u16)v75;
-    v93 = (u16)((u32)v91 | (u32)v92);
-    store8(v13, v65);
-    v94 = v13 + 1u * 1u;
-    store8(v94, 0u);
-    v95 = v13 + 2u * 1u;
-    store16(v95, v93);
-    v96 = v13 + 4u * 1u;
-    store16(v96, v89);
-    v97 = v13 + 6u * 1u;
-    store16(v97, 0u);
-    v98 = v13 + 8u * 1u;
-    store_address(v98, v84);
-    v99 = v13 + 16u * 1u;
-    store64(v99, v85);
-    v100 = f65(v13);
-    if (v100) { goto L10; }
-    else { goto L16; }
+    v70 = load8(a3);
+    v71 = (u8)((u32)v70 & (u32)15u);
+    v72 = v71 == 13u;
+    if (v72) { goto L10; }
+    else { goto L14; }
 L10:;
-    v101 = v69 + 34u * 1u;
-    v102 = load64(v101);
-    v103 = a1 + 384u * 1u;
-    v104 = load64(v103);
-    v105 = load8(v69);
-    v106 = (u8)((u32)v105 >> (4u & 7u));
-    v107 = v69 + 5u * 1u;
-    v108 = load8(v107);
-    v109 = (u8)((u32)v106 | (u32)v108);
-    v110 = v109 == 0u;
-    if (v110) { goto L11; }
-    else { goto L16; }
+    v73 = a3 + 1u * 1u;
+    v74 = load8(v73);
+    v75 = (u8)((u32)v74 & (u32)15u);
+    v76 = v75 == 2u;
+    if (v76) { goto L11; }
+    else { goto L14; }
 L11:;
-    v111 = v69 + 4u * 1u;
-    v112 = load8(v111);
-    v113 = a1 + 8u * 1u;
-    v114 = load8(v113);
-    v115 = v112 == v114;
-    if (v115) { goto L12; }
-    else { goto L16; }
+    v77 = a3 + 2u * 1u;
+    v78 = load8(v77);
+    v79 = a3 + 3u * 1u;
+    v80 = load8(v79);
+    v81 = (u16)v78;
+    v82 = (u16)((u32)v81 << (8u & 15u));
+    v83 = (u16)v80;
+    v84 = (u16)((u32)v82 | (u32)v83);
+    v85 = (u64)v84;
+    v86 = a4 < v85;
+    v87 = (u16)((u32)v84 + (u32)64063u);
+    v88 = v87 < 64117u;
+    v89 = (u8)(((u32)v88 | (u32)v86) & UINT64_C(1));
+    if (v89) { goto L14; }
+    else { goto L12; }
 L12:;
-    v116 = v69 + 20u * 1u;
-    v117 = load64(v116);
-    v118 = v117 == v104;
-    if (v118) { goto L16; }
-    else { goto L13; }
+    v90 = a3 + 48u * 1u;
+    v91 = load8(v90);
+    v92 = a3 + 49u * 1u;
+    v93 = load8(v92);
+    v94 = (u16)v91;
+    v95 = (u16)((u32)v94 << (8u & 15u));
+    v96 = (u16)v93;
+    v97 = (u16)((u32)v95 | (u32)v96);
+    v98 = v97 == 1u;
+    if (v98) { goto L13; }
+    else { goto L14; }
 L13:;
-    v119 = v102 == v104;
-    v120 = v102 == UINT64_C(18446744073709551615);
-    v121 = (u8)(((u32)v120 | (u32)v119) & UINT64_C(1));
-    if (v121) { goto L14; }
-    else { goto L16; }
+    v99 = a3 + 46u * 1u;
+    v100 = load8(v99);
+    v101 = (u8)((u32)v100 & (u32)15u);
+    v102 = a3 + 50u * 1u;
+    v103 = load8(v102);
+    v104 = (u64)v103;
+    v105 = (u64)((u64)v104 << (8u & 63u));
+    v106 = a3 + 51u * 1u;
+    v107 = load8(v106);
+    v108 = (u64)v107;
+    v109 = (u64)((u64)v105 | (u64)v108);
+    v110 = (u64)((u64)v109 + (u64)52u);
+    v111 = v110 == v85;
+    v112 = (u64)((u64)v85 & (u64)1u);
+    v113 = v112 == 0u;
+    v114 = (u8)(((u32)v113 & (u32)v111) & UINT64_C(1));
+    v115 = v101 < 5u;
+    v116 = v114 ? v115 : 0u;
+    if (v116) { v6 = v80; v7 = v78; v8 = v101; v9 = 0u; goto L16; }
+    else { goto L14; }
 L14:;
-    switch (v89) {
-    case 65535u: goto L17;
-    case 0u: goto L16;
-    default: goto L15;
-    }
+    f8(v18, a3, a4);
+    v117 = load8(v18);
+    v118 = v117 == 0u;
+    if (v118) { goto L15; }
+    else { goto L25; }
 L15:;
-    v122 = load8(v21);
-    v123 = v122 == 0u;
-    v124 = v123 ? 376u : 256u;
-    v125 = a1 + v124 * 1u;
-    v126 = load64(v125);
-    v127 = (u16)(v126);
-    v128 = v89 > v127;
-    if (v128) { goto L16; }
-    else { goto L17; }
+    v119 = v18 + 1u * 1u;
+    v120 = load8(v119);
+    v121 = v18 + 2u * 1u;
+    v122 = load8(v121);
+    v123 = a3 + 2u * 1u;
+    v124 = load8(v123);
+    v125 = a3 + 3u * 1u;
+    v126 = load8(v125);
+    v6 = v126; v7 = v124; v8 = v120; v9 = v122; goto L16;
 L16:;
-    v6 = 0u; v7 = 0u; v8 = 0u; v9 = 0u; v10 = 0u; v11 = 0u; v12 = 0u; goto L19;
-L17:;
-    v129 = f66(a1, v14);
-    v130 = v129 < 2u;
-    if (v130) { goto L18; }
-    else { v6 = 0u; v7 = 0u; v8 = 0u; v9 = 0u; v10 = 0u; v11 = 0u; v12 = 0u; goto L19; }
-L18:;
-    v131 = v69 + 28u * 1u;
-    v132 = load8(v131);
-    v133 = v69 + 29u * 1u;
-    v134 = load8(v133);
-    v135 = v69 + 30u * 1u;
-    v136 = load8(v135);
-    v137 = v69 + 31u * 1u;
-    v138 = load8(v137);
-    v139 = (u16)v136;
-    v140 = (u16)((u32)v139 << (8u & 15u));
-    v141 = (u16)v138;
-    v142 = (u16)((u32)v140 | (u32)v141);
-    v143 = (u16)v132;
-    v144 = (u16)((u32)v143 << (8u & 15u));
-    v145 = (u16)v134;
-    v146 = (u16)((u32)v144 | (u32)v145);
-    v6 = v117; v7 = v146; v8 = v142; v9 = v93; v10 = v89; v11 = v65; v12 = 2u; goto L19;
-L19:;
-    memory_set(v19, 0u, 130u);
-    v147 = (u16)v12;
-    store8(a0, 0u);
-    v148 = a0 + 1u * 1u;
-    store8(v148, 0u);
-    v149 = a0 + 2u * 1u;
-    store16(v149, v147);
-    v150 = a0 + 4u * 1u;
-    store64(v150, v6);
-    v151 = a0 + 12u * 1u;
-    store16(v151, v7);
-    v152 = a0 + 14u * 1u;
-    store16(v152, v8);
-    v153 = a0 + 16u * 1u;
-    store16(v153, v9);
-    v154 = a0 + 18u * 1u;
-    store16(v154, v10);
-    v155 = a0 + 20u * 1u;
-    store16(v155, 0u);
-    v156 = a0 + 22u * 1u;
-    store8(v156, v11);
-    v157 = a0 + 23u * 1u;
-    memory_cpy(v157, v19, 130u);
-    v158 = a0 + 153u * 1u;
+    v127 = (u64)v7;
+    v128 = (u64)((u64)v127 << (8u & 63u));
+    v129 = (u64)v6;
+    v130 = (u64)((u64)v128 | (u64)v129);
+    store_address(v19, a3);
+    v131 = v19 + 8u * 1u;
+    store64(v131, v130);
+    v132 = v19 + 16u * 1u;
+    store8(v132, v8);
+    v133 = v19 + 17u * 1u;
+    store8(v133, v9);
+    v134 = v19 + 18u * 1u;
+    memory_set(v134, 0u, 6u);
+    v135 = v9 == 0u;
+    v136 = v135 ? 52u : 54u;
+    v137 = v135 ? 53u : 55u;
+    v138 = a3 + v136 * 1u;
+    v139 = load8(v138);
+    v140 = a3 + v137 * 1u;
+    v141 = load8(v140);
+    v142 = a3 + 42u * 1u;
+    v143 = load8(v142);
+    v144 = a3 + 43u * 1u;
+    v145 = load8(v144);
+    v146 = a3 + 54u * 1u;
+    v147 = (u64)((u64)v130 + (u64)UINT64_C(18446744073709551562));
+    v148 = v135 ? v146 : ADDRESS(c155);
+    v149 = v135 ? v147 : 0u;
+    v150 = (u16)v143;
+    v151 = (u16)((u32)v150 << (8u & 15u));
+    v152 = (u16)v145;
+    v153 = (u16)((u32)v151 | (u32)v152);
+    v154 = (u16)v139;
+    v155 = (u16)((u32)v154 << (8u & 15u));
+    v156 = (u16)v141;
+    v157 = (u16)((u32)v155 | (u32)v156);
+    store8(v17, v8);
+    v158 = v17 + 1u * 1u;
     store8(v158, 0u);
+    v159 = v17 + 2u * 1u;
+    store16(v159, v157);
+    v160 = v17 + 4u * 1u;
+    store16(v160, v153);
+    v161 = v17 + 6u * 1u;
+    store16(v161, 0u);
+    v162 = v17 + 8u * 1u;
+    store_address(v162, v148);
+    v163 = v17 + 16u * 1u;
+    store64(v163, v149);
+    v164 = f70(v17);
+    if (v164) { goto L17; }
+    else { goto L23; }
+L17:;
+    v165 = a3 + 34u * 1u;
+    v166 = load64(v165);
+    v167 = a1 + 384u * 1u;
+    v168 = load64(v167);
+    v169 = load8(a3);
+    v170 = (u8)((u32)v169 >> (4u & 7u));
+    v171 = a3 + 5u * 1u;
+    v172 = load8(v171);
+    v173 = (u8)((u32)v170 | (u32)v172);
+    v174 = v173 == 0u;
+    if (v174) { goto L18; }
+    else { goto L23; }
+L18:;
+    v175 = a3 + 4u * 1u;
+    v176 = load8(v175);
+    v177 = a1 + 8u * 1u;
+    v178 = load8(v177);
+    v179 = v176 == v178;
+    if (v179) { goto L19; }
+    else { goto L23; }
+L19:;
+    v180 = a3 + 20u * 1u;
+    v181 = load64(v180);
+    v182 = v181 == v168;
+    if (v182) { goto L23; }
+    else { goto L20; }
+L20:;
+    v183 = v166 == v168;
+    v184 = v166 == UINT64_C(18446744073709551615);
+    v185 = (u8)(((u32)v184 | (u32)v183) & UINT64_C(1));
+    if (v185) { goto L21; }
+    else { goto L23; }
+L21:;
+    switch (v153) {
+    case 65535u: goto L24;
+    case 0u: goto L23;
+    default: goto L22;
+    }
+L22:;
+    v186 = load8(v25);
+    v187 = v186 == 0u;
+    v188 = v187 ? 376u : 256u;
+    v189 = a1 + v188 * 1u;
+    v190 = load64(v189);
+    v191 = (u16)(v190);
+    v192 = v153 > v191;
+    if (v192) { goto L23; }
+    else { goto L24; }
+L23:;
+    v10 = 0u; v11 = 0u; v12 = 0u; v13 = 0u; v14 = 0u; v15 = 0u; v16 = 0u; goto L27;
+L24:;
+    v193 = f71(a1, v19);
+    v194 = v193 < 2u;
+    if (v194) { goto L26; }
+    else { v10 = 0u; v11 = 0u; v12 = 0u; v13 = 0u; v14 = 0u; v15 = 0u; v16 = 0u; goto L27; }
+L25:;
+    v10 = 0u; v11 = 0u; v12 = 0u; v13 = 0u; v14 = 0u; v15 = 0u; v16 = 0u; goto L27;
+L26:;
+    v195 = a3 + 28u * 1u;
+    v196 = load8(v195);
+    v197 = a3 + 29u * 1u;
+    v198 = load8(v197);
+    v199 = a3 + 30u * 1u;
+    v200 = load8(v199);
+    v201 = a3 + 31u * 1u;
+    v202 = load8(v201);
+    v203 = (u16)v200;
+    v204 = (u16)((u32)v203 << (8u & 15u));
+    v205 = (u16)v202;
+    v206 = (u16)((u32)v204 | (u32)v205);
+    v207 = (u16)v196;
+    v208 = (u16)((u32)v207 << (8u & 15u));
+    v209 = (u16)v198;
+    v210 = (u16)((u32)v208 | (u32)v209);
+    v10 = v181; v11 = v210; v12 = v206; v13 = v157; v14 = v153; v15 = v8; v16 = 2u; goto L27;
+L27:;
+    memory_set(v23, 0u, 130u);
+    v211 = (u16)v16;
+    store8(a0, 0u);
+    v212 = a0 + 1u * 1u;
+    store8(v212, 0u);
+    v213 = a0 + 2u * 1u;
+    store16(v213, v211);
+    v214 = a0 + 4u * 1u;
+    store64(v214, v10);
+    v215 = a0 + 12u * 1u;
+    store16(v215, v11);
+    v216 = a0 + 14u * 1u;
+    store16(v216, v12);
+    v217 = a0 + 16u * 1u;
+    store16(v217, v13);
+    v218 = a0 + 18u * 1u;
+    store16(v218, v14);
+    v219 = a0 + 20u * 1u;
+    store16(v219, 0u);
+    v220 = a0 + 22u * 1u;
+    store8(v220, v15);
+    v221 = a0 + 23u * 1u;
+    memory_cpy(v221, v23, 130u);
+    v222 = a0 + 153u * 1u;
+    store8(v222, 0u);
     goto L2;
 }
 
-static void f164(address a0, address a1, u16 a2, address a3, u64 a4) {
-    address v5, v7, v8, v9, v10, v11, v12, v13, v16, v19, v20, v21, v22, v23, v27, v29;
-    address v31, v37, v40, v41, v42, v44, v47, v52, v53, v55, v56, v59, v60, v61, v62, v63;
-    address v65, v67, v70, v71, v72, v73;
-    u64 v6, v24, v25, v28, v38, v43, v48;
-    u8 v14, v15, v17, v18, v26, v30, v32, v39, v46, v49, v50, v51, v54, v57, v64, v66;
-    u8 v68;
-    u16 v33, v34, v35, v36, v45, v58, v69;
+static void f169(address a0, address a1, u16 a2, address a3, u64 a4) {
+    address v5, v6, v7, v8, v9, v13, v15, v16, v18, v19, v22, v23, v24, v25, v26, v27;
+    address v29, v31, v34, v35, v36, v37;
+    u8 v10, v11, v12, v14, v17, v20, v28, v30, v32;
+    u16 v21, v33;
     u64 block0[48];
     u64 block1[48];
-    u64 block2[4];
+    u64 block2[20];
     u64 block3[20];
-    u64 block4[20];
-    v8 = ADDRESS(block0);
-    v9 = ADDRESS(block1);
-    v10 = ADDRESS(block2);
-    v11 = ADDRESS(block3);
-    v12 = ADDRESS(block4);
-    v13 = a1 + 841u * 1u;
-    v14 = load8(v13);
-    v15 = (u8)((v14) & UINT64_C(1));
-    if (v15) { goto L2; }
-    else { goto L1; }
+    v5 = ADDRESS(block0);
+    v6 = ADDRESS(block1);
+    v7 = ADDRESS(block2);
+    v8 = ADDRESS(block3);
+    v9 = a1 + 841u * 1u;
+    v10 = load8(v9);
+    v11 = (u8)((v10) & UINT64_C(1));
+    if (v11) { goto L1; }
+    else { goto L3; }
 L1:;
-    v16 = load_address(a1);
-    v7 = v16; goto L11;
+    v12 = f86(a1, a3, a4);
+    if (v12) { goto L3; }
+    else { goto L4; }
 L2:;
-    memory_set(v10, 0u, 32u);
-    f8(v10, a3, a4);
-    v17 = load8(v10);
-    v18 = v17 == 0u;
-    v19 = load_address(a1);
-    if (v18) { goto L3; }
-    else { goto L12; }
-L3:;
-    v20 = v10 + 8u * 1u;
-    v21 = load_address(v20);
-    v22 = v19 + 384u * 1u;
-    v23 = v21 + 34u * 1u;
-    v24 = load64(v23);
-    v25 = load64(v22);
-    v26 = v24 == v25;
-    if (v26) { goto L4; }
-    else { goto L12; }
-L4:;
-    v27 = v21 + 20u * 1u;
-    v28 = load64(v27);
-    v29 = v21 + 28u * 1u;
-    v30 = load8(v29);
-    v31 = v21 + 29u * 1u;
-    v32 = load8(v31);
-    v33 = (u16)v30;
-    v34 = (u16)((u32)v33 << (8u & 15u));
-    v35 = (u16)v32;
-    v36 = (u16)((u32)v34 | (u32)v35);
-    v37 = v19 + 400u * 1u;
-    v38 = load64(v37);
-    v39 = v38 == 0u;
-    if (v39) { goto L12; }
-    else { goto L5; }
-L5:;
-    v40 = v19 + 392u * 1u;
-    v41 = load_address(v40);
-    v5 = v41; v6 = v38; goto L6;
-L6:;
-    v42 = v5 + 2144u * 1u;
-    v43 = (u64)((u64)v6 + (u64)UINT64_C(18446744073709551615));
-    v44 = v5 + 2120u * 1u;
-    v45 = load16(v44);
-    v46 = v36 == v45;
-    if (v46) { goto L7; }
-    else { goto L8; }
-L7:;
-    v47 = v5 + 2112u * 1u;
-    v48 = load64(v47);
-    v49 = v28 == v48;
-    if (v49) { goto L9; }
-    else { goto L8; }
-L8:;
-    v50 = v43 == 0u;
-    if (v50) { goto L12; }
-    else { v5 = v42; v6 = v43; goto L6; }
-L9:;
-    v7 = v19; goto L11;
-L10:;
     return;
-L11:;
-    f163(v11, v7, a2, a3, a4);
-    v51 = load8(v11);
-    store8(a0, v51);
-    v52 = a0 + 1u * 1u;
-    v53 = v11 + 1u * 1u;
-    v54 = load8(v53);
-    store8(v52, v54);
-    v55 = a0 + 2u * 1u;
-    v56 = v11 + 2u * 1u;
-    v57 = load8(v56);
-    v58 = (u16)v57;
-    store16(v55, v58);
-    v59 = a0 + 4u * 1u;
-    v60 = v11 + 4u * 1u;
-    memory_cpy(v59, v60, 150u);
-    goto L10;
-L12:;
-    v61 = a1 + 8u * 1u;
-    memory_cpy(v9, v19, 384u);
-    memory_move(v19, v61, 384u);
-    memory_cpy(v61, v9, 384u);
-    v62 = load_address(a1);
-    f163(v12, v62, a2, a3, a4);
-    v63 = load_address(a1);
-    memory_cpy(v8, v63, 384u);
-    memory_move(v63, v61, 384u);
-    memory_cpy(v61, v8, 384u);
-    v64 = load8(v12);
-    v65 = v12 + 1u * 1u;
-    v66 = load8(v65);
-    v67 = v12 + 2u * 1u;
-    v68 = load8(v67);
-    v69 = (u16)v68;
-    v70 = v12 + 4u * 1u;
-    store8(a0, v64);
-    v71 = a0 + 1u * 1u;
-    store8(v71, v66);
-    v72 = a0 + 2u * 1u;
-    store16(v72, v69);
-    v73 = a0 + 4u * 1u;
-    memory_cpy(v73, v70, 150u);
-    goto L10;
+L3:;
+    v13 = load_address(a1);
+    f168(v7, v13, a2, a3, a4);
+    v14 = load8(v7);
+    store8(a0, v14);
+    v15 = a0 + 1u * 1u;
+    v16 = v7 + 1u * 1u;
+    v17 = load8(v16);
+    store8(v15, v17);
+    v18 = a0 + 2u * 1u;
+    v19 = v7 + 2u * 1u;
+    v20 = load8(v19);
+    v21 = (u16)v20;
+    store16(v18, v21);
+    v22 = a0 + 4u * 1u;
+    v23 = v7 + 4u * 1u;
+    memory_cpy(v22, v23, 150u);
+    goto L2;
+L4:;
+    v24 = load_address(a1);
+    v25 = a1 + 8u * 1u;
+    memory_cpy(v6, v24, 384u);
+    memory_move(v24, v25, 384u);
+    memory_cpy(v25, v6, 384u);
+    v26 = load_address(a1);
+    f168(v8, v26, a2, a3, a4);
+    v27 = load_address(a1);
+    memory_cpy(v5, v27, 384u);
+    memory_move(v27, v25, 384u);
+    memory_cpy(v25, v5, 384u);
+    v28 = load8(v8);
+    v29 = v8 + 1u * 1u;
+    v30 = load8(v29);
+    v31 = v8 + 2u * 1u;
+    v32 = load8(v31);
+    v33 = (u16)v32;
+    v34 = v8 + 4u * 1u;
+    store8(a0, v28);
+    v35 = a0 + 1u * 1u;
+    store8(v35, v30);
+    v36 = a0 + 2u * 1u;
+    store16(v36, v33);
+    v37 = a0 + 4u * 1u;
+    memory_cpy(v37, v34, 150u);
+    goto L2;
 }
 
 u64 portable_ptpm_answer_name(u32 a0, address a1, u64 a2) {
@@ -38293,7 +39983,7 @@ u64 portable_ptpm_answer_name(u32 a0, address a1, u64 a2) {
     v8 = v7 ? 4096u : 0u;
     v9 = a1 + v8 * 1u;
     switch (a0) {
-    case 1u: v3 = 12u; v4 = ADDRESS(c0); goto L120;
+    case 1u: v3 = 12u; v4 = ADDRESS(c0); goto L126;
     case 2u: goto L1;
     case 3u: goto L2;
     case 4u: goto L3;
@@ -38323,7 +40013,7 @@ u64 portable_ptpm_answer_name(u32 a0, address a1, u64 a2) {
     case 29u: goto L27;
     case 30u: goto L28;
     case 31u: goto L29;
-    case 32u: goto L118;
+    case 32u: goto L124;
     case 33u: goto L30;
     case 34u: goto L31;
     case 35u: goto L32;
@@ -38375,308 +40065,326 @@ u64 portable_ptpm_answer_name(u32 a0, address a1, u64 a2) {
     case 130u: goto L78;
     case 131u: goto L79;
     case 132u: goto L80;
-    case 64u: goto L110;
-    case 65u: goto L81;
-    case 66u: goto L82;
-    case 67u: goto L83;
-    case 68u: goto L84;
-    case 69u: goto L85;
-    case 70u: goto L86;
-    case 71u: goto L87;
-    case 72u: goto L88;
-    case 73u: goto L89;
-    case 74u: goto L90;
-    case 75u: goto L91;
-    case 76u: goto L92;
-    case 77u: goto L93;
-    case 78u: goto L94;
-    case 79u: goto L95;
-    case 80u: goto L96;
-    case 81u: goto L97;
-    case 82u: goto L98;
-    case 83u: goto L99;
-    case 84u: goto L100;
-    case 85u: goto L101;
-    case 86u: goto L102;
-    case 87u: goto L103;
-    case 88u: goto L104;
-    case 89u: goto L105;
-    case 90u: goto L106;
-    case 91u: goto L107;
-    case 92u: goto L108;
-    case 93u: goto L109;
-    case 94u: goto L119;
-    case 95u: goto L111;
-    case 96u: goto L112;
-    case 97u: goto L113;
-    case 98u: goto L114;
-    case 99u: goto L115;
-    case 100u: goto L116;
-    case 101u: goto L117;
-    default: v6 = 0u; goto L124;
+    case 133u: goto L81;
+    case 134u: goto L82;
+    case 135u: goto L83;
+    case 136u: goto L84;
+    case 137u: goto L85;
+    case 138u: goto L86;
+    case 64u: goto L116;
+    case 65u: goto L87;
+    case 66u: goto L88;
+    case 67u: goto L89;
+    case 68u: goto L90;
+    case 69u: goto L91;
+    case 70u: goto L92;
+    case 71u: goto L93;
+    case 72u: goto L94;
+    case 73u: goto L95;
+    case 74u: goto L96;
+    case 75u: goto L97;
+    case 76u: goto L98;
+    case 77u: goto L99;
+    case 78u: goto L100;
+    case 79u: goto L101;
+    case 80u: goto L102;
+    case 81u: goto L103;
+    case 82u: goto L104;
+    case 83u: goto L105;
+    case 84u: goto L106;
+    case 85u: goto L107;
+    case 86u: goto L108;
+    case 87u: goto L109;
+    case 88u: goto L110;
+    case 89u: goto L111;
+    case 90u: goto L112;
+    case 91u: goto L113;
+    case 92u: goto L114;
+    case 93u: goto L115;
+    case 94u: goto L125;
+    case 95u: goto L117;
+    case 96u: goto L118;
+    case 97u: goto L119;
+    case 98u: goto L120;
+    case 99u: goto L121;
+    case 100u: goto L122;
+    case 101u: goto L123;
+    default: v6 = 0u; goto L130;
     }
 L1:;
-    v3 = 11u; v4 = ADDRESS(c1); goto L120;
+    v3 = 11u; v4 = ADDRESS(c1); goto L126;
 L2:;
-    v3 = 13u; v4 = ADDRESS(c2); goto L120;
+    v3 = 13u; v4 = ADDRESS(c2); goto L126;
 L3:;
-    v3 = 13u; v4 = ADDRESS(c3); goto L120;
+    v3 = 13u; v4 = ADDRESS(c3); goto L126;
 L4:;
-    v3 = 12u; v4 = ADDRESS(c4); goto L120;
+    v3 = 12u; v4 = ADDRESS(c4); goto L126;
 L5:;
-    v3 = 15u; v4 = ADDRESS(c5); goto L120;
+    v3 = 15u; v4 = ADDRESS(c5); goto L126;
 L6:;
-    v3 = 11u; v4 = ADDRESS(c6); goto L120;
+    v3 = 11u; v4 = ADDRESS(c6); goto L126;
 L7:;
-    v3 = 16u; v4 = ADDRESS(c7); goto L120;
+    v3 = 16u; v4 = ADDRESS(c7); goto L126;
 L8:;
-    v3 = 19u; v4 = ADDRESS(c8); goto L120;
+    v3 = 19u; v4 = ADDRESS(c8); goto L126;
 L9:;
-    v3 = 11u; v4 = ADDRESS(c9); goto L120;
+    v3 = 11u; v4 = ADDRESS(c9); goto L126;
 L10:;
-    v3 = 12u; v4 = ADDRESS(c10); goto L120;
+    v3 = 12u; v4 = ADDRESS(c10); goto L126;
 L11:;
-    v3 = 12u; v4 = ADDRESS(c11); goto L120;
+    v3 = 12u; v4 = ADDRESS(c11); goto L126;
 L12:;
-    v3 = 13u; v4 = ADDRESS(c12); goto L120;
+    v3 = 13u; v4 = ADDRESS(c12); goto L126;
 L13:;
-    v3 = 12u; v4 = ADDRESS(c13); goto L120;
+    v3 = 12u; v4 = ADDRESS(c13); goto L126;
 L14:;
-    v3 = 13u; v4 = ADDRESS(c14); goto L120;
+    v3 = 13u; v4 = ADDRESS(c14); goto L126;
 L15:;
-    v3 = 9u; v4 = ADDRESS(c15); goto L120;
+    v3 = 9u; v4 = ADDRESS(c15); goto L126;
 L16:;
-    v3 = 14u; v4 = ADDRESS(c16); goto L120;
+    v3 = 14u; v4 = ADDRESS(c16); goto L126;
 L17:;
-    v3 = 11u; v4 = ADDRESS(c17); goto L120;
+    v3 = 11u; v4 = ADDRESS(c17); goto L126;
 L18:;
-    v3 = 10u; v4 = ADDRESS(c18); goto L120;
+    v3 = 10u; v4 = ADDRESS(c18); goto L126;
 L19:;
-    v3 = 10u; v4 = ADDRESS(c19); goto L120;
+    v3 = 10u; v4 = ADDRESS(c19); goto L126;
 L20:;
-    v3 = 12u; v4 = ADDRESS(c20); goto L120;
+    v3 = 12u; v4 = ADDRESS(c20); goto L126;
 L21:;
-    v3 = 14u; v4 = ADDRESS(c21); goto L120;
+    v3 = 14u; v4 = ADDRESS(c21); goto L126;
 L22:;
-    v3 = 8u; v4 = ADDRESS(c22); goto L120;
+    v3 = 8u; v4 = ADDRESS(c22); goto L126;
 L23:;
-    v3 = 4u; v4 = ADDRESS(c23); goto L120;
+    v3 = 4u; v4 = ADDRESS(c23); goto L126;
 L24:;
-    v3 = 7u; v4 = ADDRESS(c24); goto L120;
+    v3 = 7u; v4 = ADDRESS(c24); goto L126;
 L25:;
-    v3 = 5u; v4 = ADDRESS(c25); goto L120;
+    v3 = 5u; v4 = ADDRESS(c25); goto L126;
 L26:;
-    v3 = 4u; v4 = ADDRESS(c26); goto L120;
+    v3 = 4u; v4 = ADDRESS(c26); goto L126;
 L27:;
-    v3 = 12u; v4 = ADDRESS(c27); goto L120;
+    v3 = 12u; v4 = ADDRESS(c27); goto L126;
 L28:;
-    v3 = 11u; v4 = ADDRESS(c28); goto L120;
+    v3 = 11u; v4 = ADDRESS(c28); goto L126;
 L29:;
-    v3 = 7u; v4 = ADDRESS(c29); goto L120;
+    v3 = 7u; v4 = ADDRESS(c29); goto L126;
 L30:;
-    v3 = 7u; v4 = ADDRESS(c31); goto L120;
+    v3 = 7u; v4 = ADDRESS(c31); goto L126;
 L31:;
-    v3 = 7u; v4 = ADDRESS(c32); goto L120;
+    v3 = 7u; v4 = ADDRESS(c32); goto L126;
 L32:;
-    v3 = 9u; v4 = ADDRESS(c33); goto L120;
+    v3 = 9u; v4 = ADDRESS(c33); goto L126;
 L33:;
-    v3 = 12u; v4 = ADDRESS(c34); goto L120;
+    v3 = 12u; v4 = ADDRESS(c34); goto L126;
 L34:;
-    v3 = 10u; v4 = ADDRESS(c35); goto L120;
+    v3 = 10u; v4 = ADDRESS(c35); goto L126;
 L35:;
-    v3 = 4u; v4 = ADDRESS(c36); goto L120;
+    v3 = 4u; v4 = ADDRESS(c36); goto L126;
 L36:;
-    v3 = 10u; v4 = ADDRESS(c37); goto L120;
+    v3 = 10u; v4 = ADDRESS(c37); goto L126;
 L37:;
-    v3 = 13u; v4 = ADDRESS(c38); goto L120;
+    v3 = 13u; v4 = ADDRESS(c38); goto L126;
 L38:;
-    v3 = 9u; v4 = ADDRESS(c39); goto L120;
+    v3 = 9u; v4 = ADDRESS(c39); goto L126;
 L39:;
-    v3 = 16u; v4 = ADDRESS(c40); goto L120;
+    v3 = 16u; v4 = ADDRESS(c40); goto L126;
 L40:;
-    v3 = 4u; v4 = ADDRESS(c41); goto L120;
+    v3 = 4u; v4 = ADDRESS(c41); goto L126;
 L41:;
-    v3 = 7u; v4 = ADDRESS(c42); goto L120;
+    v3 = 7u; v4 = ADDRESS(c42); goto L126;
 L42:;
-    v3 = 9u; v4 = ADDRESS(c43); goto L120;
+    v3 = 9u; v4 = ADDRESS(c43); goto L126;
 L43:;
-    v3 = 9u; v4 = ADDRESS(c44); goto L120;
+    v3 = 9u; v4 = ADDRESS(c44); goto L126;
 L44:;
-    v3 = 11u; v4 = ADDRESS(c45); goto L120;
+    v3 = 11u; v4 = ADDRESS(c45); goto L126;
 L45:;
-    v3 = 8u; v4 = ADDRESS(c46); goto L120;
+    v3 = 8u; v4 = ADDRESS(c46); goto L126;
 L46:;
-    v3 = 14u; v4 = ADDRESS(c47); goto L120;
+    v3 = 14u; v4 = ADDRESS(c47); goto L126;
 L47:;
-    v3 = 19u; v4 = ADDRESS(c48); goto L120;
+    v3 = 19u; v4 = ADDRESS(c48); goto L126;
 L48:;
-    v3 = 17u; v4 = ADDRESS(c49); goto L120;
+    v3 = 17u; v4 = ADDRESS(c49); goto L126;
 L49:;
-    v3 = 13u; v4 = ADDRESS(c50); goto L120;
+    v3 = 13u; v4 = ADDRESS(c50); goto L126;
 L50:;
-    v3 = 16u; v4 = ADDRESS(c51); goto L120;
+    v3 = 16u; v4 = ADDRESS(c51); goto L126;
 L51:;
-    v3 = 15u; v4 = ADDRESS(c52); goto L120;
+    v3 = 15u; v4 = ADDRESS(c52); goto L126;
 L52:;
-    v3 = 10u; v4 = ADDRESS(c53); goto L120;
+    v3 = 10u; v4 = ADDRESS(c53); goto L126;
 L53:;
-    v3 = 16u; v4 = ADDRESS(c54); goto L120;
+    v3 = 16u; v4 = ADDRESS(c54); goto L126;
 L54:;
-    v3 = 14u; v4 = ADDRESS(c55); goto L120;
+    v3 = 14u; v4 = ADDRESS(c55); goto L126;
 L55:;
-    v3 = 12u; v4 = ADDRESS(c56); goto L120;
+    v3 = 12u; v4 = ADDRESS(c56); goto L126;
 L56:;
-    v3 = 13u; v4 = ADDRESS(c57); goto L120;
+    v3 = 13u; v4 = ADDRESS(c57); goto L126;
 L57:;
-    v3 = 10u; v4 = ADDRESS(c58); goto L120;
+    v3 = 10u; v4 = ADDRESS(c58); goto L126;
 L58:;
-    v3 = 7u; v4 = ADDRESS(c59); goto L120;
+    v3 = 7u; v4 = ADDRESS(c59); goto L126;
 L59:;
-    v3 = 11u; v4 = ADDRESS(c60); goto L120;
+    v3 = 11u; v4 = ADDRESS(c60); goto L126;
 L60:;
-    v3 = 11u; v4 = ADDRESS(c61); goto L120;
+    v3 = 11u; v4 = ADDRESS(c61); goto L126;
 L61:;
-    v3 = 13u; v4 = ADDRESS(c62); goto L120;
+    v3 = 13u; v4 = ADDRESS(c62); goto L126;
 L62:;
-    v3 = 12u; v4 = ADDRESS(c63); goto L120;
+    v3 = 12u; v4 = ADDRESS(c63); goto L126;
 L63:;
-    v3 = 9u; v4 = ADDRESS(c64); goto L120;
+    v3 = 9u; v4 = ADDRESS(c64); goto L126;
 L64:;
-    v3 = 10u; v4 = ADDRESS(c65); goto L120;
+    v3 = 10u; v4 = ADDRESS(c65); goto L126;
 L65:;
-    v3 = 10u; v4 = ADDRESS(c66); goto L120;
+    v3 = 10u; v4 = ADDRESS(c66); goto L126;
 L66:;
-    v3 = 10u; v4 = ADDRESS(c67); goto L120;
+    v3 = 10u; v4 = ADDRESS(c67); goto L126;
 L67:;
-    v3 = 8u; v4 = ADDRESS(c68); goto L120;
+    v3 = 8u; v4 = ADDRESS(c68); goto L126;
 L68:;
-    v3 = 7u; v4 = ADDRESS(c69); goto L120;
+    v3 = 7u; v4 = ADDRESS(c69); goto L126;
 L69:;
-    v3 = 11u; v4 = ADDRESS(c70); goto L120;
+    v3 = 11u; v4 = ADDRESS(c70); goto L126;
 L70:;
-    v3 = 8u; v4 = ADDRESS(c71); goto L120;
+    v3 = 8u; v4 = ADDRESS(c71); goto L126;
 L71:;
-    v3 = 7u; v4 = ADDRESS(c72); goto L120;
+    v3 = 7u; v4 = ADDRESS(c72); goto L126;
 L72:;
-    v3 = 9u; v4 = ADDRESS(c73); goto L120;
+    v3 = 9u; v4 = ADDRESS(c73); goto L126;
 L73:;
-    v3 = 17u; v4 = ADDRESS(c74); goto L120;
+    v3 = 17u; v4 = ADDRESS(c74); goto L126;
 L74:;
-    v3 = 10u; v4 = ADDRESS(c75); goto L120;
+    v3 = 10u; v4 = ADDRESS(c75); goto L126;
 L75:;
-    v3 = 9u; v4 = ADDRESS(c76); goto L120;
+    v3 = 9u; v4 = ADDRESS(c76); goto L126;
 L76:;
-    v3 = 11u; v4 = ADDRESS(c77); goto L120;
+    v3 = 11u; v4 = ADDRESS(c77); goto L126;
 L77:;
-    v3 = 13u; v4 = ADDRESS(c78); goto L120;
+    v3 = 13u; v4 = ADDRESS(c78); goto L126;
 L78:;
-    v3 = 10u; v4 = ADDRESS(c79); goto L120;
+    v3 = 10u; v4 = ADDRESS(c79); goto L126;
 L79:;
-    v3 = 9u; v4 = ADDRESS(c80); goto L120;
+    v3 = 9u; v4 = ADDRESS(c80); goto L126;
 L80:;
-    v3 = 11u; v4 = ADDRESS(c81); goto L120;
+    v3 = 11u; v4 = ADDRESS(c81); goto L126;
 L81:;
-    v3 = 10u; v4 = ADDRESS(c83); goto L120;
+    v3 = 12u; v4 = ADDRESS(c82); goto L126;
 L82:;
-    v3 = 20u; v4 = ADDRESS(c84); goto L120;
+    v3 = 12u; v4 = ADDRESS(c83); goto L126;
 L83:;
-    v3 = 12u; v4 = ADDRESS(c85); goto L120;
+    v3 = 13u; v4 = ADDRESS(c84); goto L126;
 L84:;
-    v3 = 13u; v4 = ADDRESS(c86); goto L120;
+    v3 = 9u; v4 = ADDRESS(c85); goto L126;
 L85:;
-    v3 = 15u; v4 = ADDRESS(c87); goto L120;
+    v3 = 11u; v4 = ADDRESS(c86); goto L126;
 L86:;
-    v3 = 18u; v4 = ADDRESS(c88); goto L120;
+    v3 = 9u; v4 = ADDRESS(c87); goto L126;
 L87:;
-    v3 = 12u; v4 = ADDRESS(c89); goto L120;
+    v3 = 10u; v4 = ADDRESS(c89); goto L126;
 L88:;
-    v3 = 13u; v4 = ADDRESS(c90); goto L120;
+    v3 = 20u; v4 = ADDRESS(c90); goto L126;
 L89:;
-    v3 = 17u; v4 = ADDRESS(c91); goto L120;
+    v3 = 12u; v4 = ADDRESS(c91); goto L126;
 L90:;
-    v3 = 22u; v4 = ADDRESS(c92); goto L120;
+    v3 = 13u; v4 = ADDRESS(c92); goto L126;
 L91:;
-    v3 = 19u; v4 = ADDRESS(c93); goto L120;
+    v3 = 15u; v4 = ADDRESS(c93); goto L126;
 L92:;
-    v3 = 15u; v4 = ADDRESS(c94); goto L120;
+    v3 = 18u; v4 = ADDRESS(c94); goto L126;
 L93:;
-    v3 = 16u; v4 = ADDRESS(c95); goto L120;
+    v3 = 12u; v4 = ADDRESS(c95); goto L126;
 L94:;
-    v3 = 21u; v4 = ADDRESS(c96); goto L120;
+    v3 = 13u; v4 = ADDRESS(c96); goto L126;
 L95:;
-    v3 = 17u; v4 = ADDRESS(c97); goto L120;
+    v3 = 17u; v4 = ADDRESS(c97); goto L126;
 L96:;
-    v3 = 25u; v4 = ADDRESS(c98); goto L120;
+    v3 = 22u; v4 = ADDRESS(c98); goto L126;
 L97:;
-    v3 = 21u; v4 = ADDRESS(c99); goto L120;
+    v3 = 19u; v4 = ADDRESS(c99); goto L126;
 L98:;
-    v3 = 24u; v4 = ADDRESS(c100); goto L120;
+    v3 = 15u; v4 = ADDRESS(c100); goto L126;
 L99:;
-    v3 = 24u; v4 = ADDRESS(c101); goto L120;
+    v3 = 16u; v4 = ADDRESS(c101); goto L126;
 L100:;
-    v3 = 25u; v4 = ADDRESS(c102); goto L120;
+    v3 = 21u; v4 = ADDRESS(c102); goto L126;
 L101:;
-    v3 = 15u; v4 = ADDRESS(c103); goto L120;
+    v3 = 17u; v4 = ADDRESS(c103); goto L126;
 L102:;
-    v3 = 14u; v4 = ADDRESS(c104); goto L120;
+    v3 = 25u; v4 = ADDRESS(c104); goto L126;
 L103:;
-    v3 = 10u; v4 = ADDRESS(c105); goto L120;
+    v3 = 21u; v4 = ADDRESS(c105); goto L126;
 L104:;
-    v3 = 10u; v4 = ADDRESS(c106); goto L120;
+    v3 = 24u; v4 = ADDRESS(c106); goto L126;
 L105:;
-    v3 = 13u; v4 = ADDRESS(c107); goto L120;
+    v3 = 24u; v4 = ADDRESS(c107); goto L126;
 L106:;
-    v3 = 17u; v4 = ADDRESS(c108); goto L120;
+    v3 = 25u; v4 = ADDRESS(c108); goto L126;
 L107:;
-    v3 = 18u; v4 = ADDRESS(c109); goto L120;
+    v3 = 15u; v4 = ADDRESS(c109); goto L126;
 L108:;
-    v3 = 23u; v4 = ADDRESS(c110); goto L120;
+    v3 = 14u; v4 = ADDRESS(c110); goto L126;
 L109:;
-    v3 = 15u; v4 = ADDRESS(c111); goto L120;
+    v3 = 10u; v4 = ADDRESS(c111); goto L126;
 L110:;
-    v3 = 12u; v4 = ADDRESS(c82); goto L120;
+    v3 = 10u; v4 = ADDRESS(c112); goto L126;
 L111:;
-    v3 = 21u; v4 = ADDRESS(c113); goto L120;
+    v3 = 13u; v4 = ADDRESS(c113); goto L126;
 L112:;
-    v3 = 14u; v4 = ADDRESS(c114); goto L120;
+    v3 = 17u; v4 = ADDRESS(c114); goto L126;
 L113:;
-    v3 = 16u; v4 = ADDRESS(c115); goto L120;
+    v3 = 18u; v4 = ADDRESS(c115); goto L126;
 L114:;
-    v3 = 19u; v4 = ADDRESS(c116); goto L120;
+    v3 = 23u; v4 = ADDRESS(c116); goto L126;
 L115:;
-    v3 = 12u; v4 = ADDRESS(c117); goto L120;
+    v3 = 15u; v4 = ADDRESS(c117); goto L126;
 L116:;
-    v3 = 19u; v4 = ADDRESS(c118); goto L120;
+    v3 = 12u; v4 = ADDRESS(c88); goto L126;
 L117:;
-    v3 = 18u; v4 = ADDRESS(c119); goto L120;
+    v3 = 21u; v4 = ADDRESS(c119); goto L126;
 L118:;
-    v3 = 8u; v4 = ADDRESS(c30); goto L120;
+    v3 = 14u; v4 = ADDRESS(c120); goto L126;
 L119:;
-    v3 = 9u; v4 = ADDRESS(c112); goto L120;
+    v3 = 16u; v4 = ADDRESS(c121); goto L126;
 L120:;
-    v10 = a2 < v3;
-    if (v10) { v6 = 0u; goto L124; }
-    else { goto L121; }
+    v3 = 19u; v4 = ADDRESS(c122); goto L126;
 L121:;
+    v3 = 12u; v4 = ADDRESS(c123); goto L126;
+L122:;
+    v3 = 19u; v4 = ADDRESS(c124); goto L126;
+L123:;
+    v3 = 18u; v4 = ADDRESS(c125); goto L126;
+L124:;
+    v3 = 8u; v4 = ADDRESS(c30); goto L126;
+L125:;
+    v3 = 9u; v4 = ADDRESS(c118); goto L126;
+L126:;
+    v10 = a2 < v3;
+    if (v10) { v6 = 0u; goto L130; }
+    else { goto L127; }
+L127:;
     v11 = (u64)v9;
     v12 = (u64)v4;
     v13 = (u64)((u64)v11 - (u64)v12);
     v14 = v13 < v3;
-    if (v14) { v5 = 0u; goto L123; }
-    else { goto L122; }
-L122:;
+    if (v14) { v5 = 0u; goto L129; }
+    else { goto L128; }
+L128:;
     memory_move(v9, v4, v3);
-    v6 = v3; goto L124;
-L123:;
+    v6 = v3; goto L130;
+L129:;
     v15 = v9 + v5 * 1u;
     v16 = v4 + v5 * 1u;
     v17 = load8(v16);
     store8(v15, v17);
     v18 = (u64)((u64)v5 + (u64)1u);
     v19 = v18 == v3;
-    if (v19) { v6 = v3; goto L124; }
-    else { v5 = v18; goto L123; }
-L124:;
+    if (v19) { v6 = v3; goto L130; }
+    else { v5 = v18; goto L129; }
+L130:;
     return v6;
 }
 
@@ -39310,7 +41018,7 @@ L75:;
 L76:;
     v342 = v12.m1;
     v343 = (u64)v342;
-    v344 = ADDRESS(c369) + v343 * 4u;
+    v344 = ADDRESS(c375) + v343 * 4u;
     v345 = load32(v344);
     v47 = v345; goto L77;
 L77:;
@@ -39365,7 +41073,7 @@ L6:;
     v21 = v20 + 235u * 1u;
     v22 = load8(v21);
     v23 = (u64)v22;
-    v24 = ADDRESS(c357) + v23 * 4u;
+    v24 = ADDRESS(c363) + v23 * 4u;
     v25 = load32(v24);
     v4 = v25; goto L7;
 L7:;
@@ -39603,7 +41311,7 @@ L2:;
     v14 = v11 + 8u * 1u;
     v15 = load_address(v14);
     v16 = v15 + 80u * 1u;
-    v17 = f10(v16, v7, a2);
+    v17 = f9(v16, v7, a2);
     v18 = v17.m0;
     v19 = v18 == 1u;
     if (v19) { goto L3; }
@@ -39928,7 +41636,7 @@ L19:;
 L20:;
     v74 = v4.m1;
     v75 = (u64)v74;
-    v76 = ADDRESS(c369) + v75 * 4u;
+    v76 = ADDRESS(c375) + v75 * 4u;
     v77 = load32(v76);
     v8 = v77; goto L21;
 L21:;
@@ -40420,7 +42128,7 @@ L1:;
     v7 = load64(v6);
     portable_rattle_dealloc(v1);
     v8 = (address)v7;
-    f12(v5, v8);
+    f11(v5, v8);
     goto L2;
 L2:;
     return;
@@ -40654,7 +42362,7 @@ L5:;
     v39 = load16(v38);
     v40 = v31 + 237u * 1u;
     v41 = load8(v40);
-    f20(v22, v31, v32, a1, v39, v41);
+    f19(v22, v31, v32, a1, v39, v41);
     goto L46;
 L6:;
     memory_set(v21, 0u, 64u);
@@ -41086,7 +42794,7 @@ L42:;
     v259 = load16(v258);
     v260 = (u16)((u32)v259 + (u32)16384u);
     v261 = (u8)((u32)v234 + (u32)255u);
-    f20(v21, v31, v32, a1, v260, v261);
+    f19(v21, v31, v32, a1, v260, v261);
     goto L43;
 L43:;
     memory_cpy(v22, v21, 64u);
@@ -41190,246 +42898,272 @@ L59:;
 }
 
 u32 portable_ptpm_clock_decide(address a0, address a1, address a2, u64 a3, address a4) {
-    u64 v5, v6, v7, v17, v42, v47, v51, v53, v55, v56, v57, v61, v63, v64, v65, v66;
-    u64 v69, v70, v74, v80, v81, v84, v85, v86, v88, v92, v98;
-    u32 v8, v9, v110, v111, v118, v119;
-    address v10, v11, v12, v13, v14, v15, v18, v19, v22, v25, v26, v27, v28, v31, v35, v37;
-    address v39, v40, v41, v43, v46, v49, v50, v52, v54, v58, v62, v67, v72, v73, v76, v77;
-    address v78, v82, v83, v90, v93, v95, v97, v99, v100, v101, v102, v103, v104, v105, v106, v107;
-    address v108, v109, v112, v114;
-    u8 v16, v20, v21, v23, v24, v29, v30, v33, v34, v36, v38, v44, v45, v48, v59, v60;
-    u8 v71, v75, v79, v87, v89, v94, v96, v113, v115, v116, v117;
-    u16 v32, v68, v91;
+    u64 v5, v6, v7, v8, v9, v19, v44, v49, v53, v55, v57, v58, v59, v63, v65, v66;
+    u64 v67, v68, v71, v72, v76, v82, v83, v86, v87, v88, v90, v94, v102, v107, v109, v110;
+    u64 v111, v112;
+    u32 v10, v123, v124, v125, v132, v133;
+    address v11, v12, v13, v14, v15, v16, v17, v20, v21, v24, v27, v28, v29, v30, v33, v37;
+    address v39, v41, v42, v43, v45, v48, v51, v52, v54, v56, v60, v64, v69, v74, v75, v78;
+    address v79, v80, v84, v85, v92, v95, v96, v97, v98, v100, v101, v104, v106, v108, v113, v114;
+    address v115, v116, v117, v118, v120, v121, v122, v126, v128;
+    u8 v18, v22, v23, v25, v26, v31, v32, v35, v36, v38, v40, v46, v47, v50, v61, v62;
+    u8 v73, v77, v81, v89, v91, v99, v103, v105, v119, v127, v129, v130, v131;
+    u16 v34, v70, v93;
     u64 block0[12];
-    u64 block1[10];
-    u64 block2[11];
-    u64 block3[24];
-    u64 block4[4];
-    u64 block5[9];
-    v10 = ADDRESS(block0);
-    v11 = ADDRESS(block1);
-    v12 = ADDRESS(block2);
-    v13 = ADDRESS(block3);
-    v14 = ADDRESS(block4);
-    v15 = ADDRESS(block5);
-    v16 = a2 == 0u;
-    v17 = v16 ? 4096u : 0u;
-    v18 = a2 + v17 * 1u;
+    u64 block1[12];
+    u64 block2[3];
+    u64 block3[9];
+    u64 block4[11];
+    u64 block5[24];
+    u64 block6[4];
+    v11 = ADDRESS(block0);
+    v12 = ADDRESS(block1);
+    v13 = ADDRESS(block2);
+    v14 = ADDRESS(block3);
+    v15 = ADDRESS(block4);
+    v16 = ADDRESS(block5);
+    v17 = ADDRESS(block6);
+    v18 = a2 == 0u;
+    v19 = v18 ? 4096u : 0u;
+    v20 = a2 + v19 * 1u;
     memory_set(a4, 0u, 88u);
-    v19 = a0 + 8u * 1u;
-    v20 = load8(v19);
-    v21 = (u8)((v20) & UINT64_C(1));
-    if (v21) { goto L1; }
-    else { v9 = 32u; goto L32; }
+    v21 = a0 + 8u * 1u;
+    v22 = load8(v21);
+    v23 = (u8)((v22) & UINT64_C(1));
+    if (v23) { goto L1; }
+    else { v10 = 32u; goto L34; }
 L1:;
-    v22 = load_address(a0);
-    v23 = load8(v22);
-    v24 = v23 == 4u;
-    if (v24) { goto L2; }
-    else { v9 = 32u; goto L32; }
+    v24 = load_address(a0);
+    v25 = load8(v24);
+    v26 = v25 == 4u;
+    if (v26) { goto L2; }
+    else { v10 = 32u; goto L34; }
 L2:;
-    v25 = v22 + 8u * 1u;
-    v26 = load_address(v25);
-    memory_set(a4, 0u, 88u);
-    memory_set(v14, 0u, 32u);
-    v27 = load_address(v26);
-    v28 = v27 + 424u * 1u;
-    v29 = load8(v28);
-    v30 = v29 == 1u;
-    if (v30) { goto L3; }
+    v27 = v24 + 8u * 1u;
+    v28 = load_address(v27);
+    memory_set(v17, 0u, 32u);
+    v29 = load_address(v28);
+    v30 = v29 + 448u * 1u;
+    v31 = load8(v30);
+    v32 = v31 == 1u;
+    if (v32) { goto L3; }
     else { goto L4; }
 L3:;
-    v31 = v27 + 426u * 1u;
-    memory_cpy(v13, v31, 188u);
-    v32 = load16(v13);
-    f21(v14, v27, v32, a1, a3);
-    v33 = load8(v14);
-    v34 = v33 == 0u;
-    if (v34) { goto L5; }
-    else { goto L29; }
+    v33 = v29 + 450u * 1u;
+    memory_cpy(v16, v33, 188u);
+    v34 = load16(v16);
+    f20(v17, v29, v34, a1, a3);
+    v35 = load8(v17);
+    v36 = v35 == 0u;
+    if (v36) { goto L5; }
+    else { goto L32; }
 L4:;
-    v8 = 124u; goto L31;
+    v10 = 124u; goto L34;
 L5:;
-    v35 = v14 + 8u * 1u;
-    v36 = load8(v35);
-    v37 = v14 + 9u * 1u;
+    v37 = v17 + 8u * 1u;
     v38 = load8(v37);
-    v39 = v14 + 16u * 1u;
-    v40 = load_address(v39);
-    v41 = v14 + 24u * 1u;
-    v42 = load64(v41);
-    v43 = v26 + 843u * 1u;
-    v44 = load8(v43);
-    v45 = (u8)((v44) & UINT64_C(1));
-    if (v45) { goto L6; }
-    else { goto L30; }
+    v39 = v17 + 9u * 1u;
+    v40 = load8(v39);
+    v41 = v17 + 16u * 1u;
+    v42 = load_address(v41);
+    v43 = v17 + 24u * 1u;
+    v44 = load64(v43);
+    v45 = v28 + 843u * 1u;
+    v46 = load8(v45);
+    v47 = (u8)((v46) & UINT64_C(1));
+    if (v47) { goto L6; }
+    else { goto L33; }
 L6:;
-    v46 = v26 + 816u * 1u;
-    v47 = load64(v46);
-    v48 = v47 == 0u;
-    if (v48) { goto L7; }
-    else { goto L30; }
+    v48 = v28 + 816u * 1u;
+    v49 = load64(v48);
+    v50 = v49 == 0u;
+    if (v50) { goto L7; }
+    else { goto L33; }
 L7:;
-    v49 = load_address(v26);
-    v50 = v26 + 784u * 1u;
-    v51 = load64(v50);
-    v52 = v26 + 808u * 1u;
+    v51 = load_address(v28);
+    v52 = v28 + 784u * 1u;
     v53 = load64(v52);
-    v54 = v26 + 800u * 1u;
+    v54 = v28 + 808u * 1u;
     v55 = load64(v54);
-    v56 = (u64)((u64)v51 - (u64)v53);
-    v57 = (u64)((u64)v56 + (u64)v55);
-    v58 = v49 + 240u * 1u;
-    v59 = load8(v58);
-    v60 = v59 == 0u;
-    v61 = v60 ? 376u : 256u;
-    v62 = v49 + v61 * 1u;
-    v63 = load64(v62);
-    v64 = (u64)((u64)v63 << (1u & 63u));
-    v65 = (u64)((u64)v64 & (u64)UINT64_C(131070));
-    v66 = (u64)((u64)v65 + (u64)UINT64_C(18446744073709551615));
-    v67 = v49 + 416u * 1u;
-    v68 = load16(v67);
-    v69 = (u64)v68;
-    v70 = v69 > v66 ? v69 : v66;
-    v71 = v70 > v57;
-    if (v71) { goto L8; }
+    v56 = v28 + 800u * 1u;
+    v57 = load64(v56);
+    v58 = (u64)((u64)v53 - (u64)v55);
+    v59 = (u64)((u64)v58 + (u64)v57);
+    v60 = v51 + 240u * 1u;
+    v61 = load8(v60);
+    v62 = v61 == 0u;
+    v63 = v62 ? 376u : 256u;
+    v64 = v51 + v63 * 1u;
+    v65 = load64(v64);
+    v66 = (u64)((u64)v65 << (1u & 63u));
+    v67 = (u64)((u64)v66 & (u64)UINT64_C(131070));
+    v68 = (u64)((u64)v67 + (u64)UINT64_C(18446744073709551615));
+    v69 = v51 + 416u * 1u;
+    v70 = load16(v69);
+    v71 = (u64)v70;
+    v72 = v71 > v68 ? v71 : v68;
+    v73 = v72 > v59;
+    if (v73) { goto L8; }
     else { goto L13; }
 L8:;
-    v72 = v49 + 384u * 1u;
-    memory_set(v12, 0u, 88u);
-    f22(v12, v72);
-    v73 = v12 + 80u * 1u;
-    v74 = load64(v73);
-    v75 = v74 == 0u;
-    if (v75) { v7 = v66; goto L12; }
+    v74 = v51 + 384u * 1u;
+    memory_set(v15, 0u, 88u);
+    f21(v15, v74);
+    v75 = v15 + 80u * 1u;
+    v76 = load64(v75);
+    v77 = v76 == 0u;
+    if (v77) { v7 = v68; goto L12; }
     else { goto L9; }
 L9:;
-    v76 = v12 + 16u * 1u;
-    v77 = load_address(v12);
+    v78 = v15 + 16u * 1u;
+    v79 = load_address(v15);
     v5 = 0u; v6 = 0u; goto L10;
 L10:;
-    v78 = v76 + v6 * 1u;
-    v79 = load8(v78);
-    v80 = (u64)v79;
-    v81 = (u64)((u64)v80 * (u64)2144u);
-    v82 = v77 + v81 * 1u;
-    v83 = v82 + 1448u * 1u;
-    v84 = load64(v83);
-    v85 = v5 > v84 ? v5 : v84;
-    v86 = (u64)((u64)v6 + (u64)1u);
-    v87 = v86 == v74;
-    if (v87) { goto L11; }
-    else { v5 = v85; v6 = v86; goto L10; }
+    v80 = v78 + v6 * 1u;
+    v81 = load8(v80);
+    v82 = (u64)v81;
+    v83 = (u64)((u64)v82 * (u64)2144u);
+    v84 = v79 + v83 * 1u;
+    v85 = v84 + 1448u * 1u;
+    v86 = load64(v85);
+    v87 = v5 > v86 ? v5 : v86;
+    v88 = (u64)((u64)v6 + (u64)1u);
+    v89 = v88 == v76;
+    if (v89) { goto L11; }
+    else { v5 = v87; v6 = v88; goto L10; }
 L11:;
-    v88 = v85 > v66 ? v85 : v66;
-    v7 = v88; goto L12;
+    v90 = v87 > v68 ? v87 : v68;
+    v7 = v90; goto L12;
 L12:;
-    v89 = v7 > v57;
-    if (v89) { goto L30; }
+    v91 = v7 > v59;
+    if (v91) { goto L33; }
     else { goto L13; }
 L13:;
-    v90 = v13 + 2u * 1u;
-    v91 = load16(v90);
-    v92 = (u64)v91;
-    v93 = v13 + 4u * 1u;
-    memory_set(v10, 0u, 96u);
-    switch (v36) {
-    case 0u: goto L14;
-    case 1u: goto L15;
-    case 2u: goto L16;
-    default: goto L17;
-    }
+    v92 = v16 + 2u * 1u;
+    v93 = load16(v92);
+    v94 = (u64)v93;
+    v95 = v16 + 4u * 1u;
+    store64(v13, 0u);
+    store8(v13, v38);
+    v96 = v13 + 1u * 1u;
+    store8(v96, v40);
+    v97 = v13 + 8u * 1u;
+    store_address(v97, v42);
+    v98 = v13 + 16u * 1u;
+    store64(v98, v44);
+    v99 = f58(v51, v95, v94, v13);
+    if (v99) { goto L14; }
+    else { goto L15; }
 L14:;
-    f45(v10, v49, v32, v93, v92, v18, a3);
-    goto L18;
+    memory_set(v11, 0u, 96u);
+    f44(v11, v51, v34, v95, v94, v20, a3);
+    v100 = v11 + 24u * 1u;
+    v101 = v11 + 8u * 1u;
+    v102 = load64(v101);
+    memory_cpy(v14, v100, 68u);
+    v8 = 5u; v9 = v102; goto L21;
 L15:;
-    f59(v10, v49, v32, v93, v92, v38, v18, a3);
-    goto L18;
-L16:;
-    f64(v10, v49, v32, v93, v92, v40, v42, v18, a3);
-    goto L18;
-L17:;
-    UNREACHABLE;
-L18:;
-    v94 = load8(v10);
-    v95 = v10 + 1u * 1u;
-    v96 = load8(v95);
-    v97 = v10 + 8u * 1u;
-    v98 = load64(v97);
-    v99 = v10 + 16u * 1u;
-    memory_cpy(v11, v99, 76u);
-    v100 = v26 + 776u * 1u;
-    f70(v100, v18, v98);
-    v101 = load_address(v26);
-    v102 = v101 + 424u * 1u;
-    v103 = v26 + 841u * 1u;
-    memory_set(v102, 0u, 190u);
-    store8(v103, 1u);
-    v104 = v26 + 842u * 1u;
-    store8(v104, 1u);
-    v105 = v26 + 844u * 1u;
-    store8(v105, 0u);
-    v106 = v11 + 8u * 1u;
-    memory_cpy(v15, v106, 68u);
-    store64(a4, 0u);
-    v107 = a4 + 8u * 1u;
-    store64(v107, v98);
-    v108 = a4 + 16u * 1u;
-    memory_cpy(v108, v15, 68u);
-    v109 = a4 + 84u * 1u;
-    store32(v109, 0u);
-    switch (v94) {
-    case 0u: goto L19;
-    case 9u: goto L27;
-    case 1u: v8 = 1u; goto L31;
-    case 2u: goto L20;
-    case 3u: goto L21;
-    case 4u: goto L22;
-    case 5u: goto L23;
-    case 6u: goto L24;
-    case 7u: goto L25;
-    case 8u: goto L26;
-    default: goto L28;
+    memory_set(v12, 0u, 96u);
+    switch (v38) {
+    case 0u: goto L16;
+    case 1u: goto L17;
+    case 2u: goto L18;
+    default: goto L19;
     }
+L16:;
+    f44(v12, v51, v34, v95, v94, v20, a3);
+    goto L20;
+L17:;
+    f64(v12, v51, v34, v95, v94, v40, v20, a3);
+    goto L20;
+L18:;
+    f69(v12, v51, v34, v95, v94, v42, v44, v20, a3);
+    goto L20;
 L19:;
-    v110 = (u32)v96;
-    v111 = (u32)((u32)v110 + (u32)16u);
-    v8 = v111; goto L31;
-L20:;
-    v8 = 2u; goto L31;
-L21:;
-    v8 = 3u; goto L31;
-L22:;
-    v8 = 4u; goto L31;
-L23:;
-    v8 = 5u; goto L31;
-L24:;
-    v8 = 6u; goto L31;
-L25:;
-    v8 = 7u; goto L31;
-L26:;
-    v8 = 8u; goto L31;
-L27:;
-    v8 = 9u; goto L31;
-L28:;
     UNREACHABLE;
+L20:;
+    v103 = load8(v12);
+    v104 = v12 + 1u * 1u;
+    v105 = load8(v104);
+    v106 = v12 + 8u * 1u;
+    v107 = load64(v106);
+    v108 = v12 + 24u * 1u;
+    memory_cpy(v14, v108, 68u);
+    v109 = (u64)v103;
+    v110 = (u64)v105;
+    v111 = (u64)((u64)v110 << (8u & 63u));
+    v112 = (u64)((u64)v111 | (u64)v109);
+    v8 = v112; v9 = v107; goto L21;
+L21:;
+    v113 = v28 + 776u * 1u;
+    f73(v113, v20, v9);
+    v114 = load_address(v28);
+    v115 = v114 + 448u * 1u;
+    v116 = v28 + 841u * 1u;
+    memory_set(v115, 0u, 190u);
+    store8(v116, 1u);
+    v117 = v28 + 842u * 1u;
+    store8(v117, 1u);
+    v118 = v28 + 844u * 1u;
+    store8(v118, 0u);
+    v119 = (u8)(v8);
+    store64(a4, 0u);
+    v120 = a4 + 8u * 1u;
+    store64(v120, v9);
+    v121 = a4 + 16u * 1u;
+    memory_cpy(v121, v14, 68u);
+    v122 = a4 + 84u * 1u;
+    store32(v122, 0u);
+    switch (v119) {
+    case 0u: goto L22;
+    case 9u: goto L30;
+    case 1u: v10 = 1u; goto L34;
+    case 2u: goto L23;
+    case 3u: goto L24;
+    case 4u: goto L25;
+    case 5u: goto L26;
+    case 6u: goto L27;
+    case 7u: goto L28;
+    case 8u: goto L29;
+    default: goto L31;
+    }
+L22:;
+    v123 = (u32)(v8);
+    v124 = (u32)((u32)v123 >> (8u & 31u));
+    v125 = (u32)((u32)v124 + (u32)16u);
+    v10 = v125; goto L34;
+L23:;
+    v10 = 2u; goto L34;
+L24:;
+    v10 = 3u; goto L34;
+L25:;
+    v10 = 4u; goto L34;
+L26:;
+    v10 = 5u; goto L34;
+L27:;
+    v10 = 6u; goto L34;
+L28:;
+    v10 = 7u; goto L34;
 L29:;
-    v112 = v14 + 1u * 1u;
-    v113 = load8(v112);
-    v114 = v14 + 2u * 1u;
-    v115 = load8(v114);
-    v116 = v113 == 0u;
-    v117 = v115 == 0u;
-    v118 = v117 ? 33u : 34u;
-    v119 = v116 ? v118 : 121u;
-    v8 = v119; goto L31;
+    v10 = 8u; goto L34;
 L30:;
-    v8 = 118u; goto L31;
+    v10 = 9u; goto L34;
 L31:;
-    v9 = v8; goto L32;
+    UNREACHABLE;
 L32:;
-    return v9;
+    v126 = v17 + 1u * 1u;
+    v127 = load8(v126);
+    v128 = v17 + 2u * 1u;
+    v129 = load8(v128);
+    v130 = v127 == 0u;
+    v131 = v129 == 0u;
+    v132 = v131 ? 33u : 34u;
+    v133 = v130 ? v132 : 121u;
+    v10 = v133; goto L34;
+L33:;
+    v10 = 118u; goto L34;
+L34:;
+    return v10;
 }
 
 void portable_ptpm_clock_defaults(address a0) {
@@ -41514,433 +43248,513 @@ L5:;
 }
 
 u32 portable_ptpm_clock_handle(address a0, u16 a1, address a2, u64 a3, address a4, u64 a5, address a6) {
-    u64 v7, v8, v9, v11, v13, v25, v28, v43, v45, v48, v49, v50, v54, v55, v58, v64;
-    u64 v65, v68, v69, v70, v72, v93, v103, v111, v117, v139, v140, v146, v148, v150, v173, v178;
-    u64 v183, v204, v205, v206, v207, v209, v211, v212, v213, v214, v215;
-    u16 v10, v46, v53, v98, v99, v100, v101, v108, v109, v110, v121, v124, v125, v126, v132, v133;
-    u16 v134, v135, v151, v152, v153, v154, v155, v180, v190, v191;
-    address v12, v14, v15, v17, v18, v19, v20, v21, v22, v23, v26, v29, v30, v31, v34, v37;
-    address v38, v40, v44, v51, v52, v57, v60, v61, v62, v66, v67, v74, v75, v78, v79, v82;
-    address v86, v88, v92, v94, v96, v102, v104, v106, v114, v116, v119, v122, v127, v128, v130, v136;
-    address v141, v143, v145, v147, v149, v156, v157, v158, v159, v160, v161, v164, v168, v170, v172, v175;
-    address v176, v177, v179, v182, v186, v193, v194, v195, v196, v199, v200, v201, v202, v203, v210;
-    u32 v16, v166, v167;
-    u8 v24, v27, v32, v33, v35, v36, v39, v41, v42, v47, v56, v59, v63, v71, v73, v76;
-    u8 v77, v80, v81, v83, v84, v85, v87, v89, v90, v91, v95, v97, v105, v107, v112, v113;
-    u8 v115, v118, v120, v123, v129, v131, v137, v138, v142, v144, v163, v165, v169, v171, v174, v181;
-    u8 v184, v185, v187, v188, v189, v192, v197, v198, v208;
-    struct s1 v162;
+    u64 v7, v8, v9, v16, v18, v30, v33, v48, v50, v53, v54, v55, v59, v60, v63, v69;
+    u64 v70, v73, v74, v75, v77, v97, v116, v117, v120, v121, v122, v124, v140, v141, v142, v143;
+    u64 v160, v170, v178, v182, v202, v203, v209, v211, v232, v237, v242, v263, v264, v266, v268, v269;
+    u64 v270, v271, v272;
+    u8 v10, v11, v12, v13, v14, v29, v32, v37, v38, v40, v41, v44, v46, v47, v52, v61;
+    u8 v64, v68, v76, v78, v81, v82, v83, v84, v86, v87, v88, v90, v92, v98, v100, v101;
+    u8 v103, v105, v110, v112, v113, v115, v119, v123, v125, v126, v127, v128, v129, v131, v132, v134;
+    u8 v136, v138, v139, v148, v150, v151, v152, v154, v156, v157, v158, v162, v164, v172, v174, v179;
+    u8 v180, v183, v185, v188, v194, v196, v201, v205, v207, v224, v228, v230, v233, v240, v243, v244;
+    u8 v246, v247, v248, v251, v256, v257, v265;
+    u16 v15, v51, v58, v93, v94, v95, v96, v99, v106, v107, v108, v109, v165, v166, v167, v168;
+    u16 v175, v176, v177, v186, v189, v190, v191, v197, v198, v199, v200, v212, v213, v214, v215, v216;
+    u16 v239, v249, v250;
+    address v17, v19, v20, v22, v23, v24, v25, v26, v27, v28, v31, v34, v35, v36, v39, v42;
+    address v43, v45, v49, v56, v57, v62, v65, v66, v67, v71, v72, v79, v80, v85, v89, v91;
+    address v102, v104, v111, v114, v118, v130, v133, v135, v137, v144, v145, v146, v147, v149, v153, v155;
+    address v159, v161, v163, v169, v171, v173, v181, v184, v187, v192, v193, v195, v204, v206, v208, v210;
+    address v217, v218, v219, v220, v221, v222, v227, v229, v231, v234, v235, v236, v238, v241, v245, v252;
+    address v253, v254, v255, v258, v259, v260, v261, v262, v267;
+    u32 v21, v225, v226;
+    struct s1 v223;
     u64 block0[11];
     u64 block1[1];
     u64 block2[2];
     u64 block3[3];
-    u64 block4[3];
-    u64 block5[4];
+    u64 block4[1];
+    u64 block5[3];
     u64 block6[3];
-    v17 = ADDRESS(block0);
-    v18 = ADDRESS(block1);
-    v19 = ADDRESS(block2);
-    v20 = ADDRESS(block3);
-    v21 = ADDRESS(block4);
-    v22 = ADDRESS(block5);
-    v23 = ADDRESS(block6);
-    v24 = a2 == 0u;
-    v25 = v24 ? 4096u : 0u;
-    v26 = a2 + v25 * 1u;
-    v27 = a4 == 0u;
-    v28 = v27 ? 4096u : 0u;
-    v29 = a4 + v28 * 1u;
+    v22 = ADDRESS(block0);
+    v23 = ADDRESS(block1);
+    v24 = ADDRESS(block2);
+    v25 = ADDRESS(block3);
+    v26 = ADDRESS(block4);
+    v27 = ADDRESS(block5);
+    v28 = ADDRESS(block6);
+    v29 = a2 == 0u;
+    v30 = v29 ? 4096u : 0u;
+    v31 = a2 + v30 * 1u;
+    v32 = a4 == 0u;
+    v33 = v32 ? 4096u : 0u;
+    v34 = a4 + v33 * 1u;
     store64(a6, 0u);
-    v30 = a0 + 9u * 1u;
-    store8(v30, 0u);
-    v31 = a0 + 8u * 1u;
-    v32 = load8(v31);
-    v33 = (u8)((v32) & UINT64_C(1));
-    if (v33) { goto L1; }
-    else { v16 = 32u; goto L44; }
+    v35 = a0 + 9u * 1u;
+    store8(v35, 0u);
+    v36 = a0 + 8u * 1u;
+    v37 = load8(v36);
+    v38 = (u8)((v37) & UINT64_C(1));
+    if (v38) { goto L1; }
+    else { v21 = 32u; goto L51; }
 L1:;
-    v34 = load_address(a0);
-    v35 = load8(v34);
-    v36 = v35 == 1u;
-    if (v36) { goto L2; }
-    else { v16 = 32u; goto L44; }
+    v39 = load_address(a0);
+    v40 = load8(v39);
+    v41 = v40 == 1u;
+    if (v41) { goto L2; }
+    else { v21 = 32u; goto L51; }
 L2:;
-    v37 = v34 + 8u * 1u;
-    v38 = load_address(v37);
+    v42 = v39 + 8u * 1u;
+    v43 = load_address(v42);
     store64(a6, 0u);
-    v39 = a1 == 0u;
-    if (v39) { goto L43; }
+    v44 = a1 == 0u;
+    if (v44) { goto L50; }
     else { goto L3; }
 L3:;
-    v40 = v38 + 240u * 1u;
-    v41 = load8(v40);
-    v42 = v41 == 0u;
-    v43 = v42 ? 376u : 256u;
-    v44 = v38 + v43 * 1u;
-    v45 = load64(v44);
-    v46 = (u16)(v45);
-    v47 = a1 > v46;
-    if (v47) { goto L43; }
+    v45 = v43 + 240u * 1u;
+    v46 = load8(v45);
+    v47 = v46 == 0u;
+    v48 = v47 ? 376u : 256u;
+    v49 = v43 + v48 * 1u;
+    v50 = load64(v49);
+    v51 = (u16)(v50);
+    v52 = a1 > v51;
+    if (v52) { goto L50; }
     else { goto L4; }
 L4:;
-    v48 = (u64)((u64)v45 << (1u & 63u));
-    v49 = (u64)((u64)v48 & (u64)UINT64_C(131070));
-    v50 = (u64)((u64)v49 + (u64)UINT64_C(18446744073709551615));
-    v51 = v38 + 384u * 1u;
-    v52 = v38 + 416u * 1u;
-    v53 = load16(v52);
-    v54 = (u64)v53;
-    v55 = v54 > v50 ? v54 : v50;
-    v56 = v55 > a5;
-    if (v56) { goto L5; }
+    v53 = (u64)((u64)v50 << (1u & 63u));
+    v54 = (u64)((u64)v53 & (u64)UINT64_C(131070));
+    v55 = (u64)((u64)v54 + (u64)UINT64_C(18446744073709551615));
+    v56 = v43 + 384u * 1u;
+    v57 = v43 + 416u * 1u;
+    v58 = load16(v57);
+    v59 = (u64)v58;
+    v60 = v59 > v55 ? v59 : v55;
+    v61 = v60 > a5;
+    if (v61) { goto L5; }
     else { goto L10; }
 L5:;
-    memory_set(v17, 0u, 88u);
-    f22(v17, v51);
-    v57 = v17 + 80u * 1u;
-    v58 = load64(v57);
-    v59 = v58 == 0u;
-    if (v59) { v9 = v50; goto L9; }
+    memory_set(v22, 0u, 88u);
+    f21(v22, v56);
+    v62 = v22 + 80u * 1u;
+    v63 = load64(v62);
+    v64 = v63 == 0u;
+    if (v64) { v9 = v55; goto L9; }
     else { goto L6; }
 L6:;
-    v60 = v17 + 16u * 1u;
-    v61 = load_address(v17);
+    v65 = v22 + 16u * 1u;
+    v66 = load_address(v22);
     v7 = 0u; v8 = 0u; goto L7;
 L7:;
-    v62 = v60 + v8 * 1u;
-    v63 = load8(v62);
-    v64 = (u64)v63;
-    v65 = (u64)((u64)v64 * (u64)2144u);
-    v66 = v61 + v65 * 1u;
-    v67 = v66 + 1448u * 1u;
-    v68 = load64(v67);
-    v69 = v7 > v68 ? v7 : v68;
-    v70 = (u64)((u64)v8 + (u64)1u);
-    v71 = v70 == v58;
-    if (v71) { goto L8; }
-    else { v7 = v69; v8 = v70; goto L7; }
+    v67 = v65 + v8 * 1u;
+    v68 = load8(v67);
+    v69 = (u64)v68;
+    v70 = (u64)((u64)v69 * (u64)2144u);
+    v71 = v66 + v70 * 1u;
+    v72 = v71 + 1448u * 1u;
+    v73 = load64(v72);
+    v74 = v7 > v73 ? v7 : v73;
+    v75 = (u64)((u64)v8 + (u64)1u);
+    v76 = v75 == v63;
+    if (v76) { goto L8; }
+    else { v7 = v74; v8 = v75; goto L7; }
 L8:;
-    v72 = v69 > v50 ? v69 : v50;
-    v9 = v72; goto L9;
+    v77 = v74 > v55 ? v74 : v55;
+    v9 = v77; goto L9;
 L9:;
-    v73 = v9 > a5;
-    if (v73) { goto L42; }
+    v78 = v9 > a5;
+    if (v78) { goto L49; }
     else { goto L10; }
 L10:;
-    store_address(v23, v29);
-    v74 = v23 + 8u * 1u;
-    store64(v74, a5);
-    v75 = v23 + 16u * 1u;
-    store64(v75, 0u);
-    memory_set(v22, 0u, 32u);
-    f8(v22, v26, a3);
-    v76 = load8(v22);
-    v77 = v76 == 0u;
-    if (v77) { goto L11; }
-    else { goto L23; }
+    store_address(v28, v34);
+    v79 = v28 + 8u * 1u;
+    store64(v79, a5);
+    v80 = v28 + 16u * 1u;
+    store64(v80, 0u);
+    memory_set(v26, 0u, 3u);
+    v81 = a3 < 54u;
+    if (v81) { goto L16; }
+    else { goto L11; }
 L11:;
-    v78 = v22 + 8u * 1u;
-    memory_cpy(v21, v78, 24u);
-    v79 = load_address(v21);
-    v80 = load8(v79);
-    v81 = (u8)((u32)v80 >> (4u & 7u));
-    v82 = v79 + 5u * 1u;
-    v83 = load8(v82);
-    v84 = (u8)((u32)v81 | (u32)v83);
-    v85 = v84 == 0u;
-    if (v85) { goto L12; }
-    else { goto L33; }
+    v82 = load8(v31);
+    v83 = (u8)((u32)v82 & (u32)15u);
+    v84 = v83 == 13u;
+    if (v84) { goto L12; }
+    else { goto L16; }
 L12:;
-    v86 = v79 + 4u * 1u;
-    v87 = load8(v86);
-    v88 = v38 + 8u * 1u;
-    v89 = load8(v88);
-    v90 = v87 == v89;
-    if (v90) { goto L15; }
-    else { goto L13; }
+    v85 = v31 + 1u * 1u;
+    v86 = load8(v85);
+    v87 = (u8)((u32)v86 & (u32)15u);
+    v88 = v87 == 2u;
+    if (v88) { goto L13; }
+    else { goto L16; }
 L13:;
-    v91 = f46(v38, v21);
-    if (v91) { goto L14; }
-    else { goto L33; }
+    v89 = v31 + 2u * 1u;
+    v90 = load8(v89);
+    v91 = v31 + 3u * 1u;
+    v92 = load8(v91);
+    v93 = (u16)v90;
+    v94 = (u16)((u32)v93 << (8u & 15u));
+    v95 = (u16)v92;
+    v96 = (u16)((u32)v94 | (u32)v95);
+    v97 = (u64)v96;
+    v98 = a3 < v97;
+    v99 = (u16)((u32)v96 + (u32)64063u);
+    v100 = v99 < 64117u;
+    v101 = (u8)(((u32)v100 | (u32)v98) & UINT64_C(1));
+    if (v101) { goto L16; }
+    else { goto L14; }
 L14:;
-    v92 = v79 + 20u * 1u;
-    v93 = load64(v92);
-    v94 = v79 + 28u * 1u;
-    v95 = load8(v94);
-    v96 = v79 + 29u * 1u;
-    v97 = load8(v96);
-    v98 = (u16)v95;
-    v99 = (u16)((u32)v98 << (8u & 15u));
-    v100 = (u16)v97;
-    v101 = (u16)((u32)v99 | (u32)v100);
-    v10 = v101; v11 = v93; goto L24;
-L15:;
-    v102 = v79 + 20u * 1u;
-    v103 = load64(v102);
-    v104 = v79 + 28u * 1u;
+    v102 = v31 + 48u * 1u;
+    v103 = load8(v102);
+    v104 = v31 + 49u * 1u;
     v105 = load8(v104);
-    v106 = v79 + 29u * 1u;
-    v107 = load8(v106);
+    v106 = (u16)v103;
+    v107 = (u16)((u32)v106 << (8u & 15u));
     v108 = (u16)v105;
-    v109 = (u16)((u32)v108 << (8u & 15u));
-    v110 = (u16)v107;
-    v111 = load64(v51);
-    v112 = v103 == v111;
-    if (v112) { goto L34; }
+    v109 = (u16)((u32)v107 | (u32)v108);
+    v110 = v109 == 1u;
+    if (v110) { goto L15; }
+    else { goto L16; }
+L15:;
+    v111 = v31 + 46u * 1u;
+    v112 = load8(v111);
+    v113 = (u8)((u32)v112 & (u32)15u);
+    v114 = v31 + 50u * 1u;
+    v115 = load8(v114);
+    v116 = (u64)v115;
+    v117 = (u64)((u64)v116 << (8u & 63u));
+    v118 = v31 + 51u * 1u;
+    v119 = load8(v118);
+    v120 = (u64)v119;
+    v121 = (u64)((u64)v117 | (u64)v120);
+    v122 = (u64)((u64)v121 + (u64)52u);
+    v123 = v122 == v97;
+    v124 = (u64)((u64)v97 & (u64)1u);
+    v125 = v124 == 0u;
+    v126 = (u8)(((u32)v125 & (u32)v123) & UINT64_C(1));
+    v127 = v113 < 5u;
+    v128 = v126 ? v127 : 0u;
+    if (v128) { v10 = v82; v11 = v92; v12 = v90; v13 = v113; v14 = 0u; goto L18; }
     else { goto L16; }
 L16:;
-    v113 = f47(v38, v21);
-    if (v113) { goto L17; }
-    else { goto L35; }
+    f8(v26, v31, a3);
+    v129 = load8(v26);
+    v130 = v26 + 1u * 1u;
+    v131 = load8(v130);
+    v132 = v129 == 0u;
+    if (v132) { goto L17; }
+    else { goto L30; }
 L17:;
-    v114 = v21 + 16u * 1u;
-    v115 = load8(v114);
-    switch (v115) {
-    case 2u: goto L36;
-    case 4u: goto L36;
-    case 0u: goto L19;
-    case 1u: goto L19;
-    case 3u: goto L19;
-    default: goto L18;
-    }
+    v133 = v26 + 2u * 1u;
+    v134 = load8(v133);
+    v135 = v31 + 2u * 1u;
+    v136 = load8(v135);
+    v137 = v31 + 3u * 1u;
+    v138 = load8(v137);
+    v139 = load8(v31);
+    v10 = v139; v11 = v138; v12 = v136; v13 = v131; v14 = v134; goto L18;
 L18:;
-    UNREACHABLE;
+    v140 = (u64)v12;
+    v141 = (u64)((u64)v140 << (8u & 63u));
+    v142 = (u64)v11;
+    v143 = (u64)((u64)v141 | (u64)v142);
+    store_address(v27, v31);
+    v144 = v27 + 8u * 1u;
+    store64(v144, v143);
+    v145 = v27 + 16u * 1u;
+    store8(v145, v13);
+    v146 = v27 + 17u * 1u;
+    store8(v146, v14);
+    v147 = v27 + 18u * 1u;
+    memory_set(v147, 0u, 6u);
+    v148 = (u8)((u32)v10 >> (4u & 7u));
+    v149 = v31 + 5u * 1u;
+    v150 = load8(v149);
+    v151 = (u8)((u32)v150 | (u32)v148);
+    v152 = v151 == 0u;
+    if (v152) { goto L19; }
+    else { goto L40; }
 L19:;
-    v116 = v79 + 34u * 1u;
-    v117 = load64(v116);
-    v118 = v117 == v111;
-    if (v118) { goto L21; }
+    v153 = v31 + 4u * 1u;
+    v154 = load8(v153);
+    v155 = v43 + 8u * 1u;
+    v156 = load8(v155);
+    v157 = v154 == v156;
+    if (v157) { goto L22; }
     else { goto L20; }
 L20:;
-    goto L41;
+    v158 = f45(v43, v27);
+    if (v158) { goto L21; }
+    else { goto L40; }
 L21:;
-    v119 = v79 + 43u * 1u;
-    v120 = load8(v119);
-    v121 = (u16)v120;
-    v122 = v79 + 42u * 1u;
-    v123 = load8(v122);
-    v124 = (u16)v123;
-    v125 = (u16)((u32)v124 << (8u & 15u));
-    v126 = (u16)((u32)v109 | (u32)v110);
-    store64(v19, v103);
-    v127 = v19 + 8u * 1u;
-    store16(v127, v126);
-    v128 = v79 + 30u * 1u;
-    v129 = load8(v128);
-    v130 = v79 + 31u * 1u;
-    v131 = load8(v130);
-    v132 = (u16)v129;
-    v133 = (u16)((u32)v132 << (8u & 15u));
-    v134 = (u16)v131;
-    v135 = (u16)((u32)v133 | (u32)v134);
-    v136 = v21 + 17u * 1u;
-    v137 = load8(v136);
-    v138 = v137 == 0u;
-    v139 = v138 ? 52u : 54u;
-    v140 = v138 ? 53u : 55u;
-    v141 = v79 + v139 * 1u;
-    v142 = load8(v141);
-    v143 = v79 + v140 * 1u;
-    v144 = load8(v143);
-    v145 = v21 + 8u * 1u;
-    v146 = load64(v145);
-    v147 = v79 + 54u * 1u;
-    v148 = (u64)((u64)v146 + (u64)UINT64_C(18446744073709551562));
-    v149 = v138 ? v147 : ADDRESS(c148);
-    v150 = v138 ? v148 : 0u;
-    v151 = (u16)((u32)v125 | (u32)v121);
-    v152 = (u16)v142;
-    v153 = (u16)((u32)v152 << (8u & 15u));
-    v154 = (u16)v144;
-    v155 = (u16)((u32)v153 | (u32)v154);
-    store8(v20, v115);
-    v156 = v20 + 1u * 1u;
-    store8(v156, 0u);
-    v157 = v20 + 2u * 1u;
-    store16(v157, v155);
-    v158 = v20 + 4u * 1u;
-    store16(v158, v151);
-    v159 = v20 + 6u * 1u;
-    store16(v159, 0u);
-    v160 = v20 + 8u * 1u;
-    store_address(v160, v149);
-    v161 = v20 + 16u * 1u;
-    store64(v161, v150);
-    v162 = f48(v51, v19, v135, v20);
-    v163 = v162.m0;
-    switch (v163) {
-    case 0u: goto L41;
-    case 1u: goto L37;
-    case 2u: v10 = v126; v11 = v103; goto L24;
-    case 3u: goto L40;
-    case 4u: goto L39;
-    default: goto L22;
-    }
+    v159 = v31 + 20u * 1u;
+    v160 = load64(v159);
+    v161 = v31 + 28u * 1u;
+    v162 = load8(v161);
+    v163 = v31 + 29u * 1u;
+    v164 = load8(v163);
+    v165 = (u16)v162;
+    v166 = (u16)((u32)v165 << (8u & 15u));
+    v167 = (u16)v164;
+    v168 = (u16)((u32)v166 | (u32)v167);
+    v15 = v168; v16 = v160; goto L31;
 L22:;
-    UNREACHABLE;
+    v169 = v31 + 20u * 1u;
+    v170 = load64(v169);
+    v171 = v31 + 28u * 1u;
+    v172 = load8(v171);
+    v173 = v31 + 29u * 1u;
+    v174 = load8(v173);
+    v175 = (u16)v172;
+    v176 = (u16)((u32)v175 << (8u & 15u));
+    v177 = (u16)v174;
+    v178 = load64(v56);
+    v179 = v170 == v178;
+    if (v179) { goto L41; }
+    else { goto L23; }
 L23:;
-    v164 = v22 + 1u * 1u;
-    v165 = load8(v164);
-    store64(a6, 0u);
-    v166 = (u32)v165;
-    v167 = (u32)((u32)v166 + (u32)16u);
-    v16 = v167; goto L44;
+    v180 = f46(v43, v27);
+    if (v180) { goto L24; }
+    else { goto L42; }
 L24:;
-    v168 = v79 + 44u * 1u;
-    v169 = load8(v168);
-    v170 = v79 + 45u * 1u;
-    v171 = load8(v170);
-    v172 = v38 + 400u * 1u;
-    v173 = load64(v172);
-    v174 = v173 == 0u;
-    if (v174) { goto L29; }
-    else { goto L25; }
+    switch (v13) {
+    case 2u: goto L43;
+    case 4u: goto L43;
+    case 0u: goto L26;
+    case 1u: goto L26;
+    case 3u: goto L26;
+    default: goto L25;
+    }
 L25:;
-    v175 = v38 + 392u * 1u;
-    v176 = load_address(v175);
-    v12 = v176; v13 = v173; goto L26;
+    UNREACHABLE;
 L26:;
-    v177 = v12 + 2144u * 1u;
-    v178 = (u64)((u64)v13 + (u64)UINT64_C(18446744073709551615));
-    v179 = v12 + 2120u * 1u;
-    v180 = load16(v179);
-    v181 = v10 == v180;
-    if (v181) { goto L27; }
-    else { goto L28; }
+    v181 = v31 + 34u * 1u;
+    v182 = load64(v181);
+    v183 = v182 == v178;
+    if (v183) { goto L28; }
+    else { goto L27; }
 L27:;
-    v182 = v12 + 2112u * 1u;
-    v183 = load64(v182);
-    v184 = v11 == v183;
-    if (v184) { goto L30; }
-    else { goto L28; }
+    goto L48;
 L28:;
-    v185 = v178 == 0u;
-    if (v185) { goto L29; }
-    else { v12 = v177; v13 = v178; goto L26; }
+    v184 = v31 + 43u * 1u;
+    v185 = load8(v184);
+    v186 = (u16)v185;
+    v187 = v31 + 42u * 1u;
+    v188 = load8(v187);
+    v189 = (u16)v188;
+    v190 = (u16)((u32)v189 << (8u & 15u));
+    v191 = (u16)((u32)v176 | (u32)v177);
+    store64(v24, v170);
+    v192 = v24 + 8u * 1u;
+    store16(v192, v191);
+    v193 = v31 + 30u * 1u;
+    v194 = load8(v193);
+    v195 = v31 + 31u * 1u;
+    v196 = load8(v195);
+    v197 = (u16)v194;
+    v198 = (u16)((u32)v197 << (8u & 15u));
+    v199 = (u16)v196;
+    v200 = (u16)((u32)v198 | (u32)v199);
+    v201 = v14 == 0u;
+    v202 = v201 ? 52u : 54u;
+    v203 = v201 ? 53u : 55u;
+    v204 = v31 + v202 * 1u;
+    v205 = load8(v204);
+    v206 = v31 + v203 * 1u;
+    v207 = load8(v206);
+    v208 = v31 + 54u * 1u;
+    v209 = (u64)((u64)v143 + (u64)UINT64_C(18446744073709551562));
+    v210 = v201 ? v208 : ADDRESS(c155);
+    v211 = v201 ? v209 : 0u;
+    v212 = (u16)((u32)v190 | (u32)v186);
+    v213 = (u16)v205;
+    v214 = (u16)((u32)v213 << (8u & 15u));
+    v215 = (u16)v207;
+    v216 = (u16)((u32)v214 | (u32)v215);
+    store8(v25, v13);
+    v217 = v25 + 1u * 1u;
+    store8(v217, 0u);
+    v218 = v25 + 2u * 1u;
+    store16(v218, v216);
+    v219 = v25 + 4u * 1u;
+    store16(v219, v212);
+    v220 = v25 + 6u * 1u;
+    store16(v220, 0u);
+    v221 = v25 + 8u * 1u;
+    store_address(v221, v210);
+    v222 = v25 + 16u * 1u;
+    store64(v222, v211);
+    v223 = f47(v56, v24, v200, v25);
+    v224 = v223.m0;
+    switch (v224) {
+    case 0u: goto L48;
+    case 1u: goto L44;
+    case 2u: v15 = v191; v16 = v170; goto L31;
+    case 3u: goto L47;
+    case 4u: goto L46;
+    default: goto L29;
+    }
 L29:;
-    TRAP;
     UNREACHABLE;
 L30:;
-    store64(v18, 0u);
-    v186 = v12 + 2129u * 1u;
-    v187 = load8(v186);
-    v188 = (u8)((v187) & UINT64_C(1));
-    v189 = (u8)(((u32)v188 ^ (u32)1u) & UINT64_C(1));
-    v190 = v188 ? 0u : a1;
-    v191 = (u16)v189;
-    v192 = v169 > v171 ? (u8)((u32)v169 - (u32)v171) : 0u;
-    store8(v18, v87);
-    v193 = v18 + 2u * 1u;
-    store16(v193, v191);
-    v194 = v18 + 4u * 1u;
-    store16(v194, v190);
-    v195 = v18 + 6u * 1u;
-    store8(v195, v192);
-    v196 = v12 + 1432u * 1u;
-    v197 = load8(v196);
-    v198 = v197 == 0u;
-    v199 = v12 + 1440u * 1u;
-    if (v198) { goto L31; }
-    else { goto L32; }
+    store64(a6, 0u);
+    v225 = (u32)v131;
+    v226 = (u32)((u32)v225 + (u32)16u);
+    v21 = v226; goto L51;
 L31:;
-    v200 = v12 + 1456u * 1u;
-    v14 = v199; v15 = v200; goto L38;
+    v227 = v31 + 44u * 1u;
+    v228 = load8(v227);
+    v229 = v31 + 45u * 1u;
+    v230 = load8(v229);
+    v231 = v43 + 400u * 1u;
+    v232 = load64(v231);
+    v233 = v232 == 0u;
+    if (v233) { goto L36; }
+    else { goto L32; }
 L32:;
-    v201 = load_address(v199);
-    v202 = v12 + 1464u * 1u;
-    v203 = load_address(v202);
-    v14 = v201; v15 = v203; goto L38;
+    v234 = v43 + 392u * 1u;
+    v235 = load_address(v234);
+    v17 = v235; v18 = v232; goto L33;
 L33:;
-    f56(v38, 1u, a1, v26, v78, v23);
-    v204 = load64(v75);
-    store64(a6, v204);
-    v16 = 1u; goto L44;
+    v236 = v17 + 2144u * 1u;
+    v237 = (u64)((u64)v18 + (u64)UINT64_C(18446744073709551615));
+    v238 = v17 + 2120u * 1u;
+    v239 = load16(v238);
+    v240 = v15 == v239;
+    if (v240) { goto L34; }
+    else { goto L35; }
 L34:;
-    f56(v38, 2u, a1, v26, v78, v23);
-    v205 = load64(v75);
-    store64(a6, v205);
-    v16 = 2u; goto L44;
+    v241 = v17 + 2112u * 1u;
+    v242 = load64(v241);
+    v243 = v16 == v242;
+    if (v243) { goto L37; }
+    else { goto L35; }
 L35:;
-    f56(v38, 3u, a1, v26, v78, v23);
-    v206 = load64(v75);
-    store64(a6, v206);
-    v16 = 3u; goto L44;
+    v244 = v237 == 0u;
+    if (v244) { goto L36; }
+    else { v17 = v236; v18 = v237; goto L33; }
 L36:;
-    f56(v38, 4u, a1, v26, v78, v23);
-    v207 = load64(v75);
-    store64(a6, v207);
-    v16 = 4u; goto L44;
+    TRAP;
+    UNREACHABLE;
 L37:;
-    v208 = v162.m1;
-    f50(v38, a1, v78, v208, v23);
-    v209 = load64(v75);
-    store64(a6, v209);
-    v16 = 5u; goto L44;
+    store64(v23, 0u);
+    v245 = v17 + 2129u * 1u;
+    v246 = load8(v245);
+    v247 = (u8)((v246) & UINT64_C(1));
+    v248 = (u8)(((u32)v247 ^ (u32)1u) & UINT64_C(1));
+    v249 = v247 ? 0u : a1;
+    v250 = (u16)v248;
+    v251 = v228 > v230 ? (u8)((u32)v228 - (u32)v230) : 0u;
+    store8(v23, v154);
+    v252 = v23 + 2u * 1u;
+    store16(v252, v250);
+    v253 = v23 + 4u * 1u;
+    store16(v253, v249);
+    v254 = v23 + 6u * 1u;
+    store8(v254, v251);
+    v255 = v17 + 1432u * 1u;
+    v256 = load8(v255);
+    v257 = v256 == 0u;
+    v258 = v17 + 1440u * 1u;
+    if (v257) { goto L38; }
+    else { goto L39; }
 L38:;
-    v210 = v12 + 1448u * 1u;
-    v211 = load64(v210);
-    f55(v14, v211, v15, v18, a1, v23);
-    v212 = load64(v75);
-    store64(a6, v212);
-    v16 = 6u; goto L44;
+    v259 = v17 + 1456u * 1u;
+    v19 = v258; v20 = v259; goto L45;
 L39:;
-    f56(v38, 7u, a1, v26, v78, v23);
-    v213 = load64(v75);
-    store64(a6, v213);
-    v16 = 7u; goto L44;
+    v260 = load_address(v258);
+    v261 = v17 + 1464u * 1u;
+    v262 = load_address(v261);
+    v19 = v260; v20 = v262; goto L45;
 L40:;
-    f56(v38, 8u, a1, v26, v78, v23);
-    v214 = load64(v75);
-    store64(a6, v214);
-    v16 = 8u; goto L44;
+    store64(a6, 0u);
+    v21 = 1u; goto L51;
 L41:;
-    f56(v38, 9u, a1, v26, v78, v23);
-    v215 = load64(v75);
-    store64(a6, v215);
-    v16 = 9u; goto L44;
+    store64(a6, 0u);
+    v21 = 2u; goto L51;
 L42:;
-    v16 = 34u; goto L44;
+    f55(v43, 3u, a1, v31, v27, v28);
+    v263 = load64(v80);
+    store64(a6, v263);
+    v21 = 3u; goto L51;
 L43:;
-    v16 = 33u; goto L44;
+    f55(v43, 4u, a1, v31, v27, v28);
+    v264 = load64(v80);
+    store64(a6, v264);
+    v21 = 4u; goto L51;
 L44:;
-    return v16;
+    v265 = v223.m1;
+    f49(v43, a1, v27, v265, v28);
+    v266 = load64(v80);
+    store64(a6, v266);
+    v21 = 5u; goto L51;
+L45:;
+    v267 = v17 + 1448u * 1u;
+    v268 = load64(v267);
+    f54(v19, v268, v20, v23, a1, v28);
+    v269 = load64(v80);
+    store64(a6, v269);
+    v21 = 6u; goto L51;
+L46:;
+    f55(v43, 7u, a1, v31, v27, v28);
+    v270 = load64(v80);
+    store64(a6, v270);
+    v21 = 7u; goto L51;
+L47:;
+    f55(v43, 8u, a1, v31, v27, v28);
+    v271 = load64(v80);
+    store64(a6, v271);
+    v21 = 8u; goto L51;
+L48:;
+    f55(v43, 9u, a1, v31, v27, v28);
+    v272 = load64(v80);
+    store64(a6, v272);
+    v21 = 9u; goto L51;
+L49:;
+    v21 = 34u; goto L51;
+L50:;
+    v21 = 33u; goto L51;
+L51:;
+    return v21;
 }
 
 u32 portable_ptpm_clock_handle_shared(address a0, u16 a1, address a2, u64 a3, address a4, u64 a5, address a6) {
-    u64 v7, v8, v9, v11, v12, v13, v15, v17, v23, v26, v29, v30, v31, v32, v34, v35;
-    u64 v36, v37, v39, v40, v54, v57, v72, v74, v77, v80, v81, v85, v91, v92, v95, v96;
-    u64 v97, v99, v120, v130, v139, v142, v156, v158, v166, v171, v190, v191, v197, v199, v201, v216;
-    u64 v217, v261, v264, v269, v271, v273, v282, v286, v287, v288, v293, v297, v302, v312, v322, v327;
-    u64 v335, v340, v345, v367, v369, v370, v377, v420, v422, v435, v445, v447, v449, v453, v454, v455;
-    u64 v456, v458, v459, v461, v462, v466, v467, v468, v470, v474, v476, v477, v478, v479, v485, v486;
-    u64 v487, v488;
-    address v10, v16, v18, v19, v27, v33, v42, v43, v44, v45, v46, v47, v48, v49, v50, v51;
-    address v52, v55, v58, v59, v60, v63, v66, v67, v69, v73, v78, v83, v84, v87, v88, v89;
-    address v93, v94, v101, v102, v105, v106, v109, v113, v115, v119, v121, v123, v129, v131, v133, v138;
-    address v141, v143, v145, v157, v161, v163, v165, v167, v169, v178, v179, v181, v187, v192, v194, v196;
-    address v198, v200, v206, v207, v208, v209, v210, v211, v214, v219, v221, v223, v224, v225, v226, v227;
-    address v228, v229, v230, v231, v232, v236, v237, v238, v240, v242, v244, v245, v246, v248, v249, v254;
-    address v256, v258, v259, v260, v263, v265, v268, v274, v275, v276, v277, v278, v279, v281, v290, v291;
-    address v295, v296, v299, v300, v303, v306, v308, v309, v310, v311, v314, v315, v316, v317, v318, v321;
-    address v324, v325, v326, v329, v330, v332, v334, v337, v338, v339, v341, v344, v348, v355, v356, v357;
-    address v358, v361, v362, v363, v364, v365, v366, v371, v373, v375, v376, v382, v383, v384, v385, v386;
-    address v387, v388, v390, v392, v393, v394, v398, v399, v400, v402, v404, v406, v407, v408, v410, v411;
-    address v416, v418, v419, v421, v429, v431, v434, v437, v442, v443, v444, v450, v451, v457, v464, v465;
-    address v471, v472, v475, v481, v483, v489, v494, v495;
-    u16 v14, v21, v22, v75, v79, v125, v126, v127, v128, v135, v136, v137, v147, v148, v149, v150;
-    u16 v159, v172, v173, v174, v175, v176, v177, v183, v184, v185, v186, v202, v203, v204, v205, v239;
-    u16 v241, v243, v247, v255, v266, v301, v342, v352, v353, v378, v379, v380, v381, v401, v403, v405;
-    u16 v409, v417, v446;
-    u8 v20, v24, v25, v28, v38, v53, v56, v61, v62, v64, v65, v68, v70, v71, v76, v82;
-    u8 v86, v90, v98, v100, v103, v104, v107, v108, v110, v111, v112, v114, v116, v117, v118, v122;
-    u8 v124, v132, v134, v140, v144, v146, v151, v152, v153, v154, v155, v160, v162, v164, v168, v170;
-    u8 v180, v182, v188, v189, v193, v195, v213, v215, v218, v220, v222, v233, v235, v257, v262, v267;
-    u8 v270, v272, v280, v283, v284, v285, v289, v292, v294, v298, v304, v305, v307, v313, v319, v320;
-    u8 v323, v328, v331, v333, v336, v343, v346, v347, v349, v350, v351, v354, v359, v360, v368, v372;
-    u8 v374, v389, v391, v395, v397, v423, v424, v425, v426, v427, v428, v430, v432, v433, v436, v438;
-    u8 v439, v440, v441, v448, v452, v460, v463, v469, v473, v480, v482, v484, v490, v491, v492, v493;
-    u32 v41, v234, v250, v251, v252, v253, v396, v412, v413, v414, v415, v496, v497, v498;
-    struct s1 v212;
+    u64 v7, v8, v9, v16, v17, v18, v20, v22, v27, v28, v29, v31, v34, v36, v37, v38;
+    u64 v40, v41, v42, v43, v45, v46, v60, v63, v78, v80, v83, v86, v87, v91, v97, v98;
+    u64 v101, v102, v103, v105, v125, v144, v145, v148, v149, v150, v152, v168, v169, v170, v171, v188;
+    u64 v198, v207, v210, v227, v244, v245, v251, v253, v266, v267, v311, v314, v319, v321, v323, v332;
+    u64 v336, v337, v338, v343, v347, v352, v362, v372, v377, v385, v390, v395, v417, v419, v420, v427;
+    u64 v469, v470, v480, v482, v484, v488, v489, v490, v491, v493, v494, v496, v497, v501, v502, v503;
+    u64 v505, v509, v511, v512, v513, v514, v520, v521, v522, v523;
+    u8 v10, v11, v12, v13, v14, v30, v33, v35, v44, v59, v62, v67, v68, v70, v71, v74;
+    u8 v76, v77, v82, v88, v92, v96, v104, v106, v109, v110, v111, v112, v114, v115, v116, v118;
+    u8 v120, v126, v128, v129, v131, v133, v138, v140, v141, v143, v147, v151, v153, v154, v155, v156;
+    u8 v157, v159, v160, v162, v164, v166, v167, v176, v178, v179, v180, v182, v184, v185, v186, v190;
+    u8 v192, v200, v202, v208, v212, v214, v219, v220, v221, v222, v224, v226, v236, v238, v243, v247;
+    u8 v249, v265, v268, v270, v272, v283, v285, v307, v312, v317, v320, v322, v330, v333, v334, v335;
+    u8 v339, v342, v344, v348, v354, v355, v357, v363, v369, v370, v373, v378, v381, v383, v386, v393;
+    u8 v396, v397, v399, v400, v401, v404, v409, v410, v418, v422, v424, v439, v441, v445, v447, v471;
+    u8 v473, v474, v475, v476, v483, v487, v495, v498, v504, v508, v515, v517, v519, v524, v525, v526;
+    address v15, v21, v23, v24, v32, v39, v48, v49, v50, v51, v52, v53, v54, v55, v56, v57;
+    address v58, v61, v64, v65, v66, v69, v72, v73, v75, v79, v84, v89, v90, v93, v94, v95;
+    address v99, v100, v107, v108, v113, v117, v119, v130, v132, v139, v142, v146, v158, v161, v163, v165;
+    address v172, v173, v174, v175, v177, v181, v183, v187, v189, v191, v197, v199, v201, v206, v209, v211;
+    address v213, v223, v225, v234, v235, v237, v246, v248, v250, v252, v258, v259, v260, v261, v262, v263;
+    address v269, v271, v273, v274, v275, v276, v277, v278, v279, v280, v281, v282, v286, v287, v288, v290;
+    address v292, v294, v295, v296, v298, v299, v304, v306, v308, v309, v310, v313, v315, v318, v324, v325;
+    address v326, v327, v328, v329, v331, v340, v341, v345, v346, v349, v350, v353, v356, v358, v359, v360;
+    address v361, v364, v365, v366, v367, v368, v371, v374, v375, v376, v379, v380, v382, v384, v387, v388;
+    address v389, v391, v394, v398, v405, v406, v407, v408, v411, v412, v413, v414, v415, v416, v421, v423;
+    address v425, v426, v432, v433, v434, v435, v436, v437, v438, v440, v442, v443, v444, v448, v449, v450;
+    address v452, v454, v456, v457, v458, v460, v461, v466, v468, v472, v477, v478, v479, v485, v486, v492;
+    address v499, v500, v506, v507, v510, v516, v518, v527, v528;
+    u16 v19, v25, v26, v81, v85, v121, v122, v123, v124, v127, v134, v135, v136, v137, v193, v194;
+    u16 v195, v196, v203, v204, v205, v215, v216, v217, v218, v228, v229, v230, v231, v232, v233, v239;
+    u16 v240, v241, v242, v254, v255, v256, v257, v289, v291, v293, v297, v305, v316, v351, v392, v402;
+    u16 v403, v428, v429, v430, v431, v451, v453, v455, v459, v467, v481;
+    u32 v47, v284, v300, v301, v302, v303, v446, v462, v463, v464, v465, v529, v530, v531;
+    struct s1 v264;
     u64 block0[3];
     u64 block1[9];
     u64 block2[3];
@@ -41948,896 +43762,936 @@ u32 portable_ptpm_clock_handle_shared(address a0, u16 a1, address a2, u64 a3, ad
     u64 block4[1];
     u64 block5[2];
     u64 block6[3];
-    u64 block7[3];
-    u64 block8[4];
+    u64 block7[1];
+    u64 block8[3];
     u64 block9[11];
     u64 block10[3];
-    v42 = ADDRESS(block0);
-    v43 = ADDRESS(block1);
-    v44 = ADDRESS(block2);
-    v45 = ADDRESS(block3);
-    v46 = ADDRESS(block4);
-    v47 = ADDRESS(block5);
-    v48 = ADDRESS(block6);
-    v49 = ADDRESS(block7);
-    v50 = ADDRESS(block8);
-    v51 = ADDRESS(block9);
-    v52 = ADDRESS(block10);
-    v53 = a2 == 0u;
-    v54 = v53 ? 4096u : 0u;
-    v55 = a2 + v54 * 1u;
-    v56 = a4 == 0u;
-    v57 = v56 ? 4096u : 0u;
-    v58 = a4 + v57 * 1u;
+    v48 = ADDRESS(block0);
+    v49 = ADDRESS(block1);
+    v50 = ADDRESS(block2);
+    v51 = ADDRESS(block3);
+    v52 = ADDRESS(block4);
+    v53 = ADDRESS(block5);
+    v54 = ADDRESS(block6);
+    v55 = ADDRESS(block7);
+    v56 = ADDRESS(block8);
+    v57 = ADDRESS(block9);
+    v58 = ADDRESS(block10);
+    v59 = a2 == 0u;
+    v60 = v59 ? 4096u : 0u;
+    v61 = a2 + v60 * 1u;
+    v62 = a4 == 0u;
+    v63 = v62 ? 4096u : 0u;
+    v64 = a4 + v63 * 1u;
     memory_set(a6, 0u, 24u);
-    v59 = a0 + 9u * 1u;
-    store8(v59, 0u);
-    v60 = a0 + 8u * 1u;
-    v61 = load8(v60);
-    v62 = (u8)((v61) & UINT64_C(1));
-    if (v62) { goto L1; }
-    else { v41 = 32u; goto L108; }
+    v65 = a0 + 9u * 1u;
+    store8(v65, 0u);
+    v66 = a0 + 8u * 1u;
+    v67 = load8(v66);
+    v68 = (u8)((v67) & UINT64_C(1));
+    if (v68) { goto L1; }
+    else { v47 = 32u; goto L111; }
 L1:;
-    v63 = load_address(a0);
-    v64 = load8(v63);
-    v65 = v64 == 1u;
-    if (v65) { goto L2; }
-    else { v41 = 32u; goto L108; }
+    v69 = load_address(a0);
+    v70 = load8(v69);
+    v71 = v70 == 1u;
+    if (v71) { goto L2; }
+    else { v47 = 32u; goto L111; }
 L2:;
-    v66 = v63 + 8u * 1u;
-    v67 = load_address(v66);
+    v72 = v69 + 8u * 1u;
+    v73 = load_address(v72);
     memory_set(a6, 0u, 24u);
-    memory_set(v52, 0u, 24u);
-    v68 = a1 == 0u;
-    if (v68) { goto L107; }
+    memory_set(v58, 0u, 24u);
+    v74 = a1 == 0u;
+    if (v74) { goto L110; }
     else { goto L3; }
 L3:;
-    v69 = v67 + 240u * 1u;
-    v70 = load8(v69);
-    v71 = v70 == 0u;
-    v72 = v71 ? 376u : 256u;
-    v73 = v67 + v72 * 1u;
-    v74 = load64(v73);
-    v75 = (u16)(v74);
-    v76 = a1 > v75;
-    if (v76) { goto L107; }
+    v75 = v73 + 240u * 1u;
+    v76 = load8(v75);
+    v77 = v76 == 0u;
+    v78 = v77 ? 376u : 256u;
+    v79 = v73 + v78 * 1u;
+    v80 = load64(v79);
+    v81 = (u16)(v80);
+    v82 = a1 > v81;
+    if (v82) { goto L110; }
     else { goto L4; }
 L4:;
-    v77 = (u64)((u64)v74 & (u64)65535u);
-    v78 = v67 + 416u * 1u;
-    v79 = load16(v78);
-    v80 = (u64)v79;
-    v81 = v80 > v77 ? v80 : v77;
-    v82 = v81 > a5;
-    if (v82) { goto L5; }
+    v83 = (u64)((u64)v80 & (u64)65535u);
+    v84 = v73 + 416u * 1u;
+    v85 = load16(v84);
+    v86 = (u64)v85;
+    v87 = v86 > v83 ? v86 : v83;
+    v88 = v87 > a5;
+    if (v88) { goto L5; }
     else { goto L10; }
 L5:;
-    memory_set(v51, 0u, 88u);
-    v83 = v67 + 384u * 1u;
-    f22(v51, v83);
-    v84 = v51 + 80u * 1u;
-    v85 = load64(v84);
-    v86 = v85 == 0u;
-    if (v86) { v9 = v77; goto L9; }
+    memory_set(v57, 0u, 88u);
+    v89 = v73 + 384u * 1u;
+    f21(v57, v89);
+    v90 = v57 + 80u * 1u;
+    v91 = load64(v90);
+    v92 = v91 == 0u;
+    if (v92) { v9 = v83; goto L9; }
     else { goto L6; }
 L6:;
-    v87 = v51 + 16u * 1u;
-    v88 = load_address(v51);
+    v93 = v57 + 16u * 1u;
+    v94 = load_address(v57);
     v7 = 0u; v8 = 0u; goto L7;
 L7:;
-    v89 = v87 + v8 * 1u;
-    v90 = load8(v89);
-    v91 = (u64)v90;
-    v92 = (u64)((u64)v91 * (u64)2144u);
-    v93 = v88 + v92 * 1u;
-    v94 = v93 + 1448u * 1u;
-    v95 = load64(v94);
-    v96 = v7 > v95 ? v7 : v95;
-    v97 = (u64)((u64)v8 + (u64)1u);
-    v98 = v97 == v85;
-    if (v98) { goto L8; }
-    else { v7 = v96; v8 = v97; goto L7; }
+    v95 = v93 + v8 * 1u;
+    v96 = load8(v95);
+    v97 = (u64)v96;
+    v98 = (u64)((u64)v97 * (u64)2144u);
+    v99 = v94 + v98 * 1u;
+    v100 = v99 + 1448u * 1u;
+    v101 = load64(v100);
+    v102 = v7 > v101 ? v7 : v101;
+    v103 = (u64)((u64)v8 + (u64)1u);
+    v104 = v103 == v91;
+    if (v104) { goto L8; }
+    else { v7 = v102; v8 = v103; goto L7; }
 L8:;
-    v99 = v96 > v77 ? v96 : v77;
-    v9 = v99; goto L9;
+    v105 = v102 > v83 ? v102 : v83;
+    v9 = v105; goto L9;
 L9:;
-    v100 = v9 > a5;
-    if (v100) { goto L106; }
+    v106 = v9 > a5;
+    if (v106) { goto L109; }
     else { goto L10; }
 L10:;
-    store_address(v52, v58);
-    v101 = v52 + 8u * 1u;
-    store64(v101, a5);
-    v102 = v52 + 16u * 1u;
-    store64(v102, 0u);
-    memory_set(v50, 0u, 32u);
-    f8(v50, v55, a3);
-    v103 = load8(v50);
-    v104 = v103 == 0u;
-    if (v104) { goto L11; }
-    else { goto L26; }
+    store_address(v58, v64);
+    v107 = v58 + 8u * 1u;
+    store64(v107, a5);
+    v108 = v58 + 16u * 1u;
+    store64(v108, 0u);
+    memory_set(v55, 0u, 3u);
+    v109 = a3 < 54u;
+    if (v109) { goto L16; }
+    else { goto L11; }
 L11:;
-    v105 = v50 + 8u * 1u;
-    memory_cpy(v49, v105, 24u);
-    v106 = load_address(v49);
-    v107 = load8(v106);
-    v108 = (u8)((u32)v107 >> (4u & 7u));
-    v109 = v106 + 5u * 1u;
-    v110 = load8(v109);
-    v111 = (u8)((u32)v108 | (u32)v110);
-    v112 = v111 == 0u;
+    v110 = load8(v61);
+    v111 = (u8)((u32)v110 & (u32)15u);
+    v112 = v111 == 13u;
     if (v112) { goto L12; }
-    else { v20 = 1u; goto L72; }
+    else { goto L16; }
 L12:;
-    v113 = v106 + 4u * 1u;
+    v113 = v61 + 1u * 1u;
     v114 = load8(v113);
-    v115 = v67 + 8u * 1u;
-    v116 = load8(v115);
-    v117 = v114 == v116;
-    if (v117) { goto L15; }
-    else { goto L13; }
+    v115 = (u8)((u32)v114 & (u32)15u);
+    v116 = v115 == 2u;
+    if (v116) { goto L13; }
+    else { goto L16; }
 L13:;
-    v118 = f46(v67, v49);
-    if (v118) { goto L14; }
-    else { v20 = 1u; goto L72; }
+    v117 = v61 + 2u * 1u;
+    v118 = load8(v117);
+    v119 = v61 + 3u * 1u;
+    v120 = load8(v119);
+    v121 = (u16)v118;
+    v122 = (u16)((u32)v121 << (8u & 15u));
+    v123 = (u16)v120;
+    v124 = (u16)((u32)v122 | (u32)v123);
+    v125 = (u64)v124;
+    v126 = a3 < v125;
+    v127 = (u16)((u32)v124 + (u32)64063u);
+    v128 = v127 < 64117u;
+    v129 = (u8)(((u32)v128 | (u32)v126) & UINT64_C(1));
+    if (v129) { goto L16; }
+    else { goto L14; }
 L14:;
-    v119 = v106 + 20u * 1u;
-    v120 = load64(v119);
-    v121 = v106 + 28u * 1u;
-    v122 = load8(v121);
-    v123 = v106 + 29u * 1u;
-    v124 = load8(v123);
-    v125 = (u16)v122;
-    v126 = (u16)((u32)v125 << (8u & 15u));
-    v127 = (u16)v124;
-    v128 = (u16)((u32)v126 | (u32)v127);
-    v14 = v128; v15 = v120; goto L62;
+    v130 = v61 + 48u * 1u;
+    v131 = load8(v130);
+    v132 = v61 + 49u * 1u;
+    v133 = load8(v132);
+    v134 = (u16)v131;
+    v135 = (u16)((u32)v134 << (8u & 15u));
+    v136 = (u16)v133;
+    v137 = (u16)((u32)v135 | (u32)v136);
+    v138 = v137 == 1u;
+    if (v138) { goto L15; }
+    else { goto L16; }
 L15:;
-    v129 = v106 + 20u * 1u;
-    v130 = load64(v129);
-    v131 = v106 + 28u * 1u;
-    v132 = load8(v131);
-    v133 = v106 + 29u * 1u;
-    v134 = load8(v133);
-    v135 = (u16)v132;
-    v136 = (u16)((u32)v135 << (8u & 15u));
-    v137 = (u16)v134;
-    v138 = v67 + 384u * 1u;
-    v139 = load64(v138);
-    v140 = v130 == v139;
-    if (v140) { v20 = 2u; goto L72; }
+    v139 = v61 + 46u * 1u;
+    v140 = load8(v139);
+    v141 = (u8)((u32)v140 & (u32)15u);
+    v142 = v61 + 50u * 1u;
+    v143 = load8(v142);
+    v144 = (u64)v143;
+    v145 = (u64)((u64)v144 << (8u & 63u));
+    v146 = v61 + 51u * 1u;
+    v147 = load8(v146);
+    v148 = (u64)v147;
+    v149 = (u64)((u64)v145 | (u64)v148);
+    v150 = (u64)((u64)v149 + (u64)52u);
+    v151 = v150 == v125;
+    v152 = (u64)((u64)v125 & (u64)1u);
+    v153 = v152 == 0u;
+    v154 = (u8)(((u32)v153 & (u32)v151) & UINT64_C(1));
+    v155 = v141 < 5u;
+    v156 = v154 ? v155 : 0u;
+    if (v156) { v10 = v110; v11 = v120; v12 = v118; v13 = v141; v14 = 0u; goto L18; }
     else { goto L16; }
 L16:;
-    v141 = v106 + 34u * 1u;
-    v142 = load64(v141);
-    v143 = v106 + 42u * 1u;
-    v144 = load8(v143);
-    v145 = v106 + 43u * 1u;
-    v146 = load8(v145);
-    v147 = (u16)v144;
-    v148 = (u16)((u32)v147 << (8u & 15u));
-    v149 = (u16)v146;
-    v150 = (u16)((u32)v148 | (u32)v149);
-    v151 = v142 == v139;
-    v152 = v142 == UINT64_C(18446744073709551615);
-    v153 = (u8)(((u32)v152 | (u32)v151) & UINT64_C(1));
-    if (v153) { goto L17; }
-    else { v20 = 3u; goto L72; }
+    f8(v55, v61, a3);
+    v157 = load8(v55);
+    v158 = v55 + 1u * 1u;
+    v159 = load8(v158);
+    v160 = v157 == 0u;
+    if (v160) { goto L17; }
+    else { goto L33; }
 L17:;
-    switch (v150) {
-    case 65535u: goto L19;
-    case 0u: v20 = 3u; goto L72;
-    default: goto L18;
-    }
-L18:;
-    v154 = load8(v69);
-    v155 = v154 == 0u;
-    v156 = v155 ? 376u : 256u;
-    v157 = v67 + v156 * 1u;
-    v158 = load64(v157);
-    v159 = (u16)(v158);
-    v160 = v150 > v159;
-    if (v160) { v20 = 3u; goto L72; }
-    else { goto L19; }
-L19:;
-    v161 = v49 + 16u * 1u;
+    v161 = v55 + 2u * 1u;
     v162 = load8(v161);
-    switch (v162) {
-    case 2u: v20 = 4u; goto L72;
-    case 4u: v20 = 4u; goto L72;
-    case 0u: goto L21;
-    case 1u: goto L21;
-    case 3u: goto L21;
-    default: goto L20;
-    }
-L20:;
-    UNREACHABLE;
-L21:;
-    if (v151) { goto L23; }
-    else { goto L22; }
-L22:;
-    v163 = v49 + 17u * 1u;
+    v163 = v61 + 2u * 1u;
     v164 = load8(v163);
-    v165 = v49 + 8u * 1u;
-    v166 = load64(v165);
-    v167 = v106 + 30u * 1u;
-    v168 = load8(v167);
-    v169 = v106 + 31u * 1u;
-    v170 = load8(v169);
-    v171 = (u64)((u64)v166 + (u64)UINT64_C(18446744073709551562));
-    v172 = (u16)((u32)v136 | (u32)v137);
-    v173 = (u16)v168;
-    v174 = (u16)((u32)v173 << (8u & 15u));
-    v175 = (u16)v170;
-    v176 = (u16)((u32)v174 | (u32)v175);
-    v21 = v176; v22 = v172; v23 = v171; v24 = v164; goto L73;
-L23:;
-    v177 = (u16)((u32)v136 | (u32)v137);
-    store64(v47, v130);
-    v178 = v47 + 8u * 1u;
-    store16(v178, v177);
-    v179 = v106 + 30u * 1u;
-    v180 = load8(v179);
-    v181 = v106 + 31u * 1u;
+    v165 = v61 + 3u * 1u;
+    v166 = load8(v165);
+    v167 = load8(v61);
+    v10 = v167; v11 = v166; v12 = v164; v13 = v159; v14 = v162; goto L18;
+L18:;
+    v168 = (u64)v12;
+    v169 = (u64)((u64)v168 << (8u & 63u));
+    v170 = (u64)v11;
+    v171 = (u64)((u64)v169 | (u64)v170);
+    store_address(v56, v61);
+    v172 = v56 + 8u * 1u;
+    store64(v172, v171);
+    v173 = v56 + 16u * 1u;
+    store8(v173, v13);
+    v174 = v56 + 17u * 1u;
+    store8(v174, v14);
+    v175 = v56 + 18u * 1u;
+    memory_set(v175, 0u, 6u);
+    v176 = (u8)((u32)v10 >> (4u & 7u));
+    v177 = v61 + 5u * 1u;
+    v178 = load8(v177);
+    v179 = (u8)((u32)v178 | (u32)v176);
+    v180 = v179 == 0u;
+    if (v180) { goto L19; }
+    else { v35 = 1u; goto L88; }
+L19:;
+    v181 = v61 + 4u * 1u;
     v182 = load8(v181);
-    v183 = (u16)v180;
-    v184 = (u16)((u32)v183 << (8u & 15u));
-    v185 = (u16)v182;
-    v186 = (u16)((u32)v184 | (u32)v185);
-    v187 = v49 + 17u * 1u;
-    v188 = load8(v187);
-    v189 = v188 == 0u;
-    v190 = v189 ? 52u : 54u;
-    v191 = v189 ? 53u : 55u;
-    v192 = v106 + v190 * 1u;
-    v193 = load8(v192);
-    v194 = v106 + v191 * 1u;
-    v195 = load8(v194);
-    v196 = v49 + 8u * 1u;
-    v197 = load64(v196);
-    v198 = v106 + 54u * 1u;
-    v199 = (u64)((u64)v197 + (u64)UINT64_C(18446744073709551562));
-    v200 = v189 ? v198 : ADDRESS(c148);
-    v201 = v189 ? v199 : 0u;
-    v202 = (u16)v193;
-    v203 = (u16)((u32)v202 << (8u & 15u));
-    v204 = (u16)v195;
-    v205 = (u16)((u32)v203 | (u32)v204);
-    store8(v48, v162);
-    v206 = v48 + 1u * 1u;
-    store8(v206, 0u);
-    v207 = v48 + 2u * 1u;
-    store16(v207, v205);
-    v208 = v48 + 4u * 1u;
-    store16(v208, v150);
-    v209 = v48 + 6u * 1u;
-    store16(v209, 0u);
-    v210 = v48 + 8u * 1u;
-    store_address(v210, v200);
-    v211 = v48 + 16u * 1u;
-    store64(v211, v201);
-    v212 = f48(v138, v47, v186, v48);
-    v213 = v212.m0;
-    switch (v213) {
-    case 0u: v21 = v186; v22 = v177; v23 = v199; v24 = v188; goto L73;
-    case 1u: goto L27;
-    case 2u: v14 = v177; v15 = v130; goto L62;
-    case 3u: v20 = 8u; goto L72;
-    case 4u: goto L24;
+    v183 = v73 + 8u * 1u;
+    v184 = load8(v183);
+    v185 = v182 == v184;
+    if (v185) { goto L22; }
+    else { goto L20; }
+L20:;
+    v186 = f45(v73, v56);
+    if (v186) { goto L21; }
+    else { v35 = 1u; goto L88; }
+L21:;
+    v187 = v61 + 20u * 1u;
+    v188 = load64(v187);
+    v189 = v61 + 28u * 1u;
+    v190 = load8(v189);
+    v191 = v61 + 29u * 1u;
+    v192 = load8(v191);
+    v193 = (u16)v190;
+    v194 = (u16)((u32)v193 << (8u & 15u));
+    v195 = (u16)v192;
+    v196 = (u16)((u32)v194 | (u32)v195);
+    v19 = v196; v20 = v188; goto L69;
+L22:;
+    v197 = v61 + 20u * 1u;
+    v198 = load64(v197);
+    v199 = v61 + 28u * 1u;
+    v200 = load8(v199);
+    v201 = v61 + 29u * 1u;
+    v202 = load8(v201);
+    v203 = (u16)v200;
+    v204 = (u16)((u32)v203 << (8u & 15u));
+    v205 = (u16)v202;
+    v206 = v73 + 384u * 1u;
+    v207 = load64(v206);
+    v208 = v198 == v207;
+    if (v208) { v35 = 2u; goto L88; }
+    else { goto L23; }
+L23:;
+    v209 = v61 + 34u * 1u;
+    v210 = load64(v209);
+    v211 = v61 + 42u * 1u;
+    v212 = load8(v211);
+    v213 = v61 + 43u * 1u;
+    v214 = load8(v213);
+    v215 = (u16)v212;
+    v216 = (u16)((u32)v215 << (8u & 15u));
+    v217 = (u16)v214;
+    v218 = (u16)((u32)v216 | (u32)v217);
+    v219 = v210 == v207;
+    v220 = v210 == UINT64_C(18446744073709551615);
+    v221 = (u8)(((u32)v220 | (u32)v219) & UINT64_C(1));
+    if (v221) { goto L24; }
+    else { v28 = v210; v29 = v207; v30 = 3u; goto L80; }
+L24:;
+    switch (v218) {
+    case 65535u: goto L26;
+    case 0u: v28 = v210; v29 = v207; v30 = 3u; goto L80;
     default: goto L25;
     }
-L24:;
-    v20 = 7u; goto L72;
 L25:;
-    UNREACHABLE;
+    v222 = v218 > v81;
+    if (v222) { v28 = v210; v29 = v207; v30 = 3u; goto L80; }
+    else { goto L26; }
 L26:;
-    v214 = v50 + 1u * 1u;
-    v215 = load8(v214);
-    v216 = (u64)v215;
-    v217 = (u64)((u64)v216 << (8u & 63u));
-    v28 = 0u; v29 = v217; goto L84;
+    switch (v13) {
+    case 2u: v28 = v210; v29 = v207; v30 = 4u; goto L80;
+    case 4u: v28 = v210; v29 = v207; v30 = 4u; goto L80;
+    case 0u: goto L28;
+    case 1u: goto L28;
+    case 3u: goto L28;
+    default: goto L27;
+    }
 L27:;
-    v218 = v212.m1;
-    v219 = v106 + 44u * 1u;
-    v220 = load8(v219);
-    v221 = v106 + 45u * 1u;
-    v222 = load8(v221);
-    store8(v44, v162);
-    v223 = v44 + 1u * 1u;
-    store8(v223, 0u);
-    v224 = v44 + 2u * 1u;
-    store16(v224, v205);
-    v225 = v44 + 4u * 1u;
-    store16(v225, v150);
-    v226 = v44 + 6u * 1u;
-    store16(v226, 0u);
-    v227 = v44 + 8u * 1u;
-    store_address(v227, v200);
-    v228 = v44 + 16u * 1u;
-    store64(v228, v201);
-    v229 = v45 + 54u * 1u;
-    v230 = v45 + 56u * 1u;
-    v231 = v45 + 58u * 1u;
-    v232 = v45 + 64u * 1u;
-    memory_set(v45, 0u, 64u);
-    store_address(v232, v52);
-    v233 = v162 > 2u;
-    v234 = v233 ? UINT32_C(262144) : UINT32_C(131072);
-    v235 = v220 > v222 ? (u8)((u32)v220 - (u32)v222) : 0u;
-    store16(v229, v205);
-    store16(v230, a1);
-    v236 = v45 + 48u * 1u;
-    store16(v45, 4621u);
-    v237 = v45 + 2u * 1u;
-    store16(v237, 13824u);
-    v238 = v45 + 4u * 1u;
-    v239 = (u16)v114;
-    store16(v238, v239);
-    v240 = v45 + 20u * 1u;
-    store64(v240, v139);
-    v241 = swap16(a1);
-    v242 = v45 + 28u * 1u;
-    store16(v242, v241);
-    v243 = swap16(v186);
-    v244 = v45 + 30u * 1u;
-    store16(v244, v243);
-    v245 = v45 + 32u * 1u;
-    store16(v245, 32516u);
-    v246 = v45 + 34u * 1u;
-    store64(v246, v130);
-    v247 = swap16(v177);
-    v248 = v45 + 42u * 1u;
-    store16(v248, v247);
-    v249 = v45 + 44u * 1u;
-    v250 = (u32)v235;
-    v251 = (u32)((u32)v250 << (8u & 31u));
-    v252 = (u32)((u32)v251 | (u32)v234);
-    v253 = (u32)((u32)v252 | (u32)v250);
-    store32(v249, v253);
-    store16(v236, 256u);
-    v254 = v45 + 50u * 1u;
-    store16(v254, 512u);
-    v255 = swap16(v205);
-    v256 = v45 + 52u * 1u;
-    store16(v256, v255);
-    f71(v67, v44, v218, v45);
-    v257 = load8(v231);
-    v258 = v67 + 392u * 1u;
-    v259 = load_address(v258);
-    v260 = v67 + 400u * 1u;
-    v261 = load64(v260);
-    v262 = v261 == 0u;
-    if (v262) { goto L61; }
-    else { v10 = v259; v11 = v261; v12 = 0u; goto L28; }
+    UNREACHABLE;
 L28:;
-    v263 = v10 + 2144u * 1u;
-    v264 = (u64)((u64)v11 + (u64)UINT64_C(18446744073709551615));
-    v265 = v10 + 2120u * 1u;
-    v266 = load16(v265);
-    v267 = v177 == v266;
-    if (v267) { goto L29; }
-    else { goto L30; }
+    if (v219) { goto L30; }
+    else { goto L29; }
 L29:;
-    v268 = v10 + 2112u * 1u;
-    v269 = load64(v268);
-    v270 = v130 == v269;
-    if (v270) { goto L31; }
-    else { goto L30; }
+    v223 = v61 + 30u * 1u;
+    v224 = load8(v223);
+    v225 = v61 + 31u * 1u;
+    v226 = load8(v225);
+    v227 = (u64)((u64)v171 + (u64)UINT64_C(18446744073709551562));
+    v228 = (u16)((u32)v204 | (u32)v205);
+    v229 = (u16)v224;
+    v230 = (u16)((u32)v229 << (8u & 15u));
+    v231 = (u16)v226;
+    v232 = (u16)((u32)v230 | (u32)v231);
+    v25 = v232; v26 = v228; v27 = v227; goto L79;
 L30:;
-    v271 = (u64)((u64)v12 + (u64)1u);
-    v272 = v264 == 0u;
-    if (v272) { goto L61; }
-    else { v10 = v263; v11 = v264; v12 = v271; goto L28; }
+    v233 = (u16)((u32)v204 | (u32)v205);
+    store64(v53, v198);
+    v234 = v53 + 8u * 1u;
+    store16(v234, v233);
+    v235 = v61 + 30u * 1u;
+    v236 = load8(v235);
+    v237 = v61 + 31u * 1u;
+    v238 = load8(v237);
+    v239 = (u16)v236;
+    v240 = (u16)((u32)v239 << (8u & 15u));
+    v241 = (u16)v238;
+    v242 = (u16)((u32)v240 | (u32)v241);
+    v243 = v14 == 0u;
+    v244 = v243 ? 52u : 54u;
+    v245 = v243 ? 53u : 55u;
+    v246 = v61 + v244 * 1u;
+    v247 = load8(v246);
+    v248 = v61 + v245 * 1u;
+    v249 = load8(v248);
+    v250 = v61 + 54u * 1u;
+    v251 = (u64)((u64)v171 + (u64)UINT64_C(18446744073709551562));
+    v252 = v243 ? v250 : ADDRESS(c155);
+    v253 = v243 ? v251 : 0u;
+    v254 = (u16)v247;
+    v255 = (u16)((u32)v254 << (8u & 15u));
+    v256 = (u16)v249;
+    v257 = (u16)((u32)v255 | (u32)v256);
+    store8(v54, v13);
+    v258 = v54 + 1u * 1u;
+    store8(v258, 0u);
+    v259 = v54 + 2u * 1u;
+    store16(v259, v257);
+    v260 = v54 + 4u * 1u;
+    store16(v260, v218);
+    v261 = v54 + 6u * 1u;
+    store16(v261, 0u);
+    v262 = v54 + 8u * 1u;
+    store_address(v262, v252);
+    v263 = v54 + 16u * 1u;
+    store64(v263, v253);
+    v264 = f47(v206, v53, v242, v54);
+    v265 = v264.m0;
+    switch (v265) {
+    case 0u: v25 = v242; v26 = v233; v27 = v251; goto L79;
+    case 1u: goto L34;
+    case 2u: v19 = v233; v20 = v198; goto L69;
+    case 3u: v35 = 8u; goto L88;
+    case 4u: goto L31;
+    default: goto L32;
+    }
 L31:;
-    v273 = (u64)((u64)v12 * (u64)2144u);
-    v274 = v259 + v273 * 1u;
-    v275 = v274 + 2137u * 1u;
-    store8(v275, 1u);
-    v276 = v274 + 2122u * 1u;
-    store16(v276, v186);
-    v277 = v274 + 2128u * 1u;
-    store8(v277, v162);
-    v278 = v274 + 2124u * 1u;
-    store16(v278, v205);
-    v279 = v274 + 2126u * 1u;
-    store16(v279, v150);
-    v280 = v201 == 0u;
-    v281 = v274 + 1424u * 1u;
-    v282 = load64(v281);
-    v283 = v282 == 0u;
-    v284 = v280 ? v283 : 0u;
-    if (v284) { goto L37; }
-    else { goto L32; }
+    v35 = 7u; goto L88;
 L32:;
-    v285 = v282 == v201;
-    if (v285) { goto L33; }
-    else { goto L36; }
+    UNREACHABLE;
 L33:;
-    v286 = (u64)v274;
-    v287 = (u64)v200;
-    v288 = (u64)((u64)v286 - (u64)v287);
-    v289 = v288 < v201;
-    if (v289) { v13 = 0u; goto L35; }
-    else { goto L34; }
+    v266 = (u64)v159;
+    v267 = (u64)((u64)v266 << (8u & 63u));
+    v33 = 0u; v34 = v267; goto L87;
 L34:;
-    memory_move(v274, v200, v201);
-    goto L37;
+    v268 = v264.m1;
+    v269 = v61 + 44u * 1u;
+    v270 = load8(v269);
+    v271 = v61 + 45u * 1u;
+    v272 = load8(v271);
+    store8(v50, v13);
+    v273 = v50 + 1u * 1u;
+    store8(v273, 0u);
+    v274 = v50 + 2u * 1u;
+    store16(v274, v257);
+    v275 = v50 + 4u * 1u;
+    store16(v275, v218);
+    v276 = v50 + 6u * 1u;
+    store16(v276, 0u);
+    v277 = v50 + 8u * 1u;
+    store_address(v277, v252);
+    v278 = v50 + 16u * 1u;
+    store64(v278, v253);
+    v279 = v51 + 54u * 1u;
+    v280 = v51 + 56u * 1u;
+    v281 = v51 + 58u * 1u;
+    v282 = v51 + 64u * 1u;
+    memory_set(v51, 0u, 64u);
+    store_address(v282, v58);
+    v283 = v13 > 2u;
+    v284 = v283 ? UINT32_C(262144) : UINT32_C(131072);
+    v285 = v270 > v272 ? (u8)((u32)v270 - (u32)v272) : 0u;
+    store16(v279, v257);
+    store16(v280, a1);
+    v286 = v51 + 48u * 1u;
+    store16(v51, 4621u);
+    v287 = v51 + 2u * 1u;
+    store16(v287, 13824u);
+    v288 = v51 + 4u * 1u;
+    v289 = (u16)v182;
+    store16(v288, v289);
+    v290 = v51 + 20u * 1u;
+    store64(v290, v207);
+    v291 = swap16(a1);
+    v292 = v51 + 28u * 1u;
+    store16(v292, v291);
+    v293 = swap16(v242);
+    v294 = v51 + 30u * 1u;
+    store16(v294, v293);
+    v295 = v51 + 32u * 1u;
+    store16(v295, 32516u);
+    v296 = v51 + 34u * 1u;
+    store64(v296, v198);
+    v297 = swap16(v233);
+    v298 = v51 + 42u * 1u;
+    store16(v298, v297);
+    v299 = v51 + 44u * 1u;
+    v300 = (u32)v285;
+    v301 = (u32)((u32)v300 << (8u & 31u));
+    v302 = (u32)((u32)v301 | (u32)v284);
+    v303 = (u32)((u32)v302 | (u32)v300);
+    store32(v299, v303);
+    store16(v286, 256u);
+    v304 = v51 + 50u * 1u;
+    store16(v304, 512u);
+    v305 = swap16(v257);
+    v306 = v51 + 52u * 1u;
+    store16(v306, v305);
+    f74(v73, v50, v268, v51);
+    v307 = load8(v281);
+    v308 = v73 + 392u * 1u;
+    v309 = load_address(v308);
+    v310 = v73 + 400u * 1u;
+    v311 = load64(v310);
+    v312 = v311 == 0u;
+    if (v312) { goto L68; }
+    else { v15 = v309; v16 = v311; v17 = 0u; goto L35; }
 L35:;
-    v290 = v274 + v13 * 1u;
-    v291 = v200 + v13 * 1u;
-    v292 = load8(v291);
-    store8(v290, v292);
-    v293 = (u64)((u64)v13 + (u64)1u);
-    v294 = v293 == v201;
-    if (v294) { goto L37; }
-    else { v13 = v293; goto L35; }
+    v313 = v15 + 2144u * 1u;
+    v314 = (u64)((u64)v16 + (u64)UINT64_C(18446744073709551615));
+    v315 = v15 + 2120u * 1u;
+    v316 = load16(v315);
+    v317 = v233 == v316;
+    if (v317) { goto L36; }
+    else { goto L37; }
 L36:;
-    f51(v274, v200, v201);
-    goto L37;
+    v318 = v15 + 2112u * 1u;
+    v319 = load64(v318);
+    v320 = v198 == v319;
+    if (v320) { goto L38; }
+    else { goto L37; }
 L37:;
-    v295 = v274 + 2129u * 1u;
-    store8(v295, v257);
-    v296 = v274 + 1432u * 1u;
-    v297 = load64(v102);
-    v298 = v297 == 1u;
-    if (v298) { goto L38; }
-    else { goto L52; }
+    v321 = (u64)((u64)v17 + (u64)1u);
+    v322 = v314 == 0u;
+    if (v322) { goto L68; }
+    else { v15 = v313; v16 = v314; v17 = v321; goto L35; }
 L38:;
-    v299 = load_address(v52);
-    v300 = v299 + 2u * 1u;
-    v301 = load16(v300);
-    v302 = (u64)v301;
-    v303 = v299 + 4u * 1u;
-    v304 = load8(v296);
-    v305 = v304 == 0u;
-    v306 = v274 + 1440u * 1u;
-    v307 = (u8)(v301);
-    if (v305) { goto L39; }
-    else { goto L46; }
+    v323 = (u64)((u64)v17 * (u64)2144u);
+    v324 = v309 + v323 * 1u;
+    v325 = v324 + 2137u * 1u;
+    store8(v325, 1u);
+    v326 = v324 + 2122u * 1u;
+    store16(v326, v242);
+    v327 = v324 + 2128u * 1u;
+    store8(v327, v13);
+    v328 = v324 + 2124u * 1u;
+    store16(v328, v257);
+    v329 = v324 + 2126u * 1u;
+    store16(v329, v218);
+    v330 = v253 == 0u;
+    v331 = v324 + 1424u * 1u;
+    v332 = load64(v331);
+    v333 = v332 == 0u;
+    v334 = v330 ? v333 : 0u;
+    if (v334) { goto L44; }
+    else { goto L39; }
 L39:;
-    v308 = v274 + 1456u * 1u;
-    v309 = v274 + 1441u * 1u;
-    memory_set(v309, 0u, 7u);
-    v310 = v274 + 1448u * 1u;
-    store8(v306, v307);
-    store64(v310, 1u);
-    v311 = v274 + 2096u * 1u;
-    v312 = load64(v311);
-    v313 = v312 == v302;
-    if (v313) { goto L40; }
-    else { goto L45; }
+    v335 = v332 == v253;
+    if (v335) { goto L40; }
+    else { goto L43; }
 L40:;
-    switch (v301) {
-    case 54u: goto L41;
-    case 56u: goto L42;
-    case 80u: goto L43;
-    default: goto L44;
-    }
+    v336 = (u64)v324;
+    v337 = (u64)v252;
+    v338 = (u64)((u64)v336 - (u64)v337);
+    v339 = v338 < v253;
+    if (v339) { v18 = 0u; goto L42; }
+    else { goto L41; }
 L41:;
-    memory_move(v308, v303, 54u);
-    goto L61;
+    memory_move(v324, v252, v253);
+    goto L44;
 L42:;
-    memory_move(v308, v303, 56u);
-    goto L61;
+    v340 = v324 + v18 * 1u;
+    v341 = v252 + v18 * 1u;
+    v342 = load8(v341);
+    store8(v340, v342);
+    v343 = (u64)((u64)v18 + (u64)1u);
+    v344 = v343 == v253;
+    if (v344) { goto L44; }
+    else { v18 = v343; goto L42; }
 L43:;
-    memory_move(v308, v303, 80u);
-    goto L61;
+    f50(v324, v252, v253);
+    goto L44;
 L44:;
-    f52(v308, v303, v302);
-    goto L61;
+    v345 = v324 + 2129u * 1u;
+    store8(v345, v307);
+    v346 = v324 + 1432u * 1u;
+    v347 = load64(v108);
+    v348 = v347 == 1u;
+    if (v348) { goto L45; }
+    else { goto L59; }
 L45:;
-    f53(v308, v303, v302);
-    goto L61;
+    v349 = load_address(v58);
+    v350 = v349 + 2u * 1u;
+    v351 = load16(v350);
+    v352 = (u64)v351;
+    v353 = v349 + 4u * 1u;
+    v354 = load8(v346);
+    v355 = v354 == 0u;
+    v356 = v324 + 1440u * 1u;
+    v357 = (u8)(v351);
+    if (v355) { goto L46; }
+    else { goto L53; }
 L46:;
-    v314 = v274 + 1464u * 1u;
-    v315 = v274 + 1488u * 1u;
-    v316 = v274 + 1448u * 1u;
-    v317 = load_address(v306);
-    store8(v317, v307);
-    store64(v316, 1u);
-    v318 = load_address(v314);
-    switch (v301) {
-    case 54u: goto L47;
-    case 56u: goto L48;
-    case 80u: goto L49;
-    default: goto L50;
-    }
+    v358 = v324 + 1456u * 1u;
+    v359 = v324 + 1441u * 1u;
+    memory_set(v359, 0u, 7u);
+    v360 = v324 + 1448u * 1u;
+    store8(v356, v357);
+    store64(v360, 1u);
+    v361 = v324 + 2096u * 1u;
+    v362 = load64(v361);
+    v363 = v362 == v352;
+    if (v363) { goto L47; }
+    else { goto L52; }
 L47:;
-    memory_move(v318, v303, 54u);
-    goto L51;
+    switch (v351) {
+    case 54u: goto L48;
+    case 56u: goto L49;
+    case 80u: goto L50;
+    default: goto L51;
+    }
 L48:;
-    memory_move(v318, v303, 56u);
-    goto L51;
+    memory_move(v358, v353, 54u);
+    goto L68;
 L49:;
-    memory_move(v318, v303, 80u);
-    goto L51;
+    memory_move(v358, v353, 56u);
+    goto L68;
 L50:;
-    f52(v318, v303, v302);
-    goto L51;
+    memory_move(v358, v353, 80u);
+    goto L68;
 L51:;
-    store64(v315, v302);
-    goto L61;
+    f51(v358, v353, v352);
+    goto L68;
 L52:;
-    v319 = load8(v296);
-    v320 = v319 == 0u;
-    v321 = v274 + 1448u * 1u;
-    v322 = load64(v321);
-    v323 = v322 == 0u;
-    if (v320) { goto L53; }
-    else { goto L57; }
+    f52(v358, v353, v352);
+    goto L68;
 L53:;
-    v324 = v274 + 1456u * 1u;
-    if (v323) { goto L55; }
-    else { goto L54; }
+    v364 = v324 + 1464u * 1u;
+    v365 = v324 + 1488u * 1u;
+    v366 = v324 + 1448u * 1u;
+    v367 = load_address(v356);
+    store8(v367, v357);
+    store64(v366, 1u);
+    v368 = load_address(v364);
+    switch (v351) {
+    case 54u: goto L54;
+    case 56u: goto L55;
+    case 80u: goto L56;
+    default: goto L57;
+    }
 L54:;
-    v325 = v274 + 1440u * 1u;
-    memory_set(v325, 0u, v322);
-    store64(v321, 0u);
-    goto L55;
+    memory_move(v368, v353, 54u);
+    goto L58;
 L55:;
-    v326 = v274 + 2096u * 1u;
-    v327 = load64(v326);
-    v328 = v327 == 0u;
-    if (v328) { goto L60; }
-    else { goto L56; }
+    memory_move(v368, v353, 56u);
+    goto L58;
 L56:;
-    memory_set(v324, 0u, v327);
-    store64(v326, 0u);
-    goto L60;
+    memory_move(v368, v353, 80u);
+    goto L58;
 L57:;
-    v329 = v274 + 1488u * 1u;
-    if (v323) { goto L59; }
-    else { goto L58; }
+    f51(v368, v353, v352);
+    goto L58;
 L58:;
-    store64(v321, 0u);
-    goto L59;
+    store64(v365, v352);
+    goto L68;
 L59:;
-    store64(v329, 0u);
-    goto L60;
+    v369 = load8(v346);
+    v370 = v369 == 0u;
+    v371 = v324 + 1448u * 1u;
+    v372 = load64(v371);
+    v373 = v372 == 0u;
+    if (v370) { goto L60; }
+    else { goto L64; }
 L60:;
-    f74(v52, v296);
-    goto L61;
+    v374 = v324 + 1456u * 1u;
+    if (v373) { goto L62; }
+    else { goto L61; }
 L61:;
-    v28 = 5u; v29 = 0u; goto L84;
+    v375 = v324 + 1440u * 1u;
+    memory_set(v375, 0u, v372);
+    store64(v371, 0u);
+    goto L62;
 L62:;
-    v330 = v106 + 44u * 1u;
-    v331 = load8(v330);
-    v332 = v106 + 45u * 1u;
-    v333 = load8(v332);
-    v334 = v67 + 400u * 1u;
-    v335 = load64(v334);
-    v336 = v335 == 0u;
-    if (v336) { goto L67; }
+    v376 = v324 + 2096u * 1u;
+    v377 = load64(v376);
+    v378 = v377 == 0u;
+    if (v378) { goto L67; }
     else { goto L63; }
 L63:;
-    v337 = v67 + 392u * 1u;
-    v338 = load_address(v337);
-    v16 = v338; v17 = v335; goto L64;
+    memory_set(v374, 0u, v377);
+    store64(v376, 0u);
+    goto L67;
 L64:;
-    v339 = v16 + 2144u * 1u;
-    v340 = (u64)((u64)v17 + (u64)UINT64_C(18446744073709551615));
-    v341 = v16 + 2120u * 1u;
-    v342 = load16(v341);
-    v343 = v14 == v342;
-    if (v343) { goto L65; }
-    else { goto L66; }
+    v379 = v324 + 1488u * 1u;
+    if (v373) { goto L66; }
+    else { goto L65; }
 L65:;
-    v344 = v16 + 2112u * 1u;
-    v345 = load64(v344);
-    v346 = v15 == v345;
-    if (v346) { goto L68; }
-    else { goto L66; }
+    store64(v371, 0u);
+    goto L66;
 L66:;
-    v347 = v340 == 0u;
-    if (v347) { goto L67; }
-    else { v16 = v339; v17 = v340; goto L64; }
+    store64(v379, 0u);
+    goto L67;
 L67:;
+    f77(v58, v346);
+    goto L68;
+L68:;
+    v33 = 5u; v34 = 0u; goto L87;
+L69:;
+    v380 = v61 + 44u * 1u;
+    v381 = load8(v380);
+    v382 = v61 + 45u * 1u;
+    v383 = load8(v382);
+    v384 = v73 + 400u * 1u;
+    v385 = load64(v384);
+    v386 = v385 == 0u;
+    if (v386) { goto L74; }
+    else { goto L70; }
+L70:;
+    v387 = v73 + 392u * 1u;
+    v388 = load_address(v387);
+    v21 = v388; v22 = v385; goto L71;
+L71:;
+    v389 = v21 + 2144u * 1u;
+    v390 = (u64)((u64)v22 + (u64)UINT64_C(18446744073709551615));
+    v391 = v21 + 2120u * 1u;
+    v392 = load16(v391);
+    v393 = v19 == v392;
+    if (v393) { goto L72; }
+    else { goto L73; }
+L72:;
+    v394 = v21 + 2112u * 1u;
+    v395 = load64(v394);
+    v396 = v20 == v395;
+    if (v396) { goto L75; }
+    else { goto L73; }
+L73:;
+    v397 = v390 == 0u;
+    if (v397) { goto L74; }
+    else { v21 = v389; v22 = v390; goto L71; }
+L74:;
     TRAP;
     UNREACHABLE;
-L68:;
-    store64(v46, 0u);
-    v348 = v16 + 2129u * 1u;
-    v349 = load8(v348);
-    v350 = (u8)((v349) & UINT64_C(1));
-    v351 = (u8)(((u32)v350 ^ (u32)1u) & UINT64_C(1));
-    v352 = v350 ? 0u : a1;
-    v353 = (u16)v351;
-    v354 = v331 > v333 ? (u8)((u32)v331 - (u32)v333) : 0u;
-    store8(v46, v114);
-    v355 = v46 + 2u * 1u;
-    store16(v355, v353);
-    v356 = v46 + 4u * 1u;
-    store16(v356, v352);
-    v357 = v46 + 6u * 1u;
-    store8(v357, v354);
-    v358 = v16 + 1432u * 1u;
-    v359 = load8(v358);
-    v360 = v359 == 0u;
-    v361 = v16 + 1440u * 1u;
-    if (v360) { goto L69; }
-    else { goto L70; }
-L69:;
-    v362 = v16 + 1456u * 1u;
-    v18 = v361; v19 = v362; goto L71;
-L70:;
-    v363 = load_address(v361);
-    v364 = v16 + 1464u * 1u;
-    v365 = load_address(v364);
-    v18 = v363; v19 = v365; goto L71;
-L71:;
-    v366 = v16 + 1448u * 1u;
-    v367 = load64(v366);
-    f75(v18, v367, v19, v46, a1, v52);
-    v28 = 6u; v29 = 0u; goto L84;
-L72:;
-    v25 = v20; goto L74;
-L73:;
-    v368 = v24 == 0u;
-    v369 = v368 ? 52u : 54u;
-    v370 = v368 ? 53u : 55u;
-    v371 = v106 + v369 * 1u;
-    v372 = load8(v371);
-    v373 = v106 + v370 * 1u;
-    v374 = load8(v373);
-    v375 = v106 + 54u * 1u;
-    v376 = v368 ? v375 : ADDRESS(c148);
-    v377 = v368 ? v23 : 0u;
-    v378 = (u16)v372;
-    v379 = (u16)((u32)v378 << (8u & 15u));
-    v380 = (u16)v374;
-    v381 = (u16)((u32)v379 | (u32)v380);
-    store8(v42, v162);
-    v382 = v42 + 1u * 1u;
-    store8(v382, 0u);
-    v383 = v42 + 2u * 1u;
-    store16(v383, v381);
-    v384 = v42 + 4u * 1u;
-    store16(v384, v150);
-    v385 = v42 + 6u * 1u;
-    store16(v385, 0u);
-    v386 = v42 + 8u * 1u;
-    store_address(v386, v376);
-    v387 = v42 + 16u * 1u;
-    store64(v387, v377);
-    v388 = v106 + 44u * 1u;
-    v389 = load8(v388);
-    v390 = v106 + 45u * 1u;
-    v391 = load8(v390);
-    v392 = v43 + 54u * 1u;
-    v393 = v43 + 56u * 1u;
-    v394 = v43 + 64u * 1u;
-    memory_set(v43, 0u, 64u);
-    store_address(v394, v52);
-    v395 = v162 > 2u;
-    v396 = v395 ? UINT32_C(262144) : UINT32_C(131072);
-    v397 = v389 > v391 ? (u8)((u32)v389 - (u32)v391) : 0u;
-    store16(v392, v381);
-    store16(v393, a1);
-    v398 = v43 + 48u * 1u;
-    store16(v43, 4621u);
-    v399 = v43 + 2u * 1u;
-    store16(v399, 13824u);
-    v400 = v43 + 4u * 1u;
-    v401 = (u16)v114;
-    store16(v400, v401);
-    v402 = v43 + 20u * 1u;
-    store64(v402, v139);
-    v403 = swap16(a1);
-    v404 = v43 + 28u * 1u;
-    store16(v404, v403);
-    v405 = swap16(v21);
-    v406 = v43 + 30u * 1u;
-    store16(v406, v405);
-    v407 = v43 + 32u * 1u;
-    store16(v407, 32516u);
-    v408 = v43 + 34u * 1u;
-    store64(v408, v130);
-    v409 = swap16(v22);
-    v410 = v43 + 42u * 1u;
-    store16(v410, v409);
-    v411 = v43 + 44u * 1u;
-    v412 = (u32)v397;
-    v413 = (u32)((u32)v412 << (8u & 31u));
-    v414 = (u32)((u32)v413 | (u32)v396);
-    v415 = (u32)((u32)v414 | (u32)v412);
-    store32(v411, v415);
-    store16(v398, 256u);
-    v416 = v43 + 50u * 1u;
-    store16(v416, 512u);
-    v417 = swap16(v381);
-    v418 = v43 + 52u * 1u;
-    store16(v418, v417);
-    f76(v67, v42, v43);
-    v25 = 9u; goto L74;
-L74:;
-    v419 = v67 + 384u * 1u;
-    v420 = load64(v419);
-    v421 = v106 + 34u * 1u;
-    v422 = load64(v421);
-    v423 = v422 == v420;
-    if (v423) { goto L85; }
-    else { goto L75; }
 L75:;
-    v424 = load8(v106);
-    v425 = (u8)((u32)v424 >> (4u & 7u));
-    v426 = load8(v109);
-    v427 = (u8)((u32)v425 | (u32)v426);
-    v428 = v427 == 0u;
-    if (v428) { goto L76; }
-    else { goto L85; }
+    store64(v52, 0u);
+    v398 = v21 + 2129u * 1u;
+    v399 = load8(v398);
+    v400 = (u8)((v399) & UINT64_C(1));
+    v401 = (u8)(((u32)v400 ^ (u32)1u) & UINT64_C(1));
+    v402 = v400 ? 0u : a1;
+    v403 = (u16)v401;
+    v404 = v381 > v383 ? (u8)((u32)v381 - (u32)v383) : 0u;
+    store8(v52, v182);
+    v405 = v52 + 2u * 1u;
+    store16(v405, v403);
+    v406 = v52 + 4u * 1u;
+    store16(v406, v402);
+    v407 = v52 + 6u * 1u;
+    store8(v407, v404);
+    v408 = v21 + 1432u * 1u;
+    v409 = load8(v408);
+    v410 = v409 == 0u;
+    v411 = v21 + 1440u * 1u;
+    if (v410) { goto L76; }
+    else { goto L77; }
 L76:;
-    v429 = v106 + 4u * 1u;
-    v430 = load8(v429);
-    v431 = v67 + 8u * 1u;
-    v432 = load8(v431);
-    v433 = v430 == v432;
-    if (v433) { goto L77; }
-    else { goto L85; }
+    v412 = v21 + 1456u * 1u;
+    v23 = v411; v24 = v412; goto L78;
 L77:;
-    v434 = v106 + 20u * 1u;
-    v435 = load64(v434);
-    v436 = v435 == v420;
-    if (v436) { goto L85; }
-    else { goto L78; }
+    v413 = load_address(v411);
+    v414 = v21 + 1464u * 1u;
+    v415 = load_address(v414);
+    v23 = v413; v24 = v415; goto L78;
 L78:;
-    v437 = v106 + 45u * 1u;
-    v438 = load8(v437);
-    v439 = v438 == 0u;
-    if (v439) { goto L85; }
-    else { goto L79; }
+    v416 = v21 + 1448u * 1u;
+    v417 = load64(v416);
+    f78(v23, v417, v24, v52, a1, v58);
+    v33 = 6u; v34 = 0u; goto L87;
 L79:;
-    v440 = load8(v69);
-    v441 = v440 == 0u;
-    v442 = v67 + 248u * 1u;
-    if (v441) { v26 = 376u; v27 = v442; goto L81; }
-    else { goto L80; }
+    v418 = v14 == 0u;
+    v419 = v418 ? 52u : 54u;
+    v420 = v418 ? 53u : 55u;
+    v421 = v61 + v419 * 1u;
+    v422 = load8(v421);
+    v423 = v61 + v420 * 1u;
+    v424 = load8(v423);
+    v425 = v61 + 54u * 1u;
+    v426 = v418 ? v425 : ADDRESS(c155);
+    v427 = v418 ? v27 : 0u;
+    v428 = (u16)v422;
+    v429 = (u16)((u32)v428 << (8u & 15u));
+    v430 = (u16)v424;
+    v431 = (u16)((u32)v429 | (u32)v430);
+    store8(v48, v13);
+    v432 = v48 + 1u * 1u;
+    store8(v432, 0u);
+    v433 = v48 + 2u * 1u;
+    store16(v433, v431);
+    v434 = v48 + 4u * 1u;
+    store16(v434, v218);
+    v435 = v48 + 6u * 1u;
+    store16(v435, 0u);
+    v436 = v48 + 8u * 1u;
+    store_address(v436, v426);
+    v437 = v48 + 16u * 1u;
+    store64(v437, v427);
+    v438 = v61 + 44u * 1u;
+    v439 = load8(v438);
+    v440 = v61 + 45u * 1u;
+    v441 = load8(v440);
+    v442 = v49 + 54u * 1u;
+    v443 = v49 + 56u * 1u;
+    v444 = v49 + 64u * 1u;
+    memory_set(v49, 0u, 64u);
+    store_address(v444, v58);
+    v445 = v13 > 2u;
+    v446 = v445 ? UINT32_C(262144) : UINT32_C(131072);
+    v447 = v439 > v441 ? (u8)((u32)v439 - (u32)v441) : 0u;
+    store16(v442, v431);
+    store16(v443, a1);
+    v448 = v49 + 48u * 1u;
+    store16(v49, 4621u);
+    v449 = v49 + 2u * 1u;
+    store16(v449, 13824u);
+    v450 = v49 + 4u * 1u;
+    v451 = (u16)v182;
+    store16(v450, v451);
+    v452 = v49 + 20u * 1u;
+    store64(v452, v207);
+    v453 = swap16(a1);
+    v454 = v49 + 28u * 1u;
+    store16(v454, v453);
+    v455 = swap16(v25);
+    v456 = v49 + 30u * 1u;
+    store16(v456, v455);
+    v457 = v49 + 32u * 1u;
+    store16(v457, 32516u);
+    v458 = v49 + 34u * 1u;
+    store64(v458, v198);
+    v459 = swap16(v26);
+    v460 = v49 + 42u * 1u;
+    store16(v460, v459);
+    v461 = v49 + 44u * 1u;
+    v462 = (u32)v447;
+    v463 = (u32)((u32)v462 << (8u & 31u));
+    v464 = (u32)((u32)v463 | (u32)v446);
+    v465 = (u32)((u32)v464 | (u32)v462);
+    store32(v461, v465);
+    store16(v448, 256u);
+    v466 = v49 + 50u * 1u;
+    store16(v466, 512u);
+    v467 = swap16(v431);
+    v468 = v49 + 52u * 1u;
+    store16(v468, v467);
+    f79(v73, v48, v49);
+    v469 = load64(v206);
+    v470 = load64(v209);
+    v28 = v470; v29 = v469; v30 = 9u; goto L80;
 L80:;
-    v443 = load_address(v442);
-    v26 = 256u; v27 = v443; goto L81;
+    v471 = v28 == v29;
+    if (v471) { v35 = v30; goto L88; }
+    else { goto L81; }
 L81:;
-    v444 = v67 + v26 * 1u;
-    v445 = load64(v444);
-    v446 = (u16)((u32)a1 + (u32)65535u);
-    v447 = (u64)v446;
-    v448 = v445 > v447;
-    if (v448) { goto L82; }
-    else { goto L85; }
+    v472 = v61 + 45u * 1u;
+    v473 = load8(v472);
+    v474 = v473 == 0u;
+    if (v474) { v35 = v30; goto L88; }
+    else { goto L82; }
 L82:;
-    v449 = (u64)((u64)v447 << (4u & 63u));
-    v450 = v27 + v449 * 1u;
-    v451 = v450 + 8u * 1u;
-    v452 = load8(v451);
-    switch (v452) {
-    case 4u: goto L86;
-    case 5u: goto L86;
-    case 7u: goto L86;
-    case 8u: goto L86;
-    case 0u: goto L85;
-    case 1u: goto L85;
-    case 2u: goto L85;
-    case 3u: goto L85;
-    case 6u: goto L85;
-    default: goto L83;
-    }
+    v475 = load8(v75);
+    v476 = v475 == 0u;
+    v477 = v73 + 248u * 1u;
+    if (v476) { v31 = 376u; v32 = v477; goto L84; }
+    else { goto L83; }
 L83:;
-    UNREACHABLE;
+    v478 = load_address(v477);
+    v31 = 256u; v32 = v478; goto L84;
 L84:;
-    v453 = load64(v102);
-    v36 = v453; v37 = v29; v38 = v28; v39 = 0u; v40 = 0u; goto L95;
+    v479 = v73 + v31 * 1u;
+    v480 = load64(v479);
+    v481 = (u16)((u32)a1 + (u32)65535u);
+    v482 = (u64)v481;
+    v483 = v480 > v482;
+    if (v483) { goto L85; }
+    else { v35 = v30; goto L88; }
 L85:;
-    v454 = load64(v102);
-    v36 = v454; v37 = 0u; v38 = v25; v39 = 0u; v40 = 0u; goto L95;
+    v484 = (u64)((u64)v482 << (4u & 63u));
+    v485 = v32 + v484 * 1u;
+    v486 = v485 + 8u * 1u;
+    v487 = load8(v486);
+    switch (v487) {
+    case 4u: goto L89;
+    case 5u: goto L89;
+    case 7u: goto L89;
+    case 8u: goto L89;
+    case 0u: v35 = v30; goto L88;
+    case 1u: v35 = v30; goto L88;
+    case 2u: v35 = v30; goto L88;
+    case 3u: v35 = v30; goto L88;
+    case 6u: v35 = v30; goto L88;
+    default: goto L86;
+    }
 L86:;
-    v455 = load64(v102);
-    v456 = v441 ? 376u : 256u;
-    v457 = v67 + v456 * 1u;
-    v458 = load64(v457);
-    v459 = (u64)((u64)v458 & (u64)65535u);
-    v460 = v459 == 0u;
-    if (v460) { v35 = 0u; goto L94; }
-    else { goto L87; }
+    UNREACHABLE;
 L87:;
-    v461 = (u64)a1;
-    v30 = 0u; v31 = 0u; goto L88;
+    v488 = load64(v108);
+    v42 = v488; v43 = v34; v44 = v33; v45 = 0u; v46 = 0u; goto L98;
 L88:;
-    v462 = (u64)((u64)v459 - (u64)v30);
-    v463 = v462 == v461;
-    if (v463) { v34 = 0u; goto L93; }
-    else { goto L89; }
+    v489 = load64(v108);
+    v42 = v489; v43 = 0u; v44 = v35; v45 = 0u; v46 = 0u; goto L98;
 L89:;
-    if (v441) { v32 = 376u; v33 = v442; goto L91; }
+    v490 = load64(v108);
+    v491 = v476 ? 376u : 256u;
+    v492 = v73 + v491 * 1u;
+    v493 = load64(v492);
+    v494 = (u64)((u64)v493 & (u64)65535u);
+    v495 = v494 == 0u;
+    if (v495) { v41 = 0u; goto L97; }
     else { goto L90; }
 L90:;
-    v464 = load_address(v442);
-    v32 = 256u; v33 = v464; goto L91;
+    v496 = (u64)a1;
+    v36 = 0u; v37 = 0u; goto L91;
 L91:;
-    v465 = v67 + v32 * 1u;
-    v466 = load64(v465);
-    v467 = (u64)((u64)v462 + (u64)65535u);
-    v468 = (u64)((u64)v467 & (u64)65535u);
-    v469 = v466 > v468;
-    if (v469) { goto L92; }
-    else { v34 = 0u; goto L93; }
+    v497 = (u64)((u64)v494 - (u64)v36);
+    v498 = v497 == v496;
+    if (v498) { v40 = 0u; goto L96; }
+    else { goto L92; }
 L92:;
-    v470 = (u64)((u64)v468 << (4u & 63u));
-    v471 = v33 + v470 * 1u;
-    v472 = v471 + 8u * 1u;
-    v473 = load8(v472);
-    v474 = (u64)v473;
-    v475 = ADDRESS(c358) + v474 * 8u;
-    v476 = load64(v475);
-    v34 = v476; goto L93;
+    if (v476) { v38 = 376u; v39 = v477; goto L94; }
+    else { goto L93; }
 L93:;
-    v477 = (u64)((u64)v31 << (1u & 63u));
-    v478 = (u64)((u64)v34 | (u64)v477);
-    v479 = (u64)((u64)v30 + (u64)1u);
-    v480 = v479 == v459;
-    if (v480) { v35 = v478; goto L94; }
-    else { v30 = v479; v31 = v478; goto L88; }
+    v499 = load_address(v477);
+    v38 = 256u; v39 = v499; goto L94;
 L94:;
-    v481 = v55 + 2u * 1u;
-    v482 = load8(v481);
-    v483 = v55 + 3u * 1u;
-    v484 = load8(v483);
-    v485 = (u64)v482;
-    v486 = (u64)((u64)v485 << (8u & 63u));
-    v487 = (u64)v484;
-    v488 = (u64)((u64)v486 | (u64)v487);
-    v489 = v55 + 45u * 1u;
-    v490 = load8(v489);
-    v491 = v490 > 1u ? (u8)((u32)v490 - (u32)1u) : 0u;
-    store8(v489, v491);
-    v36 = v455; v37 = 0u; v38 = v25; v39 = v488; v40 = v35; goto L95;
+    v500 = v73 + v38 * 1u;
+    v501 = load64(v500);
+    v502 = (u64)((u64)v497 + (u64)65535u);
+    v503 = (u64)((u64)v502 & (u64)65535u);
+    v504 = v501 > v503;
+    if (v504) { goto L95; }
+    else { v40 = 0u; goto L96; }
 L95:;
-    v492 = (u8)(v37);
-    v493 = (u8)((u32)v38 | (u32)v492);
-    store64(a6, v40);
-    v494 = a6 + 8u * 1u;
-    store64(v494, v39);
-    v495 = a6 + 16u * 1u;
-    store64(v495, v36);
-    switch (v493) {
-    case 0u: goto L96;
-    case 9u: goto L104;
-    case 1u: v41 = 1u; goto L108;
-    case 2u: goto L97;
-    case 3u: goto L98;
-    case 4u: goto L99;
-    case 5u: goto L100;
-    case 6u: goto L101;
-    case 7u: goto L102;
-    case 8u: goto L103;
-    default: goto L105;
-    }
+    v505 = (u64)((u64)v503 << (4u & 63u));
+    v506 = v39 + v505 * 1u;
+    v507 = v506 + 8u * 1u;
+    v508 = load8(v507);
+    v509 = (u64)v508;
+    v510 = ADDRESS(c364) + v509 * 8u;
+    v511 = load64(v510);
+    v40 = v511; goto L96;
 L96:;
-    v496 = (u32)(v37);
-    v497 = (u32)((u32)v496 >> (8u & 31u));
-    v498 = (u32)((u32)v497 + (u32)16u);
-    v41 = v498; goto L108;
+    v512 = (u64)((u64)v37 << (1u & 63u));
+    v513 = (u64)((u64)v40 | (u64)v512);
+    v514 = (u64)((u64)v36 + (u64)1u);
+    v515 = v514 == v494;
+    if (v515) { v41 = v513; goto L97; }
+    else { v36 = v514; v37 = v513; goto L91; }
 L97:;
-    v41 = 2u; goto L108;
+    v516 = v61 + 2u * 1u;
+    v517 = load8(v516);
+    v518 = v61 + 3u * 1u;
+    v519 = load8(v518);
+    v520 = (u64)v517;
+    v521 = (u64)((u64)v520 << (8u & 63u));
+    v522 = (u64)v519;
+    v523 = (u64)((u64)v521 | (u64)v522);
+    v524 = v473 > 1u ? (u8)((u32)v473 - (u32)1u) : 0u;
+    store8(v472, v524);
+    v42 = v490; v43 = 0u; v44 = v30; v45 = v523; v46 = v41; goto L98;
 L98:;
-    v41 = 3u; goto L108;
+    v525 = (u8)(v43);
+    v526 = (u8)((u32)v44 | (u32)v525);
+    store64(a6, v46);
+    v527 = a6 + 8u * 1u;
+    store64(v527, v45);
+    v528 = a6 + 16u * 1u;
+    store64(v528, v42);
+    switch (v526) {
+    case 0u: goto L99;
+    case 9u: goto L107;
+    case 1u: v47 = 1u; goto L111;
+    case 2u: goto L100;
+    case 3u: goto L101;
+    case 4u: goto L102;
+    case 5u: goto L103;
+    case 6u: goto L104;
+    case 7u: goto L105;
+    case 8u: goto L106;
+    default: goto L108;
+    }
 L99:;
-    v41 = 4u; goto L108;
+    v529 = (u32)(v43);
+    v530 = (u32)((u32)v529 >> (8u & 31u));
+    v531 = (u32)((u32)v530 + (u32)16u);
+    v47 = v531; goto L111;
 L100:;
-    v41 = 5u; goto L108;
+    v47 = 2u; goto L111;
 L101:;
-    v41 = 6u; goto L108;
+    v47 = 3u; goto L111;
 L102:;
-    v41 = 7u; goto L108;
+    v47 = 4u; goto L111;
 L103:;
-    v41 = 8u; goto L108;
+    v47 = 5u; goto L111;
 L104:;
-    v41 = 9u; goto L108;
+    v47 = 6u; goto L111;
 L105:;
-    UNREACHABLE;
+    v47 = 7u; goto L111;
 L106:;
-    v41 = 34u; goto L108;
+    v47 = 8u; goto L111;
 L107:;
-    v41 = 33u; goto L108;
+    v47 = 9u; goto L111;
 L108:;
-    return v41;
+    UNREACHABLE;
+L109:;
+    v47 = 34u; goto L111;
+L110:;
+    v47 = 33u; goto L111;
+L111:;
+    return v47;
 }
 
 u32 portable_ptpm_clock_image(address a0, address a1, u64 a2, address a3) {
@@ -42880,7 +44734,7 @@ L4:;
     UNREACHABLE;
 L5:;
     v17 = load_address(v4);
-    v18 = f77(v17, v8, a2);
+    v18 = f80(v17, v8, a2);
     v19 = v18.m0;
     v20 = v19 == 1u;
     if (v20) { goto L6; }
@@ -42948,12 +44802,12 @@ L2:;
     if (v31) { goto L3; }
     else { goto L4; }
 L3:;
-    f80(v8, v23);
+    f83(v8, v23);
     v32 = v7 + 8u * 1u;
     memory_cpy(v32, v8, 384u);
     v5 = 1u; goto L5;
 L4:;
-    f81(v7, v23);
+    f84(v7, v23);
     v33 = load8(v7);
     v34 = v33 == 0u;
     v5 = v34; goto L5;
@@ -42977,7 +44831,7 @@ L5:;
     else { goto L12; }
 L6:;
     v47 = load_address(v22);
-    v48 = f77(v47, v14, a2);
+    v48 = f80(v47, v14, a2);
     v49 = v48.m0;
     v50 = v48.m1;
     v51 = v49 == 1u;
@@ -43098,7 +44952,7 @@ L5:;
     v21 = load64(v20);
     memory_set(v6, 0u, 88u);
     v22 = v15 + 384u * 1u;
-    f22(v6, v22);
+    f21(v6, v22);
     v23 = v6 + 80u * 1u;
     v24 = load64(v23);
     v25 = v24 == 0u;
@@ -43188,7 +45042,7 @@ L6:;
     goto L8;
 L7:;
     v27 = (u64)v21;
-    f52(v26, v22, v27);
+    f51(v26, v22, v27);
     goto L8;
 L8:;
     v28 = load64(v15);
@@ -43278,7 +45132,7 @@ L6:;
     else { v3 = 0u; goto L9; }
 L7:;
     v41 = load_address(v12);
-    v42 = v41 + 424u * 1u;
+    v42 = v41 + 448u * 1u;
     v43 = load8(v42);
     v44 = v43 == 1u;
     if (v44) { goto L8; }
@@ -43393,7 +45247,7 @@ L2:;
 L3:;
     v54 = v39 + 384u * 1u;
     memory_set(v15, 0u, 88u);
-    f22(v15, v54);
+    f21(v15, v54);
     v55 = v15 + 80u * 1u;
     v56 = load64(v55);
     v57 = v56 == 0u;
@@ -43469,12 +45323,12 @@ L14:;
     if (v93) { goto L15; }
     else { goto L16; }
 L15:;
-    f80(v17, v39);
+    f83(v17, v39);
     v94 = v16 + 8u * 1u;
     memory_cpy(v94, v17, 384u);
     v9 = 1u; goto L17;
 L16:;
-    f81(v16, v39);
+    f84(v16, v39);
     v95 = load8(v16);
     v96 = v95 == 0u;
     v9 = v96; goto L17;
@@ -43510,12 +45364,12 @@ L18:;
     if (v116) { goto L19; }
     else { goto L20; }
 L19:;
-    f80(v19, v39);
+    f83(v19, v39);
     v117 = v23 + 7u * 1u;
     memory_cpy(v117, v19, 384u);
     v10 = v117; goto L25;
 L20:;
-    f81(v18, v39);
+    f84(v18, v39);
     v118 = load8(v18);
     v119 = v18 + 8u * 1u;
     v120 = v23 + 7u * 1u;
@@ -43587,7 +45441,7 @@ L28:;
     default: goto L72;
     }
 L29:;
-    f13(v140);
+    f12(v140);
     v11 = 35u; goto L73;
 L30:;
     v141 = v140 + 48u * 1u;
@@ -43627,13 +45481,13 @@ L34:;
     portable_rattle_dealloc(v152);
     v11 = 35u; goto L73;
 L35:;
-    f15(v140);
+    f14(v140);
     v11 = 35u; goto L73;
 L36:;
-    f16(v140);
+    f15(v140);
     v11 = 35u; goto L73;
 L37:;
-    f17(v140);
+    f16(v140);
     v11 = 35u; goto L73;
 L38:;
     v162 = v140 + 32u * 1u;
@@ -43659,7 +45513,7 @@ L41:;
     portable_rattle_dealloc(v167);
     v11 = 35u; goto L73;
 L42:;
-    f19(v140);
+    f18(v140);
     v11 = 35u; goto L73;
 L43:;
     v172 = v136.m1;
@@ -43721,25 +45575,25 @@ L43:;
     default: goto L72;
     }
 L44:;
-    f13(v195);
+    f12(v195);
     v11 = 0u; goto L73;
 L45:;
-    f14(v195);
+    f13(v195);
     v11 = 0u; goto L73;
 L46:;
-    f15(v195);
+    f14(v195);
     v11 = 0u; goto L73;
 L47:;
-    f16(v195);
+    f15(v195);
     v11 = 0u; goto L73;
 L48:;
-    f17(v195);
+    f16(v195);
     v11 = 0u; goto L73;
 L49:;
-    f18(v195);
+    f17(v195);
     v11 = 0u; goto L73;
 L50:;
-    f19(v195);
+    f18(v195);
     v11 = 0u; goto L73;
 L51:;
     v196 = v101 != 1u;
@@ -43782,7 +45636,7 @@ L57:;
     default: goto L72;
     }
 L58:;
-    f13(v203);
+    f12(v203);
     v11 = 35u; goto L73;
 L59:;
     v204 = v203 + 48u * 1u;
@@ -43822,13 +45676,13 @@ L63:;
     portable_rattle_dealloc(v215);
     v11 = 35u; goto L73;
 L64:;
-    f15(v203);
+    f14(v203);
     v11 = 35u; goto L73;
 L65:;
-    f16(v203);
+    f15(v203);
     v11 = 35u; goto L73;
 L66:;
-    f17(v203);
+    f16(v203);
     v11 = 35u; goto L73;
 L67:;
     v225 = v203 + 32u * 1u;
@@ -43854,7 +45708,7 @@ L70:;
     portable_rattle_dealloc(v230);
     v11 = 35u; goto L73;
 L71:;
-    f19(v203);
+    f18(v203);
     v11 = 35u; goto L73;
 L72:;
     UNREACHABLE;
@@ -43892,170 +45746,217 @@ L1:;
     v7 = load64(v6);
     portable_rattle_dealloc(v1);
     v8 = (address)v7;
-    f12(v5, v8);
+    f11(v5, v8);
     goto L2;
 L2:;
     return;
 }
 
 u32 portable_ptpm_clock_take(address a0, u16 a1, address a2, u64 a3, address a4, u8 a5, address a6, u64 a7, address a8) {
-    u32 v9, v10, v48, v49, v56, v57, v60;
-    address v11, v12, v13, v14, v17, v20, v21, v22, v25, v28, v29, v31, v33, v36, v37, v38;
-    address v41, v43, v45, v46, v47, v50, v52, v58, v59;
-    u8 v15, v18, v23, v24, v26, v27, v30, v32, v34, v35, v40, v42, v51, v53, v54, v55;
-    u64 v16, v19, v39, v44;
+    u8 v9, v13, v24, v27, v32, v33, v35, v36, v39, v41, v43, v44, v49, v55, v59, v70;
+    u8 v77, v79, v80, v81;
+    u64 v10, v11, v12, v25, v28, v48, v51, v58, v62, v64;
+    u32 v14, v15, v74, v75, v82, v83, v86;
+    address v16, v17, v18, v19, v20, v21, v22, v23, v26, v29, v30, v31, v34, v37, v38, v40;
+    address v42, v45, v46, v47, v50, v52, v53, v54, v56, v57, v60, v61, v63, v65, v66, v67;
+    address v68, v69, v71, v72, v73, v76, v78, v84, v85;
     u64 block0[12];
     u64 block1[12];
-    u64 block2[4];
-    u64 block3[10];
-    v11 = ADDRESS(block0);
-    v12 = ADDRESS(block1);
-    v13 = ADDRESS(block2);
-    v14 = ADDRESS(block3);
-    v15 = a2 == 0u;
-    v16 = v15 ? 4096u : 0u;
-    v17 = a2 + v16 * 1u;
-    v18 = a6 == 0u;
-    v19 = v18 ? 4096u : 0u;
-    v20 = a6 + v19 * 1u;
+    u64 block2[3];
+    u64 block3[1];
+    u64 block4[9];
+    u64 block5[12];
+    u64 block6[4];
+    u64 block7[10];
+    v16 = ADDRESS(block0);
+    v17 = ADDRESS(block1);
+    v18 = ADDRESS(block2);
+    v19 = ADDRESS(block3);
+    v20 = ADDRESS(block4);
+    v21 = ADDRESS(block5);
+    v22 = ADDRESS(block6);
+    v23 = ADDRESS(block7);
+    v24 = a2 == 0u;
+    v25 = v24 ? 4096u : 0u;
+    v26 = a2 + v25 * 1u;
+    v27 = a6 == 0u;
+    v28 = v27 ? 4096u : 0u;
+    v29 = a6 + v28 * 1u;
     memory_set(a8, 0u, 88u);
-    v21 = a0 + 9u * 1u;
-    store8(v21, 0u);
-    v22 = a0 + 8u * 1u;
-    v23 = load8(v22);
-    v24 = (u8)((v23) & UINT64_C(1));
-    if (v24) { goto L1; }
-    else { v10 = 32u; goto L26; }
+    v30 = a0 + 9u * 1u;
+    store8(v30, 0u);
+    v31 = a0 + 8u * 1u;
+    v32 = load8(v31);
+    v33 = (u8)((v32) & UINT64_C(1));
+    if (v33) { goto L1; }
+    else { v15 = 32u; goto L29; }
 L1:;
-    v25 = load_address(a0);
-    v26 = a5 == 1u;
-    v27 = load8(v25);
-    switch (v27) {
+    v34 = load_address(a0);
+    v35 = a5 == 1u;
+    v36 = load8(v34);
+    switch (v36) {
     case 1u: goto L2;
-    case 4u: goto L24;
-    case 0u: v10 = 32u; goto L26;
-    case 2u: v10 = 32u; goto L26;
-    case 3u: v10 = 32u; goto L26;
-    case 5u: v10 = 32u; goto L26;
-    case 6u: v10 = 32u; goto L26;
-    case 7u: v10 = 32u; goto L26;
-    default: goto L25;
+    case 4u: goto L27;
+    case 0u: v15 = 32u; goto L29;
+    case 2u: v15 = 32u; goto L29;
+    case 3u: v15 = 32u; goto L29;
+    case 5u: v15 = 32u; goto L29;
+    case 6u: v15 = 32u; goto L29;
+    case 7u: v15 = 32u; goto L29;
+    default: goto L28;
     }
 L2:;
-    v28 = v25 + 8u * 1u;
-    v29 = load_address(v28);
+    v37 = v34 + 8u * 1u;
+    v38 = load_address(v37);
     memory_set(a8, 0u, 88u);
-    memory_set(v13, 0u, 32u);
-    f21(v13, v29, a1, a4, a7);
-    v30 = load8(v13);
-    v31 = v13 + 8u * 1u;
-    v32 = load8(v31);
-    v33 = v13 + 9u * 1u;
-    v34 = load8(v33);
-    v35 = v30 == 0u;
-    if (v35) { goto L3; }
-    else { goto L22; }
+    memory_set(v22, 0u, 32u);
+    f20(v22, v38, a1, a4, a7);
+    v39 = load8(v22);
+    v40 = v22 + 8u * 1u;
+    v41 = load8(v40);
+    v42 = v22 + 9u * 1u;
+    v43 = load8(v42);
+    v44 = v39 == 0u;
+    if (v44) { goto L3; }
+    else { goto L25; }
 L3:;
-    v36 = v13 + 16u * 1u;
-    v37 = load_address(v36);
-    v38 = v13 + 24u * 1u;
-    v39 = load64(v38);
-    memory_set(v12, 0u, 96u);
-    if (v26) { goto L4; }
+    v45 = v22 + 16u * 1u;
+    v46 = load_address(v45);
+    v47 = v22 + 24u * 1u;
+    v48 = load64(v47);
+    memory_set(v21, 0u, 96u);
+    if (v35) { goto L4; }
     else { goto L5; }
 L4:;
-    f23(v12, v29, a1, v17, a3, v20, a7);
-    goto L11;
+    f22(v21, v38, a1, v26, a3, v29, a7);
+    v49 = load8(v21);
+    v50 = v21 + 8u * 1u;
+    v51 = load64(v50);
+    v12 = v51; v13 = v49; goto L14;
 L5:;
-    memory_set(v11, 0u, 96u);
-    switch (v32) {
-    case 0u: goto L6;
-    case 1u: goto L7;
-    case 2u: goto L8;
-    default: goto L9;
-    }
+    store64(v18, 0u);
+    store8(v18, v41);
+    v52 = v18 + 1u * 1u;
+    store8(v52, v43);
+    v53 = v18 + 8u * 1u;
+    store_address(v53, v46);
+    v54 = v18 + 16u * 1u;
+    store64(v54, v48);
+    v55 = f58(v38, v26, a3, v18);
+    if (v55) { goto L6; }
+    else { goto L7; }
 L6:;
-    f45(v11, v29, a1, v17, a3, v20, a7);
-    goto L10;
+    memory_set(v16, 0u, 96u);
+    f44(v16, v38, a1, v26, a3, v29, a7);
+    v56 = v16 + 24u * 1u;
+    v57 = v16 + 8u * 1u;
+    v58 = load64(v57);
+    memory_set(v19, 0u, 7u);
+    memory_cpy(v20, v56, 68u);
+    v9 = 5u; v10 = v58; v11 = 0u; goto L13;
 L7:;
-    f59(v11, v29, a1, v17, a3, v34, v20, a7);
-    goto L10;
-L8:;
-    f64(v11, v29, a1, v17, a3, v37, v39, v20, a7);
-    goto L10;
-L9:;
-    UNREACHABLE;
-L10:;
-    memory_cpy(v12, v11, 96u);
-    goto L11;
-L11:;
-    v40 = load8(v12);
-    v41 = v12 + 1u * 1u;
-    v42 = load8(v41);
-    v43 = v12 + 8u * 1u;
-    v44 = load64(v43);
-    v45 = v12 + 16u * 1u;
-    memory_cpy(v14, v45, 76u);
-    store64(a8, v44);
-    v46 = v14 + 8u * 1u;
-    v47 = a8 + 16u * 1u;
-    memory_cpy(v47, v46, 68u);
-    switch (v40) {
-    case 0u: goto L12;
-    case 9u: goto L20;
-    case 1u: v9 = 1u; goto L23;
-    case 2u: goto L13;
-    case 3u: goto L14;
-    case 4u: goto L15;
-    case 5u: goto L16;
-    case 6u: goto L17;
-    case 7u: goto L18;
-    case 8u: goto L19;
-    default: goto L21;
+    memory_set(v17, 0u, 96u);
+    switch (v41) {
+    case 0u: goto L8;
+    case 1u: goto L9;
+    case 2u: goto L10;
+    default: goto L11;
     }
+L8:;
+    f44(v17, v38, a1, v26, a3, v29, a7);
+    goto L12;
+L9:;
+    f64(v17, v38, a1, v26, a3, v43, v29, a7);
+    goto L12;
+L10:;
+    f69(v17, v38, a1, v26, a3, v46, v48, v29, a7);
+    goto L12;
+L11:;
+    UNREACHABLE;
 L12:;
-    v48 = (u32)v42;
-    v49 = (u32)((u32)v48 + (u32)16u);
-    v9 = v49; goto L23;
+    v59 = load8(v17);
+    v60 = v17 + 1u * 1u;
+    v61 = v17 + 8u * 1u;
+    v62 = load64(v61);
+    v63 = v17 + 16u * 1u;
+    v64 = load64(v63);
+    v65 = v17 + 24u * 1u;
+    memory_cpy(v19, v60, 7u);
+    memory_cpy(v20, v65, 68u);
+    v9 = v59; v10 = v62; v11 = v64; goto L13;
 L13:;
-    v9 = 2u; goto L23;
+    v66 = v21 + 1u * 1u;
+    memory_cpy(v66, v19, 7u);
+    v67 = v21 + 16u * 1u;
+    store64(v67, v11);
+    v68 = v21 + 24u * 1u;
+    memory_cpy(v68, v20, 68u);
+    v12 = v10; v13 = v9; goto L14;
 L14:;
-    v9 = 3u; goto L23;
+    v69 = v21 + 1u * 1u;
+    v70 = load8(v69);
+    v71 = v21 + 16u * 1u;
+    memory_cpy(v23, v71, 76u);
+    store64(a8, v12);
+    v72 = v23 + 8u * 1u;
+    v73 = a8 + 16u * 1u;
+    memory_cpy(v73, v72, 68u);
+    switch (v13) {
+    case 0u: goto L15;
+    case 9u: goto L23;
+    case 1u: v14 = 1u; goto L26;
+    case 2u: goto L16;
+    case 3u: goto L17;
+    case 4u: goto L18;
+    case 5u: goto L19;
+    case 6u: goto L20;
+    case 7u: goto L21;
+    case 8u: goto L22;
+    default: goto L24;
+    }
 L15:;
-    v9 = 4u; goto L23;
+    v74 = (u32)v70;
+    v75 = (u32)((u32)v74 + (u32)16u);
+    v14 = v75; goto L26;
 L16:;
-    v9 = 5u; goto L23;
+    v14 = 2u; goto L26;
 L17:;
-    v9 = 6u; goto L23;
+    v14 = 3u; goto L26;
 L18:;
-    v9 = 7u; goto L23;
+    v14 = 4u; goto L26;
 L19:;
-    v9 = 8u; goto L23;
+    v14 = 5u; goto L26;
 L20:;
-    v9 = 9u; goto L23;
+    v14 = 6u; goto L26;
 L21:;
-    UNREACHABLE;
+    v14 = 7u; goto L26;
 L22:;
-    v50 = v13 + 2u * 1u;
-    v51 = load8(v50);
-    v52 = v13 + 1u * 1u;
-    v53 = load8(v52);
-    v54 = v53 == 0u;
-    v55 = v51 == 0u;
-    v56 = v55 ? 33u : 34u;
-    v57 = v54 ? v56 : 121u;
-    v9 = v57; goto L23;
+    v14 = 8u; goto L26;
 L23:;
-    v10 = v9; goto L26;
+    v14 = 9u; goto L26;
 L24:;
-    v58 = v25 + 8u * 1u;
-    v59 = load_address(v58);
-    v60 = f82(v59, a1, v17, a3, a4, v26, v20, a7, a8);
-    v10 = v60; goto L26;
-L25:;
     UNREACHABLE;
+L25:;
+    v76 = v22 + 2u * 1u;
+    v77 = load8(v76);
+    v78 = v22 + 1u * 1u;
+    v79 = load8(v78);
+    v80 = v79 == 0u;
+    v81 = v77 == 0u;
+    v82 = v81 ? 33u : 34u;
+    v83 = v80 ? v82 : 121u;
+    v14 = v83; goto L26;
 L26:;
-    return v10;
+    v15 = v14; goto L29;
+L27:;
+    v84 = v34 + 8u * 1u;
+    v85 = load_address(v84);
+    v86 = f85(v85, a1, v26, a3, a4, v35, v29, a7, a8);
+    v15 = v86; goto L29;
+L28:;
+    UNREACHABLE;
+L29:;
+    return v15;
 }
 
 u32 portable_ptpm_clock_unsaved(address a0) {
@@ -44108,10 +46009,10 @@ u64 portable_ptpm_error_name(u16 a0, address a1, u64 a2) {
     else { v4 = 0u; goto L5; }
 L1:;
     v13 = (u64)v8;
-    v14 = ADDRESS(c359) + v13 * 8u;
+    v14 = ADDRESS(c365) + v13 * 8u;
     v15 = load64(v14);
     v16 = (u64)v8;
-    v17 = ADDRESS(c360) + v16 * 8u;
+    v17 = ADDRESS(c366) + v16 * 8u;
     v18 = load_address(v17);
     v19 = a2 < v15;
     if (v19) { v4 = 0u; goto L5; }
@@ -44192,87 +46093,87 @@ u32 portable_ptpm_field_parse(u16 a0, address a1, u64 a2, address a3, u64 a4, ad
     memory_set(v81, 0u, 328u);
     memory_set(v82, 0u, 144u);
     memory_set(v83, 0u, 16u);
-    store_address(v80, ADDRESS(c148));
+    store_address(v80, ADDRESS(c155));
     v87 = v80 + 8u * 1u;
     store64(v87, 0u);
     v88 = v80 + 16u * 1u;
-    store_address(v88, ADDRESS(c148));
+    store_address(v88, ADDRESS(c155));
     v89 = v80 + 24u * 1u;
     store64(v89, 0u);
     v90 = v80 + 32u * 1u;
-    store_address(v90, ADDRESS(c148));
+    store_address(v90, ADDRESS(c155));
     v91 = v80 + 40u * 1u;
     store64(v91, 0u);
     v92 = v80 + 48u * 1u;
-    store_address(v92, ADDRESS(c148));
+    store_address(v92, ADDRESS(c155));
     v93 = v80 + 56u * 1u;
     store64(v93, 0u);
     v94 = v80 + 64u * 1u;
-    store_address(v94, ADDRESS(c148));
+    store_address(v94, ADDRESS(c155));
     v95 = v80 + 72u * 1u;
     store64(v95, 0u);
     v96 = v80 + 80u * 1u;
-    store_address(v96, ADDRESS(c148));
+    store_address(v96, ADDRESS(c155));
     v97 = v80 + 88u * 1u;
     store64(v97, 0u);
     v98 = v80 + 96u * 1u;
-    store_address(v98, ADDRESS(c148));
+    store_address(v98, ADDRESS(c155));
     v99 = v80 + 104u * 1u;
     store64(v99, 0u);
     v100 = v80 + 112u * 1u;
-    store_address(v100, ADDRESS(c148));
+    store_address(v100, ADDRESS(c155));
     v101 = v80 + 120u * 1u;
     store64(v101, 0u);
     v102 = v80 + 128u * 1u;
-    store_address(v102, ADDRESS(c148));
+    store_address(v102, ADDRESS(c155));
     v103 = v80 + 136u * 1u;
     store64(v103, 0u);
     v104 = v80 + 144u * 1u;
-    store_address(v104, ADDRESS(c148));
+    store_address(v104, ADDRESS(c155));
     v105 = v80 + 152u * 1u;
     store64(v105, 0u);
     v106 = v80 + 160u * 1u;
-    store_address(v106, ADDRESS(c148));
+    store_address(v106, ADDRESS(c155));
     v107 = v80 + 168u * 1u;
     store64(v107, 0u);
     v108 = v80 + 176u * 1u;
-    store_address(v108, ADDRESS(c148));
+    store_address(v108, ADDRESS(c155));
     v109 = v80 + 184u * 1u;
     store64(v109, 0u);
     v110 = v80 + 192u * 1u;
-    store_address(v110, ADDRESS(c148));
+    store_address(v110, ADDRESS(c155));
     v111 = v80 + 200u * 1u;
     store64(v111, 0u);
     v112 = v80 + 208u * 1u;
-    store_address(v112, ADDRESS(c148));
+    store_address(v112, ADDRESS(c155));
     v113 = v80 + 216u * 1u;
     store64(v113, 0u);
     v114 = v80 + 224u * 1u;
-    store_address(v114, ADDRESS(c148));
+    store_address(v114, ADDRESS(c155));
     v115 = v80 + 232u * 1u;
     store64(v115, 0u);
     v116 = v80 + 240u * 1u;
-    store_address(v116, ADDRESS(c148));
+    store_address(v116, ADDRESS(c155));
     v117 = v80 + 248u * 1u;
     store64(v117, 0u);
     v118 = v80 + 256u * 1u;
-    store_address(v118, ADDRESS(c148));
+    store_address(v118, ADDRESS(c155));
     v119 = v80 + 264u * 1u;
     store64(v119, 0u);
     v120 = v80 + 272u * 1u;
-    store_address(v120, ADDRESS(c148));
+    store_address(v120, ADDRESS(c155));
     v121 = v80 + 280u * 1u;
     store64(v121, 0u);
     v122 = v80 + 288u * 1u;
-    store_address(v122, ADDRESS(c148));
+    store_address(v122, ADDRESS(c155));
     v123 = v80 + 296u * 1u;
     store64(v123, 0u);
     v124 = v80 + 304u * 1u;
-    store_address(v124, ADDRESS(c148));
+    store_address(v124, ADDRESS(c155));
     v125 = v80 + 312u * 1u;
     memory_set(v125, 0u, 16u);
     v126 = a2 == 0u;
-    if (v126) { v13 = ADDRESS(c148); v14 = 0u; v15 = ADDRESS(c148); v16 = 0u; v17 = ADDRESS(c148); v18 = 0u; v19 = ADDRESS(c148); v20 = 0u; v21 = ADDRESS(c148); v22 = 0u; v23 = ADDRESS(c148); v24 = 0u; v25 = ADDRESS(c148); v26 = 0u; v27 = ADDRESS(c148); v28 = 0u; v29 = ADDRESS(c148); v30 = 0u; v31 = ADDRESS(c148); v32 = 0u; v33 = ADDRESS(c148); v34 = 0u; v35 = ADDRESS(c148); v36 = 0u; v37 = ADDRESS(c148); v38 = 0u; v39 = ADDRESS(c148); v40 = 0u; v41 = ADDRESS(c148); v42 = 0u; v43 = ADDRESS(c148); v44 = 0u; v45 = ADDRESS(c148); v46 = 0u; v47 = ADDRESS(c148); v48 = 0u; v49 = ADDRESS(c148); v50 = 0u; v51 = ADDRESS(c148); goto L10; }
+    if (v126) { v13 = ADDRESS(c155); v14 = 0u; v15 = ADDRESS(c155); v16 = 0u; v17 = ADDRESS(c155); v18 = 0u; v19 = ADDRESS(c155); v20 = 0u; v21 = ADDRESS(c155); v22 = 0u; v23 = ADDRESS(c155); v24 = 0u; v25 = ADDRESS(c155); v26 = 0u; v27 = ADDRESS(c155); v28 = 0u; v29 = ADDRESS(c155); v30 = 0u; v31 = ADDRESS(c155); v32 = 0u; v33 = ADDRESS(c155); v34 = 0u; v35 = ADDRESS(c155); v36 = 0u; v37 = ADDRESS(c155); v38 = 0u; v39 = ADDRESS(c155); v40 = 0u; v41 = ADDRESS(c155); v42 = 0u; v43 = ADDRESS(c155); v44 = 0u; v45 = ADDRESS(c155); v46 = 0u; v47 = ADDRESS(c155); v48 = 0u; v49 = ADDRESS(c155); v50 = 0u; v51 = ADDRESS(c155); goto L10; }
     else { goto L1; }
 L1:;
     v127 = a1 == 0u;
@@ -44298,7 +46199,7 @@ L4:;
     if (v138) { goto L7; }
     else { v10 = v136; v11 = v137; v12 = v135; goto L3; }
 L5:;
-    f28(v79, v9, v11);
+    f27(v79, v9, v11);
     v139 = load8(v79);
     v140 = v139 == 0u;
     if (v140) { goto L6; }
@@ -44515,7 +46416,7 @@ L30:;
     v52 = 11u; v53 = 4u; goto L31;
 L31:;
     memory_set(v78, 0u, 144u);
-    v232 = f84(v52, v53);
+    v232 = f88(v52, v53);
     v233 = v232 > 130u;
     if (v233) { goto L33; }
     else { goto L32; }
@@ -44526,8 +46427,8 @@ L32:;
     goto L33;
 L33:;
     switch (v52) {
-    case 1u: v54 = ADDRESS(c157); goto L47;
-    case 2u: v55 = 10u; v56 = ADDRESS(c158); goto L48;
+    case 1u: v54 = ADDRESS(c163); goto L47;
+    case 2u: v55 = 10u; v56 = ADDRESS(c164); goto L48;
     case 3u: goto L34;
     case 4u: goto L35;
     case 5u: goto L36;
@@ -44546,32 +46447,32 @@ L33:;
     default: goto L45;
     }
 L34:;
-    v55 = 3u; v56 = ADDRESS(c159); goto L48;
+    v55 = 3u; v56 = ADDRESS(c165); goto L48;
 L35:;
-    v55 = 10u; v56 = ADDRESS(c160); goto L48;
+    v55 = 10u; v56 = ADDRESS(c166); goto L48;
 L36:;
-    v55 = 8u; v56 = ADDRESS(c161); goto L48;
+    v55 = 8u; v56 = ADDRESS(c167); goto L48;
 L37:;
-    v55 = 10u; v56 = ADDRESS(c162); goto L48;
+    v55 = 10u; v56 = ADDRESS(c168); goto L48;
 L38:;
-    v54 = ADDRESS(c163); goto L47;
+    v54 = ADDRESS(c169); goto L47;
 L39:;
-    v54 = ADDRESS(c164); goto L47;
+    v54 = ADDRESS(c170); goto L47;
 L40:;
-    v54 = ADDRESS(c165); goto L47;
+    v54 = ADDRESS(c171); goto L47;
 L41:;
-    v54 = ADDRESS(c166); goto L47;
-L42:;
     v54 = ADDRESS(c172); goto L47;
+L42:;
+    v54 = ADDRESS(c178); goto L47;
 L43:;
-    v54 = ADDRESS(c173); goto L47;
+    v54 = ADDRESS(c179); goto L47;
 L44:;
-    v55 = 4u; v56 = ADDRESS(c174); goto L48;
+    v55 = 4u; v56 = ADDRESS(c180); goto L48;
 L45:;
     UNREACHABLE;
 L46:;
     v235 = (u64)v53;
-    v236 = ADDRESS(c361) + v235 * 8u;
+    v236 = ADDRESS(c367) + v235 * 8u;
     v237 = load_address(v236);
     v54 = v237; goto L47;
 L47:;
@@ -44625,7 +46526,7 @@ L52:;
     store8(v241, v263);
     v264 = load8(v244);
     store8(v243, v264);
-    v265 = f90(v75);
+    v265 = f94(v75);
     v266 = v265.m0;
     v267 = v265.m1;
     v268 = v257 == v267;
@@ -44659,7 +46560,7 @@ L55:;
 L56:;
     v61 = v264; v62 = v263; v63 = v262; v64 = 2u; goto L58;
 L57:;
-    f85(v76, v74, v259, v261, v78);
+    f89(v76, v74, v259, v261, v78);
     v285 = load8(v76);
     v286 = load8(v245);
     v287 = load8(v246);
@@ -44673,7 +46574,7 @@ L58:;
 L59:;
     goto L62;
 L60:;
-    f85(v77, v54, v51, v50, v78);
+    f89(v77, v54, v51, v50, v78);
     v291 = load8(v77);
     v292 = v77 + 1u * 1u;
     v293 = load8(v292);
@@ -44720,7 +46621,7 @@ L69:;
     store8(v304, v67);
     v305 = v72 + 2u * 1u;
     store8(v305, v68);
-    v306 = f92(a0, v72);
+    v306 = f96(a0, v72);
     v69 = 0u; v70 = v306; v71 = 116u; goto L71;
 L70:;
     store8(v73, v66);
@@ -44728,7 +46629,7 @@ L70:;
     store8(v307, v67);
     v308 = v73 + 2u * 1u;
     store8(v308, v68);
-    v309 = f92(a0, v73);
+    v309 = f96(a0, v73);
     v69 = 0u; v70 = v309; v71 = 117u; goto L71;
 L71:;
     store64(a5, v69);
@@ -44756,7 +46657,7 @@ u64 portable_ptpm_field_takes(u16 a0, u64 a1, address a2, u64 a3) {
     switch (a0) {
     case 24577u: goto L14;
     case 2u: goto L1;
-    case 8192u: v4 = 10u; v5 = ADDRESS(c158); goto L18;
+    case 8192u: v4 = 10u; v5 = ADDRESS(c164); goto L18;
     case 8193u: goto L3;
     case 8194u: goto L4;
     case 8195u: goto L5;
@@ -44775,39 +46676,39 @@ u64 portable_ptpm_field_takes(u16 a0, u64 a1, address a2, u64 a3) {
     default: v18 = 0u; goto L63;
     }
 L1:;
-    v4 = 1u; v5 = ADDRESS(c157); goto L18;
-L2:;
-    v4 = 1u; v5 = ADDRESS(c167); goto L18;
-L3:;
-    v4 = 3u; v5 = ADDRESS(c159); goto L18;
-L4:;
-    v4 = 10u; v5 = ADDRESS(c160); goto L18;
-L5:;
-    v4 = 8u; v5 = ADDRESS(c161); goto L18;
-L6:;
-    v4 = 10u; v5 = ADDRESS(c162); goto L18;
-L7:;
     v4 = 1u; v5 = ADDRESS(c163); goto L18;
-L8:;
-    v4 = 1u; v5 = ADDRESS(c164); goto L18;
-L9:;
-    v4 = 1u; v5 = ADDRESS(c165); goto L18;
-L10:;
-    v4 = 1u; v5 = ADDRESS(c166); goto L18;
-L11:;
-    v4 = 1u; v5 = ADDRESS(c168); goto L18;
-L12:;
-    v4 = 1u; v5 = ADDRESS(c169); goto L18;
-L13:;
-    v4 = 1u; v5 = ADDRESS(c170); goto L18;
-L14:;
-    v4 = 1u; v5 = ADDRESS(c171); goto L18;
-L15:;
-    v4 = 1u; v5 = ADDRESS(c172); goto L18;
-L16:;
+L2:;
     v4 = 1u; v5 = ADDRESS(c173); goto L18;
+L3:;
+    v4 = 3u; v5 = ADDRESS(c165); goto L18;
+L4:;
+    v4 = 10u; v5 = ADDRESS(c166); goto L18;
+L5:;
+    v4 = 8u; v5 = ADDRESS(c167); goto L18;
+L6:;
+    v4 = 10u; v5 = ADDRESS(c168); goto L18;
+L7:;
+    v4 = 1u; v5 = ADDRESS(c169); goto L18;
+L8:;
+    v4 = 1u; v5 = ADDRESS(c170); goto L18;
+L9:;
+    v4 = 1u; v5 = ADDRESS(c171); goto L18;
+L10:;
+    v4 = 1u; v5 = ADDRESS(c172); goto L18;
+L11:;
+    v4 = 1u; v5 = ADDRESS(c174); goto L18;
+L12:;
+    v4 = 1u; v5 = ADDRESS(c175); goto L18;
+L13:;
+    v4 = 1u; v5 = ADDRESS(c176); goto L18;
+L14:;
+    v4 = 1u; v5 = ADDRESS(c177); goto L18;
+L15:;
+    v4 = 1u; v5 = ADDRESS(c178); goto L18;
+L16:;
+    v4 = 1u; v5 = ADDRESS(c179); goto L18;
 L17:;
-    v4 = 4u; v5 = ADDRESS(c174); goto L18;
+    v4 = 4u; v5 = ADDRESS(c180); goto L18;
 L18:;
     v23 = a1 < v4;
     if (v23) { goto L19; }
@@ -44832,7 +46733,7 @@ L19:;
     if (v35) { goto L20; }
     else { goto L49; }
 L20:;
-    f93(1u, 1u, v19);
+    f97(1u, 1u, v19);
     v36 = load8(v31);
     v37 = v36 == 1u;
     if (v37) { goto L21; }
@@ -44851,7 +46752,7 @@ L22:;
     v45 = (u64)((u64)v38 + (u64)2u);
     v46 = v44 + v38 * 1u;
     v47 = (u64)v46;
-    v48 = (u64)((u64)v47 - (u64)ADDRESS(c295));
+    v48 = (u64)((u64)v47 - (u64)ADDRESS(c301));
     v49 = v48 < 2u;
     if (v49) { goto L23; }
     else { goto L24; }
@@ -44868,7 +46769,7 @@ L25:;
     store64(v32, v6);
     goto L26;
 L26:;
-    f93(1u, 2u, v19);
+    f97(1u, 2u, v19);
     v51 = load8(v31);
     v52 = v51 == 1u;
     if (v52) { goto L27; }
@@ -44887,7 +46788,7 @@ L28:;
     v60 = (u64)((u64)v53 + (u64)2u);
     v61 = v59 + v53 * 1u;
     v62 = (u64)v61;
-    v63 = (u64)((u64)v62 - (u64)ADDRESS(c295));
+    v63 = (u64)((u64)v62 - (u64)ADDRESS(c301));
     v64 = v63 < 2u;
     if (v64) { goto L30; }
     else { goto L29; }
@@ -44904,7 +46805,7 @@ L31:;
     store64(v32, v8);
     goto L32;
 L32:;
-    f93(1u, 3u, v19);
+    f97(1u, 3u, v19);
     v66 = load8(v31);
     v67 = v66 == 1u;
     if (v67) { goto L33; }
@@ -44923,7 +46824,7 @@ L34:;
     v75 = (u64)((u64)v68 + (u64)2u);
     v76 = v74 + v68 * 1u;
     v77 = (u64)v76;
-    v78 = (u64)((u64)v77 - (u64)ADDRESS(c295));
+    v78 = (u64)((u64)v77 - (u64)ADDRESS(c301));
     v79 = v78 < 2u;
     if (v79) { goto L36; }
     else { goto L35; }
@@ -44940,7 +46841,7 @@ L37:;
     store64(v32, v10);
     goto L38;
 L38:;
-    f93(1u, 4u, v19);
+    f97(1u, 4u, v19);
     v81 = load8(v31);
     v82 = v81 == 1u;
     if (v82) { goto L39; }
@@ -44959,7 +46860,7 @@ L40:;
     v90 = (u64)((u64)v83 + (u64)2u);
     v91 = v89 + v83 * 1u;
     v92 = (u64)v91;
-    v93 = (u64)((u64)v92 - (u64)ADDRESS(c295));
+    v93 = (u64)((u64)v92 - (u64)ADDRESS(c301));
     v94 = v93 < 2u;
     if (v94) { goto L42; }
     else { goto L41; }
@@ -44976,7 +46877,7 @@ L43:;
     store64(v32, v12);
     goto L44;
 L44:;
-    f93(1u, 254u, v19);
+    f97(1u, 254u, v19);
     v96 = load8(v31);
     v97 = v96 == 1u;
     if (v97) { goto L45; }
@@ -44995,7 +46896,7 @@ L46:;
     v105 = (u64)((u64)v98 + (u64)26u);
     v106 = v104 + v98 * 1u;
     v107 = (u64)v106;
-    v108 = (u64)((u64)v107 - (u64)ADDRESS(c293));
+    v108 = (u64)((u64)v107 - (u64)ADDRESS(c299));
     v109 = v108 < 26u;
     if (v109) { goto L47; }
     else { goto L48; }
@@ -45053,15 +46954,15 @@ L47:;
     store8(v134, 53u);
     v17 = v105; goto L62;
 L48:;
-    memory_cpy(v106, ADDRESS(c293), 26u);
+    memory_cpy(v106, ADDRESS(c299), 26u);
     v17 = v105; goto L62;
 L49:;
     switch (v27) {
     case 0u: goto L50;
     case 1u: goto L51;
     case 2u: goto L52;
-    case 3u: v14 = 13u; v15 = ADDRESS(c298); goto L58;
-    case 4u: v14 = 13u; v15 = ADDRESS(c298); goto L58;
+    case 3u: v14 = 13u; v15 = ADDRESS(c304); goto L58;
+    case 4u: v14 = 13u; v15 = ADDRESS(c304); goto L58;
     case 5u: goto L54;
     case 10u: goto L55;
     case 6u: goto L56;
@@ -45075,25 +46976,25 @@ L49:;
     default: goto L57;
     }
 L50:;
-    if (v34) { v14 = 56u; v15 = ADDRESS(c301); goto L58; }
+    if (v34) { v14 = 56u; v15 = ADDRESS(c307); goto L58; }
     else { goto L56; }
 L51:;
-    if (v34) { v14 = 56u; v15 = ADDRESS(c301); goto L58; }
+    if (v34) { v14 = 56u; v15 = ADDRESS(c307); goto L58; }
     else { goto L56; }
 L52:;
     switch (v29) {
-    case 1u: v14 = 25u; v15 = ADDRESS(c296); goto L58;
+    case 1u: v14 = 25u; v15 = ADDRESS(c302); goto L58;
     case 2u: goto L53;
     default: goto L56;
     }
 L53:;
-    v14 = 29u; v15 = ADDRESS(c297); goto L58;
+    v14 = 29u; v15 = ADDRESS(c303); goto L58;
 L54:;
-    v14 = 55u; v15 = ADDRESS(c299); goto L58;
+    v14 = 55u; v15 = ADDRESS(c305); goto L58;
 L55:;
-    v14 = 37u; v15 = ADDRESS(c300); goto L58;
+    v14 = 37u; v15 = ADDRESS(c306); goto L58;
 L56:;
-    v14 = 8u; v15 = ADDRESS(c302); goto L58;
+    v14 = 8u; v15 = ADDRESS(c308); goto L58;
 L57:;
     UNREACHABLE;
 L58:;
@@ -45204,7 +47105,7 @@ u64 portable_ptpm_field_text(u16 a0, address a1, u64 a2, address a3, u64 a4) {
     store64(v209, 1u);
     v210 = v201 + 24u * 1u;
     store64(v210, 0u);
-    v211 = f94(a0, v204, a2);
+    v211 = f98(a0, v204, a2);
     v212 = v211.m0;
     v213 = v211.m1;
     v214 = v213 == 0u;
@@ -45236,7 +47137,7 @@ L2:;
     else { goto L8; }
 L3:;
     v234 = (u64)v207;
-    v235 = (u64)((u64)v234 - (u64)ADDRESS(c313));
+    v235 = (u64)((u64)v234 - (u64)ADDRESS(c319));
     v236 = v235 < 6u;
     if (v236) { goto L4; }
     else { goto L5; }
@@ -45254,7 +47155,7 @@ L4:;
     store8(v241, 32u);
     goto L6;
 L5:;
-    memory_cpy(v207, ADDRESS(c313), 6u);
+    memory_cpy(v207, ADDRESS(c319), 6u);
     goto L6;
 L6:;
     v242 = a2 == 0u;
@@ -45385,7 +47286,7 @@ L26:;
     store8(v200, v286);
     store8(v215, v288);
     store8(v216, v290);
-    v307 = f90(v200);
+    v307 = f94(v200);
     v308 = v307.m0;
     v309 = v307.m1;
     v310 = v41 == 1u;
@@ -45467,7 +47368,7 @@ L38:;
     v345 = (u64)((u64)v338 + (u64)2u);
     v346 = v344 + v338 * 1u;
     v347 = (u64)v346;
-    v348 = (u64)((u64)v347 - (u64)ADDRESS(c294));
+    v348 = (u64)((u64)v347 - (u64)ADDRESS(c300));
     v349 = v348 < 2u;
     if (v349) { goto L39; }
     else { goto L40; }
@@ -45540,7 +47441,7 @@ L49:;
     if (v380) { v168 = v85; v169 = v86; v170 = v87; v171 = v88; v172 = v89; v173 = v90; v174 = v91; v175 = v92; v176 = v93; v177 = v94; v178 = v95; v179 = v96; goto L176; }
     else { v69 = v85; v70 = v86; v71 = v87; v72 = v88; v73 = v89; v74 = v90; v75 = v91; v76 = v92; v77 = v93; v78 = v94; v79 = v95; v80 = v96; v81 = v97; v82 = v379; goto L43; }
 L50:;
-    f96(v199, v294, v296, v298, v299);
+    f100(v199, v294, v296, v298, v299);
     v381 = load8(v199);
     v382 = load8(v217);
     v383 = load8(v218);
@@ -45566,11 +47467,11 @@ L50:;
     default: goto L174;
     }
 L51:;
-    f97(v387, v201);
+    f101(v387, v201);
     goto L175;
 L52:;
     memory_set(v196, 0u, 40u);
-    v389 = f98(v196, v387);
+    v389 = f102(v196, v387);
     v390 = v389.m0;
     v391 = v389.m1;
     v392 = v98 == 1u;
@@ -45616,7 +47517,7 @@ L58:;
 L59:;
     v411 = (u8)((v382) & UINT64_C(1));
     v412 = v411 ? 4u : 5u;
-    v413 = v411 ? ADDRESS(c175) : ADDRESS(c176);
+    v413 = v411 ? ADDRESS(c181) : ADDRESS(c182);
     v414 = v99 == 1u;
     if (v414) { goto L60; }
     else { goto L175; }
@@ -45680,7 +47581,7 @@ L68:;
     goto L69;
 L69:;
     v443 = (u64)((u64)v433 >> (16u & 63u));
-    f97(v443, v201);
+    f101(v443, v201);
     v444 = load8(v209);
     v445 = v444 == 1u;
     if (v445) { goto L70; }
@@ -45709,7 +47610,7 @@ L74:;
     v454 = (u32)((u32)v117 * (u32)10u);
     v455 = (u32)((u32)v454 >> (16u & 31u));
     v456 = (u64)v455;
-    f97(v456, v201);
+    f101(v456, v201);
     v457 = (u32)((u32)v454 & (u32)65534u);
     v458 = v457 == 0u;
     v459 = (u8)((u32)v118 + (u32)255u);
@@ -45861,10 +47762,10 @@ L95:;
     goto L96;
 L96:;
     v528 = (u64)((u64)v491 & (u64)65535u);
-    f97(v528, v201);
+    f101(v528, v201);
     goto L175;
 L97:;
-    f93(v382, v383, v201);
+    f97(v382, v383, v201);
     goto L175;
 L98:;
     v529 = v103 == 1u;
@@ -45884,7 +47785,7 @@ L100:;
     v537 = (u64)((u64)v530 + (u64)6u);
     v538 = v536 + v530 * 1u;
     v539 = (u64)v538;
-    v540 = (u64)((u64)v539 - (u64)ADDRESS(c320));
+    v540 = (u64)((u64)v539 - (u64)ADDRESS(c326));
     v541 = v540 < 6u;
     if (v541) { goto L101; }
     else { goto L102; }
@@ -45902,7 +47803,7 @@ L101:;
     store8(v546, 32u);
     v137 = v537; v138 = 1u; goto L103;
 L102:;
-    memory_cpy(v538, ADDRESS(c320), 6u);
+    memory_cpy(v538, ADDRESS(c326), 6u);
     v137 = v537; v138 = 1u; goto L103;
 L103:;
     store64(v209, v138);
@@ -45910,7 +47811,7 @@ L103:;
     goto L104;
 L104:;
     v547 = (u64)v383;
-    f97(v547, v201);
+    f101(v547, v201);
     v548 = load8(v209);
     v549 = v548 == 1u;
     if (v549) { goto L105; }
@@ -45929,7 +47830,7 @@ L106:;
     v557 = (u64)((u64)v550 + (u64)12u);
     v558 = v556 + v550 * 1u;
     v559 = (u64)v558;
-    v560 = (u64)((u64)v559 - (u64)ADDRESS(c321));
+    v560 = (u64)((u64)v559 - (u64)ADDRESS(c327));
     v561 = v560 < 12u;
     if (v561) { goto L107; }
     else { goto L108; }
@@ -45959,7 +47860,7 @@ L107:;
     store8(v572, 120u);
     goto L109;
 L108:;
-    memory_cpy(v558, ADDRESS(c321), 12u);
+    memory_cpy(v558, ADDRESS(c327), 12u);
     goto L109;
 L109:;
     v573 = load64(v208);
@@ -46008,7 +47909,7 @@ L114:;
     v599 = (u64)((u64)v550 + (u64)26u);
     v600 = v598 + v591 * 1u;
     v601 = (u64)v600;
-    v602 = (u64)((u64)v601 - (u64)ADDRESS(c322));
+    v602 = (u64)((u64)v601 - (u64)ADDRESS(c328));
     v603 = v602 < 12u;
     if (v603) { goto L115; }
     else { goto L116; }
@@ -46038,7 +47939,7 @@ L115:;
     store8(v614, 120u);
     goto L117;
 L116:;
-    memory_cpy(v600, ADDRESS(c322), 12u);
+    memory_cpy(v600, ADDRESS(c328), 12u);
     goto L117;
 L117:;
     v615 = (u16)((u32)v385 >> (8u & 15u));
@@ -46172,7 +48073,7 @@ L136:;
     v681 = (u64)((u64)v674 + (u64)2u);
     v682 = v680 + v674 * 1u;
     v683 = (u64)v682;
-    v684 = (u64)((u64)v683 - (u64)ADDRESS(c323));
+    v684 = (u64)((u64)v683 - (u64)ADDRESS(c329));
     v685 = v684 < 2u;
     if (v685) { goto L137; }
     else { goto L138; }
@@ -46449,7 +48350,7 @@ u32 portable_ptpm_id_at(u64 a0) {
     else { v1 = UINT32_C(65536); goto L2; }
 L1:;
     v3 = (u64)((u64)a0 << (1u & 63u));
-    v4 = ADDRESS(c324) + v3 * 1u;
+    v4 = ADDRESS(c330) + v3 * 1u;
     v5 = load16(v4);
     v6 = (u32)v5;
     v1 = v6; goto L2;
@@ -46465,7 +48366,7 @@ u64 portable_ptpm_id_name(u16 a0, address a1, u64 a2) {
     v8 = v7 ? 4096u : 0u;
     v9 = a1 + v8 * 1u;
     switch (a0) {
-    case 0u: v3 = ADDRESS(c120); v4 = 19u; goto L21;
+    case 0u: v3 = ADDRESS(c126); v4 = 19u; goto L21;
     case 2u: goto L1;
     case 8192u: goto L2;
     case 8193u: goto L3;
@@ -46489,45 +48390,45 @@ u64 portable_ptpm_id_name(u16 a0, address a1, u64 a2) {
     default: v6 = 0u; goto L25;
     }
 L1:;
-    v3 = ADDRESS(c121); v4 = 16u; goto L21;
+    v3 = ADDRESS(c127); v4 = 16u; goto L21;
 L2:;
-    v3 = ADDRESS(c122); v4 = 16u; goto L21;
+    v3 = ADDRESS(c128); v4 = 16u; goto L21;
 L3:;
-    v3 = ADDRESS(c123); v4 = 16u; goto L21;
+    v3 = ADDRESS(c129); v4 = 16u; goto L21;
 L4:;
-    v3 = ADDRESS(c124); v4 = 15u; goto L21;
+    v3 = ADDRESS(c130); v4 = 15u; goto L21;
 L5:;
-    v3 = ADDRESS(c125); v4 = 24u; goto L21;
+    v3 = ADDRESS(c131); v4 = 24u; goto L21;
 L6:;
-    v3 = ADDRESS(c126); v4 = 13u; goto L21;
+    v3 = ADDRESS(c132); v4 = 13u; goto L21;
 L7:;
-    v3 = ADDRESS(c127); v4 = 9u; goto L21;
+    v3 = ADDRESS(c133); v4 = 9u; goto L21;
 L8:;
-    v3 = ADDRESS(c128); v4 = 9u; goto L21;
+    v3 = ADDRESS(c134); v4 = 9u; goto L21;
 L9:;
-    v3 = ADDRESS(c129); v4 = 6u; goto L21;
+    v3 = ADDRESS(c135); v4 = 6u; goto L21;
 L10:;
-    v3 = ADDRESS(c130); v4 = 10u; goto L21;
+    v3 = ADDRESS(c136); v4 = 10u; goto L21;
 L11:;
-    v3 = ADDRESS(c136); v4 = 21u; goto L21;
+    v3 = ADDRESS(c142); v4 = 21u; goto L21;
 L12:;
-    v3 = ADDRESS(c138); v4 = 24u; goto L21;
+    v3 = ADDRESS(c144); v4 = 24u; goto L21;
 L13:;
-    v3 = ADDRESS(c140); v4 = 17u; goto L21;
+    v3 = ADDRESS(c146); v4 = 17u; goto L21;
 L14:;
-    v3 = ADDRESS(c131); v4 = 14u; goto L21;
+    v3 = ADDRESS(c137); v4 = 14u; goto L21;
 L15:;
-    v3 = ADDRESS(c132); v4 = 11u; goto L21;
+    v3 = ADDRESS(c138); v4 = 11u; goto L21;
 L16:;
-    v3 = ADDRESS(c133); v4 = 12u; goto L21;
+    v3 = ADDRESS(c139); v4 = 12u; goto L21;
 L17:;
-    v3 = ADDRESS(c134); v4 = 14u; goto L21;
+    v3 = ADDRESS(c140); v4 = 14u; goto L21;
 L18:;
-    v3 = ADDRESS(c135); v4 = 14u; goto L21;
+    v3 = ADDRESS(c141); v4 = 14u; goto L21;
 L19:;
-    v3 = ADDRESS(c142); v4 = 15u; goto L21;
+    v3 = ADDRESS(c148); v4 = 15u; goto L21;
 L20:;
-    v3 = ADDRESS(c144); v4 = 27u; goto L21;
+    v3 = ADDRESS(c150); v4 = 27u; goto L21;
 L21:;
     v10 = a2 < v4;
     if (v10) { v6 = 0u; goto L25; }
@@ -46565,7 +48466,7 @@ u32 portable_ptpm_id_named(address a0, u64 a1) {
     v2 = a0 == 0u;
     v3 = v2 ? 4096u : 0u;
     v4 = a0 + v3 * 1u;
-    v5 = f99(v4, a1);
+    v5 = f103(v4, a1);
     v6 = v5.m0;
     v7 = v6 == 1u;
     v8 = v5.m1;
@@ -46603,13 +48504,13 @@ L2:;
 L3:;
     v11 = v5 + 2u * 1u;
     v12 = (u64)((u64)a1 + (u64)UINT64_C(18446744073709551614));
-    v13 = f100(v11, v12);
+    v13 = f104(v11, v12);
     v2 = v13; goto L5;
 L4:;
-    v14 = f99(v5, a1);
+    v14 = f103(v5, a1);
     v15 = v14.m0;
     v16 = v14.m1;
-    v17 = f100(v5, a1);
+    v17 = f104(v5, a1);
     v18 = v17.m0;
     v19 = v17.m1;
     v20 = (u8)((v15) & UINT64_C(1));
@@ -46642,7 +48543,7 @@ u8 portable_ptpm_identity_parse(address a0, u64 a1, address a2) {
     v8 = a0 + v7 * 1u;
     memory_set(v5, 0u, 9u);
     memory_set(v4, 0u, 24u);
-    f28(v4, v8, a1);
+    f27(v4, v8, a1);
     v9 = load8(v4);
     v10 = v9 == 0u;
     if (v10) { goto L2; }
@@ -46654,7 +48555,7 @@ L2:;
     v12 = load_address(v11);
     v13 = v4 + 16u * 1u;
     v14 = load64(v13);
-    f101(v5, v12, v14);
+    f105(v5, v12, v14);
     v15 = load8(v5);
     v16 = v15 == 1u;
     if (v16) { goto L3; }
@@ -46693,7 +48594,7 @@ L1:;
     v18 = v7 + 4u * 1u;
     store64(v18, v17);
     store64(v16, 12u);
-    v19 = f102(v14, a2, v7, 12u);
+    v19 = f106(v14, a2, v7, 12u);
     v20 = swap32(v19);
     v21 = v7 + 12u * 1u;
     store32(v21, v20);
@@ -46719,7 +48620,7 @@ u32 portable_ptpm_image_unseal(address a0, u64 a1, address a2, address a3) {
     memory_set(v5, 0u, 24u);
     store64(a2, 0u);
     store64(a3, 0u);
-    f103(v5, v8, a1);
+    f107(v5, v8, a1);
     v9 = load8(v5);
     v10 = v9 == 0u;
     if (v10) { goto L1; }
@@ -46979,7 +48880,7 @@ L12:;
     v186 = v19 + 24u * 1u;
     store64(v186, v13);
     v187 = load_address(v179);
-    f104(v20, v187, v19, v23, a3, v26, a5, v29, a7);
+    f108(v20, v187, v19, v23, a3, v26, a5, v29, a7);
     v188 = load8(v20);
     v189 = v188 == 0u;
     if (v189) { goto L13; }
@@ -46993,7 +48894,7 @@ L14:;
     v192 = v20 + 1u * 1u;
     v193 = load8(v192);
     v194 = (u64)v193;
-    v195 = ADDRESS(c362) + v194 * 4u;
+    v195 = ADDRESS(c368) + v194 * 4u;
     v196 = load32(v195);
     v18 = v196; goto L15;
 L15:;
@@ -47069,7 +48970,7 @@ L1:;
 L2:;
     v29 = v26 + 8u * 1u;
     v30 = load_address(v29);
-    f109(v19, v30, v22, a2);
+    f113(v19, v30, v22, a2);
     v31 = load8(v19);
     v32 = v31 == 0u;
     if (v32) { goto L3; }
@@ -47214,7 +49115,7 @@ L15:;
     v113 = v19 + 1u * 1u;
     v114 = load8(v113);
     v115 = (u64)v114;
-    v116 = ADDRESS(c363) + v115 * 4u;
+    v116 = ADDRESS(c369) + v115 * 4u;
     v117 = load32(v116);
     v18 = v117; goto L16;
 L16:;
@@ -47238,7 +49139,7 @@ L1:;
     v7 = load64(v6);
     portable_rattle_dealloc(v1);
     v8 = (address)v7;
-    f12(v5, v8);
+    f11(v5, v8);
     goto L2;
 L2:;
     return;
@@ -47308,11 +49209,11 @@ u16 portable_ptpm_limits_say(address a0, u64 a1, address a2) {
     default: goto L11;
     }
 L1:;
-    v11 = f111(v8, a1, a2);
+    v11 = f115(v8, a1, a2);
     if (v11) { v5 = 6u; goto L12; }
     else { goto L11; }
 L2:;
-    v12 = f111(v8, a1, a2);
+    v12 = f115(v8, a1, a2);
     if (v12) { v5 = 5u; goto L12; }
     else { goto L3; }
 L3:;
@@ -47387,7 +49288,7 @@ u32 portable_ptpm_member_kind(u16 a0, address a1, u64 a2, u64 a3) {
     v7 = v6 ? 4096u : 0u;
     v8 = a1 + v7 * 1u;
     memory_set(v5, 0u, 24u);
-    v9 = f94(a0, v8, a2);
+    v9 = f98(a0, v8, a2);
     v10 = v9.m1;
     v11 = a3 < v10;
     if (v11) { goto L1; }
@@ -47405,7 +49306,7 @@ L1:;
     v21 = (u64)v20;
     v22 = v8 + v21 * 1u;
     v23 = (u64)((u64)a2 - (u64)v21);
-    f96(v5, v16, v18, v22, v23);
+    f100(v5, v16, v18, v22, v23);
     v24 = load8(v5);
     switch (v24) {
     case 0u: v4 = 1u; goto L12;
@@ -47474,7 +49375,7 @@ L3:;
     memory_set(v17, 0u, 24u);
     v26 = (u64)((u64)v5 * (u64)a2);
     v27 = v20 + v26 * 1u;
-    f103(v17, v27, a2);
+    f107(v17, v27, a2);
     v28 = load8(v17);
     v29 = v28 == 0u;
     if (v29) { goto L5; }
@@ -47528,7 +49429,7 @@ L1:;
     v12 = a1 + v11 * 1u;
     v13 = (u8)(v8);
     memory_set(v7, 0u, 24u);
-    f28(v7, v12, a2);
+    f27(v7, v12, a2);
     v14 = load8(v7);
     v15 = v14 == 0u;
     if (v15) { goto L2; }
@@ -47540,10 +49441,10 @@ L2:;
     v19 = load64(v18);
     memory_set(v6, 0u, 24u);
     v20 = (u64)v8;
-    v21 = ADDRESS(c364) + v20 * 8u;
+    v21 = ADDRESS(c370) + v20 * 8u;
     v22 = load64(v21);
     v23 = (u64)v8;
-    v24 = ADDRESS(c365) + v23 * 8u;
+    v24 = ADDRESS(c371) + v23 * 8u;
     v25 = load_address(v24);
     v26 = v6 + 16u * 1u;
     v27 = v6 + 8u * 1u;
@@ -47552,7 +49453,7 @@ L2:;
 L3:;
     v29 = v25 + v3 * 1u;
     v30 = load8(v29);
-    f88(v6, v13, v30);
+    f92(v6, v13, v30);
     v31 = load8(v6);
     v32 = v31 == 1u;
     if (v32) { goto L4; }
@@ -47612,10 +49513,10 @@ u32 portable_ptpm_other_id_at(u64 a0) {
     if (v2) { goto L1; }
     else { v1 = UINT32_C(65536); goto L2; }
 L1:;
-    v3 = ADDRESS(c328) + a0 * 1u;
+    v3 = ADDRESS(c334) + a0 * 1u;
     v4 = load8(v3);
     v5 = (u64)v4;
-    v6 = ADDRESS(c368) + v5 * 4u;
+    v6 = ADDRESS(c374) + v5 * 4u;
     v7 = load32(v6);
     v1 = v7; goto L2;
 L2:;
@@ -47630,7 +49531,7 @@ u64 portable_ptpm_other_id_name(u16 a0, address a1, u64 a2) {
     v8 = v7 ? 4096u : 0u;
     v9 = a1 + v8 * 1u;
     switch (a0) {
-    case 1u: v3 = ADDRESS(c329); v4 = 17u; goto L10;
+    case 1u: v3 = ADDRESS(c335); v4 = 17u; goto L10;
     case 8207u: goto L9;
     case 8210u: goto L1;
     case 8211u: goto L2;
@@ -47643,23 +49544,23 @@ u64 portable_ptpm_other_id_name(u16 a0, address a1, u64 a2) {
     default: v6 = 0u; goto L14;
     }
 L1:;
-    v3 = ADDRESS(c331); v4 = 23u; goto L10;
+    v3 = ADDRESS(c337); v4 = 23u; goto L10;
 L2:;
-    v3 = ADDRESS(c332); v4 = 20u; goto L10;
+    v3 = ADDRESS(c338); v4 = 20u; goto L10;
 L3:;
-    v3 = ADDRESS(c333); v4 = 15u; goto L10;
+    v3 = ADDRESS(c339); v4 = 15u; goto L10;
 L4:;
-    v3 = ADDRESS(c334); v4 = 14u; goto L10;
+    v3 = ADDRESS(c340); v4 = 14u; goto L10;
 L5:;
-    v3 = ADDRESS(c335); v4 = 23u; goto L10;
+    v3 = ADDRESS(c341); v4 = 23u; goto L10;
 L6:;
-    v3 = ADDRESS(c336); v4 = 16u; goto L10;
+    v3 = ADDRESS(c342); v4 = 16u; goto L10;
 L7:;
-    v3 = ADDRESS(c337); v4 = 18u; goto L10;
+    v3 = ADDRESS(c343); v4 = 18u; goto L10;
 L8:;
-    v3 = ADDRESS(c338); v4 = 13u; goto L10;
+    v3 = ADDRESS(c344); v4 = 13u; goto L10;
 L9:;
-    v3 = ADDRESS(c330); v4 = 4u; goto L10;
+    v3 = ADDRESS(c336); v4 = 4u; goto L10;
 L10:;
     v10 = a2 < v4;
     if (v10) { v6 = 0u; goto L14; }
@@ -47699,7 +49600,7 @@ u32 portable_ptpm_other_id_named(address a0, u64 a1) {
     v7 = v6 ? 4096u : 0u;
     v8 = a0 + v7 * 1u;
     memory_set(v5, 0u, 24u);
-    f28(v5, v8, a1);
+    f27(v5, v8, a1);
     v9 = load8(v5);
     v10 = v9 == 0u;
     if (v10) { goto L1; }
@@ -47711,13 +49612,13 @@ L1:;
     v14 = load64(v13);
     v2 = 0u; goto L2;
 L2:;
-    v15 = ADDRESS(c328) + v2 * 1u;
+    v15 = ADDRESS(c334) + v2 * 1u;
     v16 = load8(v15);
     v17 = (u64)v16;
-    v18 = ADDRESS(c366) + v17 * 8u;
+    v18 = ADDRESS(c372) + v17 * 8u;
     v19 = load64(v18);
     v20 = (u64)v16;
-    v21 = ADDRESS(c367) + v20 * 8u;
+    v21 = ADDRESS(c373) + v20 * 8u;
     v22 = load_address(v21);
     v23 = v14 == v19;
     if (v23) { v3 = 0u; goto L4; }
@@ -47750,7 +49651,7 @@ L5:;
     else { v2 = v39; goto L2; }
 L6:;
     v41 = (u64)v16;
-    v42 = ADDRESS(c368) + v41 * 4u;
+    v42 = ADDRESS(c374) + v41 * 4u;
     v43 = load32(v42);
     v4 = v43; goto L7;
 L7:;
@@ -47767,7 +49668,7 @@ u8 portable_ptpm_passed_on_is_first(address a0, address a1, u64 a2, u64 a3, u64 
     v8 = v7 ? 4096u : 0u;
     v9 = a1 + v8 * 1u;
     v10 = load64(a0);
-    f112(v6, v9, a2);
+    f116(v6, v9, a2);
     v11 = load8(v6);
     v12 = v11 == 1u;
     if (v12) { goto L1; }
@@ -47775,7 +49676,7 @@ u8 portable_ptpm_passed_on_is_first(address a0, address a1, u64 a2, u64 a3, u64 
 L1:;
     v13 = a0 + 8u * 1u;
     v14 = v6 + 8u * 1u;
-    v15 = f113(v10, v13, 4096u, v14, a3, a4);
+    v15 = f118(v10, v13, 4096u, v14, a3, a4);
     v5 = v15; goto L2;
 L2:;
     return v5;
@@ -47798,14 +49699,14 @@ L1:;
     v14 = a3 == 0u;
     v15 = v14 ? 4096u : 0u;
     v16 = a3 + v15 * 1u;
-    f112(v8, v16, a4);
+    f116(v8, v16, a4);
     v17 = load8(v8);
     v18 = v17 == 1u;
     if (v18) { goto L2; }
     else { v7 = 0u; goto L3; }
 L2:;
     v19 = v8 + 8u * 1u;
-    v20 = f113(a0, v11, a2, v19, a5, a6);
+    v20 = f118(a0, v11, a2, v19, a5, a6);
     v7 = v20; goto L3;
 L3:;
     return v7;
@@ -47848,7 +49749,7 @@ u8 portable_ptpm_port_identity_parse(address a0, u64 a1, address a2, address a3)
     v11 = v10 ? 4096u : 0u;
     v12 = a0 + v11 * 1u;
     memory_set(v9, 0u, 24u);
-    f28(v9, v12, a1);
+    f27(v9, v12, a1);
     v13 = load8(v9);
     v14 = v13 == 0u;
     if (v14) { goto L2; }
@@ -47862,7 +49763,7 @@ L2:;
     v18 = load64(v17);
     memory_set(v7, 0u, 12u);
     memory_set(v8, 0u, 12u);
-    f114(v7, 47u, v16, v18);
+    f119(v7, 47u, v16, v18);
     v19 = load8(v7);
     v20 = v19 == 1u;
     v21 = v8 + 10u * 1u;
@@ -47876,7 +49777,7 @@ L3:;
     v25 = load16(v21);
     v4 = v25; v5 = v24; goto L5;
 L4:;
-    f114(v8, 45u, v16, v18);
+    f119(v8, 45u, v16, v18);
     v26 = load8(v8);
     v27 = v8 + 2u * 1u;
     v28 = load64(v27);
@@ -48004,7 +49905,7 @@ L1:;
     v7 = load64(v6);
     portable_rattle_dealloc(v1);
     v8 = (address)v7;
-    f12(v5, v8);
+    f11(v5, v8);
     goto L2;
 L2:;
     return;
@@ -48436,7 +50337,7 @@ L28:;
     v241 = load64(v240);
     memory_set(v112, 0u, 32u);
     memory_set(v113, 0u, 32u);
-    f116(v112, v237, v239, v241);
+    f121(v112, v237, v239, v241);
     v242 = load8(v112);
     v243 = v242 == 0u;
     if (v243) { goto L29; }
@@ -48448,7 +50349,7 @@ L29:;
     v247 = load64(v246);
     v248 = v112 + 24u * 1u;
     v249 = load64(v248);
-    f116(v113, v237, v10, v9);
+    f121(v113, v237, v10, v9);
     v250 = load8(v113);
     v251 = v250 == 0u;
     if (v251) { goto L30; }
@@ -49988,7 +51889,7 @@ L54:;
     v746 = v146 + 176u * 1u;
     v747 = v146 + 174u * 1u;
     v748 = load64(a1);
-    f123(v146, v748);
+    f128(v146, v748);
     v85 = v745; v86 = v746; v87 = v747; v88 = v147; v89 = v146; goto L190;
 L55:;
     v749 = load16(v218);
@@ -50037,7 +51938,7 @@ L61:;
     store16(v760, 1u);
     v773 = (u16)(v30);
     store16(v761, v773);
-    v774 = f105(v759, v131);
+    v774 = f109(v759, v131);
     if (v774) { v31 = 1u; v32 = v773; goto L63; }
     else { goto L62; }
 L62:;
@@ -50196,7 +52097,7 @@ L88:;
 L89:;
     v853 = v130 + 8u * 1u;
     memory_set(v853, 0u, 40u);
-    f125(v130, v134, a3);
+    f130(v130, v134, a3);
     v854 = load8(v130);
     v855 = load16(v853);
     v856 = v130 + 10u * 1u;
@@ -50283,7 +52184,7 @@ L98:;
     if (v909) { goto L101; }
     else { v59 = v908; goto L97; }
 L99:;
-    v910 = f44(v48, v47, v867, v47);
+    v910 = f43(v48, v47, v867, v47);
     if (v910) { goto L101; }
     else { v60 = 3u; goto L106; }
 L100:;
@@ -50312,7 +52213,7 @@ L105:;
 L106:;
     v919 = v129 + 8u * 1u;
     memory_set(v919, 0u, 40u);
-    f125(v129, v134, a3);
+    f130(v129, v134, a3);
     v920 = load8(v129);
     v921 = v920 == 1u;
     v922 = v129 + 16u * 1u;
@@ -50373,7 +52274,7 @@ L112:;
     store16(v220, 0u);
     v107 = 3u; v108 = v749; v109 = 65535u; v110 = 0u; goto L227;
 L113:;
-    f123(v214, v215);
+    f128(v214, v215);
     v85 = v220; v86 = v219; v87 = v218; v88 = v216; v89 = v214; goto L190;
 L114:;
     store64(v127, 2u);
@@ -50392,7 +52293,7 @@ L114:;
     memory_set(v128, 0u, 16u);
     v946 = load_address(v938);
     v947 = load64(v939);
-    f104(v128, v937, v127, ADDRESS(c148), 0u, ADDRESS(c148), 0u, v946, v947);
+    f108(v128, v937, v127, ADDRESS(c155), 0u, ADDRESS(c155), 0u, v946, v947);
     v948 = load8(v128);
     v949 = v948 == 0u;
     if (v949) { goto L115; }
@@ -50426,7 +52327,7 @@ L117:;
     memory_set(v126, 0u, 16u);
     v959 = load_address(v938);
     v960 = load64(v939);
-    f104(v126, v937, v125, ADDRESS(c148), 0u, ADDRESS(c148), 0u, v959, v960);
+    f108(v126, v937, v125, ADDRESS(c155), 0u, ADDRESS(c155), 0u, v959, v960);
     v961 = load8(v126);
     v962 = v961 == 0u;
     if (v962) { goto L118; }
@@ -50460,7 +52361,7 @@ L120:;
     memory_set(v124, 0u, 16u);
     v972 = load_address(v938);
     v973 = load64(v939);
-    f104(v124, v937, v123, ADDRESS(c148), 0u, ADDRESS(c148), 0u, v972, v973);
+    f108(v124, v937, v123, ADDRESS(c155), 0u, ADDRESS(c155), 0u, v972, v973);
     v974 = load8(v124);
     v975 = v974 == 0u;
     if (v975) { goto L121; }
@@ -50497,7 +52398,7 @@ L125:;
     store16(v220, 0u);
     v107 = 3u; v108 = v749; v109 = 65535u; v110 = 0u; goto L227;
 L126:;
-    f126(v214, v749, v61);
+    f131(v214, v749, v61);
     v85 = v220; v86 = v219; v87 = v218; v88 = v216; v89 = v214; goto L190;
 L127:;
     v979 = v935 == 1u;
@@ -50519,7 +52420,7 @@ L129:;
     store8(v988, 1u);
     goto L130;
 L130:;
-    f123(v214, v215);
+    f128(v214, v215);
     v85 = v220; v86 = v219; v87 = v218; v88 = v216; v89 = v214; goto L190;
 L131:;
     v989 = (u16)v56;
@@ -50531,7 +52432,7 @@ L131:;
     store16(v220, v55);
     v85 = v220; v86 = v219; v87 = v218; v88 = v216; v89 = v214; goto L190;
 L132:;
-    f123(v214, v215);
+    f128(v214, v215);
     v85 = v220; v86 = v219; v87 = v218; v88 = v216; v89 = v214; goto L190;
 L133:;
     if (v54) { goto L134; }
@@ -50585,7 +52486,7 @@ L138:;
     v1009 = load_address(v1008);
     v1010 = v214 + 192u * 1u;
     v1011 = load64(v1010);
-    f104(v122, v1007, v121, ADDRESS(c148), 0u, ADDRESS(c148), 0u, v1009, v1011);
+    f108(v122, v1007, v121, ADDRESS(c155), 0u, ADDRESS(c155), 0u, v1009, v1011);
     v1012 = load8(v122);
     v1013 = v1012 == 0u;
     if (v1013) { goto L139; }
@@ -50623,7 +52524,7 @@ L141:;
     v1026 = load_address(v1025);
     v1027 = v214 + 192u * 1u;
     v1028 = load64(v1027);
-    f104(v120, v1024, v119, ADDRESS(c148), 0u, ADDRESS(c148), 0u, v1026, v1028);
+    f108(v120, v1024, v119, ADDRESS(c155), 0u, ADDRESS(c155), 0u, v1026, v1028);
     v1029 = load8(v120);
     v1030 = v1029 == 0u;
     if (v1030) { goto L142; }
@@ -50643,7 +52544,7 @@ L143:;
 L144:;
     UNREACHABLE;
 L145:;
-    f123(v214, v215);
+    f128(v214, v215);
     v85 = v220; v86 = v219; v87 = v218; v88 = v216; v89 = v214; goto L190;
 L146:;
     v1034 = load16(v157);
@@ -50680,7 +52581,7 @@ L148:;
     v1051 = load_address(v1050);
     v1052 = v153 + 192u * 1u;
     v1053 = load64(v1052);
-    f104(v118, v1049, v117, ADDRESS(c148), 0u, ADDRESS(c148), 0u, v1051, v1053);
+    f108(v118, v1049, v117, ADDRESS(c155), 0u, ADDRESS(c155), 0u, v1051, v1053);
     v1054 = load8(v118);
     v1055 = v1054 == 0u;
     if (v1055) { goto L149; }
@@ -50702,22 +52603,22 @@ L151:;
     v1060 = v175 + 176u * 1u;
     v1061 = v175 + 174u * 1u;
     v1062 = load64(a1);
-    f127(v175, v1062, 4u, 0u, ADDRESS(c148), 0u);
+    f132(v175, v1062, 4u, 0u, ADDRESS(c155), 0u);
     v85 = v1059; v86 = v1060; v87 = v1061; v88 = v176; v89 = v175; goto L190;
 L152:;
     if (v29) { goto L153; }
     else { v63 = v19; v64 = v20; v65 = v21; v66 = v22; v67 = v23; v68 = v24; v69 = v25; v70 = v26; goto L154; }
 L153:;
-    f127(v24, v23, 0u, 0u, v25, v26);
+    f132(v24, v23, 0u, 0u, v25, v26);
     v85 = v19; v86 = v20; v87 = v21; v88 = v22; v89 = v24; goto L190;
 L154:;
-    f127(v68, v67, 1u, 0u, v69, v70);
+    f132(v68, v67, 1u, 0u, v69, v70);
     v85 = v63; v86 = v64; v87 = v65; v88 = v66; v89 = v68; goto L190;
 L155:;
-    f127(v76, v75, 2u, v77, ADDRESS(c148), 0u);
+    f132(v76, v75, 2u, v77, ADDRESS(c155), 0u);
     v85 = v71; v86 = v72; v87 = v73; v88 = v74; v89 = v76; goto L190;
 L156:;
-    f127(v179, v180, 3u, 0u, ADDRESS(c148), 0u);
+    f132(v179, v180, 3u, 0u, ADDRESS(c155), 0u);
     v85 = v185; v86 = v184; v87 = v183; v88 = v181; v89 = v179; goto L190;
 L157:;
     v1063 = load8(v192);
@@ -50835,7 +52736,7 @@ L171:;
     store8(v1119, 1u);
     goto L172;
 L172:;
-    f123(v188, v189);
+    f128(v188, v189);
     v85 = v194; v86 = v193; v87 = v192; v88 = v190; v89 = v188; goto L190;
 L173:;
     store16(v190, 13u);
@@ -50845,11 +52746,11 @@ L173:;
     store16(v194, v1065);
     v105 = 1u; v106 = v1065; goto L225;
 L174:;
-    f123(v188, v189);
+    f128(v188, v189);
     v85 = v194; v86 = v193; v87 = v192; v88 = v190; v89 = v188; goto L190;
 L175:;
     v1120 = (u8)((v1066) & UINT64_C(1));
-    f126(v188, v1065, v1120);
+    f131(v188, v1065, v1120);
     v85 = v194; v86 = v193; v87 = v192; v88 = v190; v89 = v188; goto L190;
 L176:;
     store16(v190, 4u);
@@ -50872,7 +52773,7 @@ L177:;
 L178:;
     UNREACHABLE;
 L179:;
-    f123(v188, v189);
+    f128(v188, v189);
     v85 = v194; v86 = v193; v87 = v192; v88 = v190; v89 = v188; goto L190;
 L180:;
     v1126 = v162 + 178u * 1u;
@@ -50895,7 +52796,7 @@ L181:;
     v1134 = v116 + 18u * 1u;
     store16(v1134, v1131);
     v1135 = v167 + 8u * 1u;
-    v1136 = f105(v1135, v116);
+    v1136 = f109(v1135, v116);
     if (v1136) { goto L182; }
     else { goto L185; }
 L182:;
@@ -50907,7 +52808,7 @@ L182:;
     v1139 = load_address(v1138);
     v1140 = v167 + 192u * 1u;
     v1141 = load64(v1140);
-    f104(v115, v1135, v114, ADDRESS(c148), 0u, ADDRESS(c148), 0u, v1139, v1141);
+    f108(v115, v1135, v114, ADDRESS(c155), 0u, ADDRESS(c155), 0u, v1139, v1141);
     v1142 = load8(v115);
     v1143 = v1142 == 0u;
     if (v1143) { goto L183; }
@@ -51242,7 +53143,7 @@ L4:;
 L5:;
     v36 = v20.m1;
     v37 = (u64)v36;
-    v38 = ADDRESS(c369) + v37 * 4u;
+    v38 = ADDRESS(c375) + v37 * 4u;
     v39 = load32(v38);
     v6 = v39; goto L6;
 L6:;
@@ -51352,7 +53253,7 @@ L10:;
     else { goto L11; }
 L11:;
     v61 = (u64)v8;
-    v62 = ADDRESS(c369) + v61 * 4u;
+    v62 = ADDRESS(c375) + v61 * 4u;
     v63 = load32(v62);
     v9 = v63; goto L12;
 L12:;
@@ -51432,7 +53333,7 @@ L1:;
 L2:;
     v14 = v11 + 8u * 1u;
     v15 = load_address(v14);
-    v16 = f10(v15, v7, a2);
+    v16 = f9(v15, v7, a2);
     v17 = v16.m0;
     v18 = v17 == 1u;
     if (v18) { goto L3; }
@@ -51875,7 +53776,7 @@ L1:;
     v7 = load64(v6);
     portable_rattle_dealloc(v1);
     v8 = (address)v7;
-    f12(v5, v8);
+    f11(v5, v8);
     goto L2;
 L2:;
     return;
@@ -51883,16 +53784,16 @@ L2:;
 
 u32 portable_ptpm_sizes_agree(address a0, u64 a1) {
     u64 v2, v3, v6, v9, v11, v14, v15, v17, v18, v21, v22, v24, v25, v28, v29, v31;
-    u64 v32, v35, v36, v38, v42;
-    u32 v4, v44;
-    u8 v5, v8, v10, v16, v23, v30, v37, v39, v40, v43;
-    address v7, v12, v13, v19, v20, v26, v27, v33, v34, v41;
+    u64 v32, v35, v36, v38, v42, v45;
+    u32 v4, v47;
+    u8 v5, v8, v10, v16, v23, v30, v37, v39, v40, v43, v46;
+    address v7, v12, v13, v19, v20, v26, v27, v33, v34, v41, v44;
     v5 = a0 == 0u;
     v6 = v5 ? 4096u : 0u;
     v7 = a0 + v6 * 1u;
-    v8 = a1 == 29u;
+    v8 = a1 == 30u;
     if (v8) { v2 = 0u; goto L1; }
-    else { v4 = 47u; goto L10; }
+    else { v4 = 47u; goto L11; }
 L1:;
     v9 = (u64)((u64)v2 + (u64)4u);
     v10 = v2 == UINT64_C(18446744073709551612);
@@ -51903,7 +53804,7 @@ L2:;
 L3:;
     v11 = (u64)((u64)v2 << (3u & 63u));
     v12 = v7 + v11 * 1u;
-    v13 = ADDRESS(c340) + v11 * 1u;
+    v13 = ADDRESS(c346) + v11 * 1u;
     v14 = load64(v12);
     v15 = load64(v13);
     v16 = v14 == v15;
@@ -51913,7 +53814,7 @@ L4:;
     v17 = (u64)((u64)v2 | (u64)1u);
     v18 = (u64)((u64)v17 << (3u & 63u));
     v19 = v7 + v18 * 1u;
-    v20 = ADDRESS(c340) + v18 * 1u;
+    v20 = ADDRESS(c346) + v18 * 1u;
     v21 = load64(v19);
     v22 = load64(v20);
     v23 = v21 == v22;
@@ -51923,7 +53824,7 @@ L5:;
     v24 = (u64)((u64)v2 | (u64)2u);
     v25 = (u64)((u64)v24 << (3u & 63u));
     v26 = v7 + v25 * 1u;
-    v27 = ADDRESS(c340) + v25 * 1u;
+    v27 = ADDRESS(c346) + v25 * 1u;
     v28 = load64(v26);
     v29 = load64(v27);
     v30 = v28 == v29;
@@ -51933,7 +53834,7 @@ L6:;
     v31 = (u64)((u64)v2 | (u64)3u);
     v32 = (u64)((u64)v31 << (3u & 63u));
     v33 = v7 + v32 * 1u;
-    v34 = ADDRESS(c340) + v32 * 1u;
+    v34 = ADDRESS(c346) + v32 * 1u;
     v35 = load64(v33);
     v36 = load64(v34);
     v37 = v35 == v36;
@@ -51941,7 +53842,7 @@ L6:;
     v3 = v38; goto L7;
 L7:;
     v39 = v3 < v9;
-    if (v39) { v4 = 47u; goto L10; }
+    if (v39) { v4 = 47u; goto L11; }
     else { goto L8; }
 L8:;
     v40 = v2 == 24u;
@@ -51950,10 +53851,16 @@ L8:;
 L9:;
     v41 = v7 + 224u * 1u;
     v42 = load64(v41);
-    v43 = v42 == 12u;
-    v44 = v43 ? 0u : 47u;
-    v4 = v44; goto L10;
+    v43 = v42 == 16u;
+    if (v43) { goto L10; }
+    else { v4 = 47u; goto L11; }
 L10:;
+    v44 = v7 + 232u * 1u;
+    v45 = load64(v44);
+    v46 = v45 == 12u;
+    v47 = v46 ? 0u : 47u;
+    v4 = v47; goto L11;
+L11:;
     return v4;
 }
 
@@ -52077,1086 +53984,1146 @@ L3:;
 }
 
 u32 portable_ptpm_survey_receive(address a0, address a1, u64 a2) {
-    u64 v3, v7, v8, v9, v14, v16, v18, v23, v38, v66, v67, v70, v72, v89, v90, v115;
-    u64 v117, v118, v119, v120, v121, v122, v123, v125, v126, v131, v132, v133, v134, v139, v140, v141;
-    u64 v142, v147, v148, v149, v150, v155, v156, v157, v158, v163, v164, v165, v166, v171, v172, v173;
-    u64 v174, v179, v180, v181, v182, v187, v188, v189, v194, v195, v196, v197, v198, v199, v200, v201;
-    u64 v206, v207, v208, v209, v212, v213, v214, v220, v221, v222, v223, v224, v225, v226, v227, v228;
-    u64 v229, v230, v231, v232, v233, v234, v235, v292, v295, v296, v301, v318, v319, v322, v333, v338;
-    u64 v340, v342, v343, v348, v351, v352, v353, v354, v355, v356, v357, v359, v360, v365, v366, v367;
-    u64 v368, v373, v374, v375, v376, v381, v382, v383, v384, v389, v390, v391, v392, v397, v398, v399;
-    u64 v400, v405, v406, v407, v408, v413, v414, v415, v416, v421, v422, v423, v428, v429, v430, v431;
-    u64 v432, v433, v434, v435, v440, v441, v442, v444, v446, v448, v451, v452, v453, v456, v457, v458;
-    u64 v459, v460, v461, v462, v463, v464, v465, v466, v467, v468, v469, v473, v474, v531, v534, v535;
-    u64 v540, v557, v558, v561, v563, v564, v565, v567, v568, v573, v575, v576, v577, v578, v579, v585;
-    u64 v586, v657, v658, v659, v660, v661, v662, v663, v664, v665, v666, v667, v668, v669, v670, v671;
-    u64 v672, v675, v678, v681, v682, v684, v686, v687, v688, v689, v690, v691, v692, v693, v695, v698;
-    u64 v701, v703, v709, v712, v720;
-    u32 v4, v15, v19, v218, v219, v288, v290, v291, v294, v303, v304, v306, v307, v308, v309, v310;
-    u32 v311, v312, v313, v314, v315, v316, v471, v472, v527, v529, v530, v533, v542, v543, v545, v546;
-    u32 v547, v548, v549, v550, v551, v552, v553, v554, v555, v583, v584, v639, v640, v641, v642, v643;
-    u32 v644, v645, v646, v647, v648, v649, v651, v653, v655, v676, v728, v729;
-    address v5, v6, v10, v17, v20, v21, v24, v25, v28, v31, v32, v35, v36, v37, v39, v41;
-    address v45, v49, v51, v54, v56, v62, v65, v69, v71, v76, v78, v84, v91, v93, v99, v102;
-    address v103, v105, v111, v112, v113, v114, v124, v236, v238, v240, v242, v244, v246, v248, v250, v252;
-    address v254, v256, v258, v260, v262, v264, v266, v289, v293, v297, v298, v321, v324, v328, v332, v341;
-    address v345, v346, v358, v443, v445, v475, v477, v479, v481, v483, v485, v487, v489, v491, v493, v495;
-    address v497, v499, v501, v503, v505, v528, v532, v536, v537, v560, v562, v566, v572, v574, v587, v589;
-    address v591, v593, v595, v597, v599, v601, v603, v605, v607, v609, v611, v613, v615, v617, v673, v677;
-    address v679, v680, v683, v685, v694, v696, v697, v699, v700, v702, v704, v705, v706, v707, v708, v710;
-    address v711, v713, v715, v716, v717, v718, v719, v726;
-    u16 v11, v58, v59, v60, v61, v63, v80, v81, v82, v83, v85, v95, v96, v97, v98, v100;
-    u16 v107, v108, v109, v110, v285, v286, v299, v326, v327, v330, v331, v350, v524, v525, v538, v636;
-    u16 v637, v674;
-    u8 v12, v13, v22, v26, v27, v29, v30, v33, v34, v40, v42, v43, v44, v46, v47, v48;
-    u8 v50, v52, v53, v55, v57, v64, v68, v73, v74, v75, v77, v79, v86, v87, v88, v92;
-    u8 v94, v101, v104, v106, v116, v210, v211, v217, v237, v239, v241, v243, v245, v247, v249, v251;
-    u8 v253, v255, v257, v259, v261, v263, v265, v267, v287, v300, v302, v305, v317, v320, v323, v325;
-    u8 v329, v334, v335, v339, v344, v347, v349, v447, v449, v450, v470, v476, v478, v480, v482, v484;
-    u8 v486, v488, v490, v492, v494, v496, v498, v500, v502, v504, v506, v526, v539, v541, v544, v556;
-    u8 v559, v569, v570, v571, v580, v581, v582, v588, v590, v592, v594, v596, v598, v600, v602, v604;
-    u8 v606, v608, v610, v612, v614, v616, v618, v638, v650, v652, v654, v656, v714, v721, v722, v723;
-    u8 v724, v725, v727;
-    struct wide v127, v128, v129, v130, v135, v136, v137, v138, v143, v144, v145, v146, v151, v152, v153, v154;
-    struct wide v159, v160, v161, v162, v167, v168, v169, v170, v175, v176, v177, v178, v183, v184, v185, v186;
-    struct wide v190, v191, v192, v193, v202, v203, v204, v205, v361, v362, v363, v364, v369, v370, v371, v372;
-    struct wide v377, v378, v379, v380, v385, v386, v387, v388, v393, v394, v395, v396, v401, v402, v403, v404;
-    struct wide v409, v410, v411, v412, v417, v418, v419, v420, v424, v425, v426, v427, v436, v437, v438, v439;
-    struct v16u8 v215, v216, v268, v269, v270, v271, v272, v273, v274, v275, v276, v277, v278, v279, v280, v281;
-    struct v16u8 v282, v283, v284, v454, v455, v507, v508, v509, v510, v511, v512, v513, v514, v515, v516, v517;
-    struct v16u8 v518, v519, v520, v521, v522, v523, v619, v620, v621, v622, v623, v624, v625, v626, v627, v628;
-    struct v16u8 v629, v630, v631, v632, v633, v634, v635;
-    struct pair v336, v337;
+    u8 v3, v4, v5, v6, v7, v17, v18, v27, v31, v32, v34, v35, v38, v39, v40, v41;
+    u8 v43, v44, v45, v47, v49, v55, v57, v58, v60, v62, v67, v69, v70, v72, v76, v80;
+    u8 v82, v83, v84, v85, v86, v88, v89, v91, v93, v95, v96, v101, v103, v104, v105, v107;
+    u8 v109, v110, v112, v114, v121, v125, v130, v131, v132, v134, v136, v143, v144, v145, v149, v151;
+    u8 v158, v161, v163, v173, v267, v268, v274, v294, v296, v298, v300, v302, v304, v306, v308, v310;
+    u8 v312, v314, v316, v318, v320, v322, v324, v344, v357, v359, v362, v374, v377, v380, v382, v386;
+    u8 v391, v392, v396, v401, v404, v406, v504, v506, v507, v527, v533, v535, v537, v539, v541, v543;
+    u8 v545, v547, v549, v551, v553, v555, v557, v559, v561, v563, v583, v596, v598, v601, v613, v616;
+    u8 v626, v627, v628, v637, v638, v639, v645, v647, v649, v651, v653, v655, v657, v659, v661, v663;
+    u8 v665, v667, v669, v671, v673, v675, v695, v707, v709, v711, v713, v771, v778, v779, v780, v781;
+    u8 v782;
+    u64 v8, v12, v13, v14, v19, v21, v23, v28, v54, v73, v74, v77, v78, v79, v81, v97;
+    u64 v98, v99, v100, v123, v124, v127, v129, v146, v147, v172, v174, v175, v176, v177, v178, v179;
+    u64 v180, v182, v183, v188, v189, v190, v191, v196, v197, v198, v199, v204, v205, v206, v207, v212;
+    u64 v213, v214, v215, v220, v221, v222, v223, v228, v229, v230, v231, v236, v237, v238, v239, v244;
+    u64 v245, v246, v251, v252, v253, v254, v255, v256, v257, v258, v263, v264, v265, v266, v269, v270;
+    u64 v271, v277, v278, v279, v280, v281, v282, v283, v284, v285, v286, v287, v288, v289, v290, v291;
+    u64 v292, v349, v352, v353, v358, v375, v376, v379, v390, v395, v397, v399, v400, v405, v408, v409;
+    u64 v410, v411, v412, v413, v414, v416, v417, v422, v423, v424, v425, v430, v431, v432, v433, v438;
+    u64 v439, v440, v441, v446, v447, v448, v449, v454, v455, v456, v457, v462, v463, v464, v465, v470;
+    u64 v471, v472, v473, v478, v479, v480, v485, v486, v487, v488, v489, v490, v491, v492, v497, v498;
+    u64 v499, v501, v503, v505, v508, v509, v510, v513, v514, v515, v516, v517, v518, v519, v520, v521;
+    u64 v522, v523, v524, v525, v526, v530, v531, v588, v591, v592, v597, v614, v615, v618, v620, v621;
+    u64 v622, v624, v625, v630, v632, v633, v634, v635, v636, v642, v643, v714, v715, v716, v717, v718;
+    u64 v719, v720, v721, v722, v723, v724, v725, v726, v727, v728, v729, v732, v735, v738, v739, v741;
+    u64 v743, v744, v745, v746, v747, v748, v749, v750, v752, v755, v758, v760, v766, v769, v777;
+    u32 v9, v20, v24, v275, v276, v345, v347, v348, v351, v360, v361, v363, v364, v365, v366, v367;
+    u32 v368, v369, v370, v371, v372, v373, v528, v529, v584, v586, v587, v590, v599, v600, v602, v603;
+    u32 v604, v605, v606, v607, v608, v609, v610, v611, v612, v640, v641, v696, v697, v698, v699, v700;
+    u32 v701, v702, v703, v704, v705, v706, v708, v710, v712, v733, v783, v784;
+    address v10, v11, v15, v22, v25, v26, v29, v30, v33, v36, v37, v42, v46, v48, v59, v61;
+    address v68, v71, v75, v87, v90, v92, v94, v102, v106, v108, v111, v113, v119, v122, v126, v128;
+    address v133, v135, v141, v148, v150, v156, v159, v160, v162, v168, v169, v170, v171, v181, v293, v295;
+    address v297, v299, v301, v303, v305, v307, v309, v311, v313, v315, v317, v319, v321, v323, v346, v350;
+    address v354, v355, v378, v381, v385, v389, v398, v402, v403, v415, v500, v502, v532, v534, v536, v538;
+    address v540, v542, v544, v546, v548, v550, v552, v554, v556, v558, v560, v562, v585, v589, v593, v594;
+    address v617, v619, v623, v629, v631, v644, v646, v648, v650, v652, v654, v656, v658, v660, v662, v664;
+    address v666, v668, v670, v672, v674, v730, v734, v736, v737, v740, v742, v751, v753, v754, v756, v757;
+    address v759, v761, v762, v763, v764, v765, v767, v768, v770, v772, v773, v774, v775, v776;
+    u16 v16, v50, v51, v52, v53, v56, v63, v64, v65, v66, v115, v116, v117, v118, v120, v137;
+    u16 v138, v139, v140, v142, v152, v153, v154, v155, v157, v164, v165, v166, v167, v342, v343, v356;
+    u16 v383, v384, v387, v388, v407, v581, v582, v595, v693, v694, v731;
+    struct wide v184, v185, v186, v187, v192, v193, v194, v195, v200, v201, v202, v203, v208, v209, v210, v211;
+    struct wide v216, v217, v218, v219, v224, v225, v226, v227, v232, v233, v234, v235, v240, v241, v242, v243;
+    struct wide v247, v248, v249, v250, v259, v260, v261, v262, v418, v419, v420, v421, v426, v427, v428, v429;
+    struct wide v434, v435, v436, v437, v442, v443, v444, v445, v450, v451, v452, v453, v458, v459, v460, v461;
+    struct wide v466, v467, v468, v469, v474, v475, v476, v477, v481, v482, v483, v484, v493, v494, v495, v496;
+    struct v16u8 v272, v273, v325, v326, v327, v328, v329, v330, v331, v332, v333, v334, v335, v336, v337, v338;
+    struct v16u8 v339, v340, v341, v511, v512, v564, v565, v566, v567, v568, v569, v570, v571, v572, v573, v574;
+    struct v16u8 v575, v576, v577, v578, v579, v580, v676, v677, v678, v679, v680, v681, v682, v683, v684, v685;
+    struct v16u8 v686, v687, v688, v689, v690, v691, v692;
+    struct pair v393, v394;
     u64 block0[1];
-    u64 block1[4];
-    v20 = ADDRESS(block0);
-    v21 = ADDRESS(block1);
-    v22 = a1 == 0u;
-    v23 = v22 ? 4096u : 0u;
-    v24 = a1 + v23 * 1u;
-    v25 = a0 + 8u * 1u;
-    v26 = load8(v25);
-    v27 = (u8)((v26) & UINT64_C(1));
-    if (v27) { goto L1; }
-    else { v19 = 46u; goto L58; }
+    u64 block1[1];
+    v25 = ADDRESS(block0);
+    v26 = ADDRESS(block1);
+    v27 = a1 == 0u;
+    v28 = v27 ? 4096u : 0u;
+    v29 = a1 + v28 * 1u;
+    v30 = a0 + 8u * 1u;
+    v31 = load8(v30);
+    v32 = (u8)((v31) & UINT64_C(1));
+    if (v32) { goto L1; }
+    else { v24 = 46u; goto L59; }
 L1:;
-    v28 = load_address(a0);
-    v29 = load8(v28);
-    v30 = v29 == 3u;
-    if (v30) { goto L2; }
-    else { v19 = 46u; goto L58; }
+    v33 = load_address(a0);
+    v34 = load8(v33);
+    v35 = v34 == 3u;
+    if (v35) { goto L2; }
+    else { v24 = 46u; goto L59; }
 L2:;
-    v31 = v28 + 8u * 1u;
-    v32 = load_address(v31);
-    memory_set(v21, 0u, 32u);
-    f8(v21, v24, a2);
-    v33 = load8(v21);
-    v34 = v33 == 0u;
-    if (v34) { goto L3; }
-    else { goto L52; }
+    v36 = v33 + 8u * 1u;
+    v37 = load_address(v36);
+    memory_set(v26, 0u, 3u);
+    v38 = a2 < 54u;
+    if (v38) { goto L8; }
+    else { goto L3; }
 L3:;
-    v35 = v21 + 8u * 1u;
-    v36 = load_address(v35);
-    v37 = v21 + 16u * 1u;
-    v38 = load64(v37);
-    v39 = v21 + 24u * 1u;
-    v40 = load8(v39);
-    v41 = v21 + 25u * 1u;
-    v42 = load8(v41);
-    v43 = load8(v36);
-    v44 = (u8)((u32)v43 >> (4u & 7u));
-    v45 = v36 + 5u * 1u;
-    v46 = load8(v45);
-    v47 = (u8)((u32)v44 | (u32)v46);
-    v48 = v47 == 0u;
-    if (v48) { goto L4; }
-    else { goto L51; }
+    v39 = load8(v29);
+    v40 = (u8)((u32)v39 & (u32)15u);
+    v41 = v40 == 13u;
+    if (v41) { goto L4; }
+    else { goto L8; }
 L4:;
-    v49 = v32 + 18u * 1u;
-    v50 = load8(v49);
-    v51 = v36 + 4u * 1u;
-    v52 = load8(v51);
-    v53 = v52 == v50;
-    if (v53) { goto L5; }
-    else { goto L51; }
+    v42 = v29 + 1u * 1u;
+    v43 = load8(v42);
+    v44 = (u8)((u32)v43 & (u32)15u);
+    v45 = v44 == 2u;
+    if (v45) { goto L5; }
+    else { goto L8; }
 L5:;
-    switch (v40) {
-    case 2u: goto L7;
-    case 4u: goto L7;
-    case 0u: goto L53;
-    case 1u: goto L53;
-    case 3u: goto L53;
-    default: goto L6;
-    }
+    v46 = v29 + 2u * 1u;
+    v47 = load8(v46);
+    v48 = v29 + 3u * 1u;
+    v49 = load8(v48);
+    v50 = (u16)v47;
+    v51 = (u16)((u32)v50 << (8u & 15u));
+    v52 = (u16)v49;
+    v53 = (u16)((u32)v51 | (u32)v52);
+    v54 = (u64)v53;
+    v55 = a2 < v54;
+    v56 = (u16)((u32)v53 + (u32)64063u);
+    v57 = v56 < 64117u;
+    v58 = (u8)(((u32)v57 | (u32)v55) & UINT64_C(1));
+    if (v58) { goto L8; }
+    else { goto L6; }
 L6:;
-    UNREACHABLE;
+    v59 = v29 + 48u * 1u;
+    v60 = load8(v59);
+    v61 = v29 + 49u * 1u;
+    v62 = load8(v61);
+    v63 = (u16)v60;
+    v64 = (u16)((u32)v63 << (8u & 15u));
+    v65 = (u16)v62;
+    v66 = (u16)((u32)v64 | (u32)v65);
+    v67 = v66 == 1u;
+    if (v67) { goto L7; }
+    else { goto L8; }
 L7:;
-    v54 = v36 + 42u * 1u;
-    v55 = load8(v54);
-    v56 = v36 + 43u * 1u;
-    v57 = load8(v56);
-    v58 = (u16)v55;
-    v59 = (u16)((u32)v58 << (8u & 15u));
-    v60 = (u16)v57;
-    v61 = (u16)((u32)v59 | (u32)v60);
-    v62 = v32 + 8u * 1u;
-    v63 = load16(v62);
-    v64 = v61 == v63;
-    if (v64) { goto L8; }
-    else { goto L54; }
+    v68 = v29 + 46u * 1u;
+    v69 = load8(v68);
+    v70 = (u8)((u32)v69 & (u32)15u);
+    v71 = v29 + 50u * 1u;
+    v72 = load8(v71);
+    v73 = (u64)v72;
+    v74 = (u64)((u64)v73 << (8u & 63u));
+    v75 = v29 + 51u * 1u;
+    v76 = load8(v75);
+    v77 = (u64)v76;
+    v78 = (u64)((u64)v74 | (u64)v77);
+    v79 = (u64)((u64)v78 + (u64)52u);
+    v80 = v79 == v54;
+    v81 = (u64)((u64)v54 & (u64)1u);
+    v82 = v81 == 0u;
+    v83 = (u8)(((u32)v82 & (u32)v80) & UINT64_C(1));
+    v84 = v70 < 5u;
+    v85 = v83 ? v84 : 0u;
+    if (v85) { v3 = v39; v4 = v49; v5 = v47; v6 = v70; v7 = 0u; goto L10; }
+    else { goto L8; }
 L8:;
-    v65 = v36 + 34u * 1u;
-    v66 = load64(v65);
-    v67 = load64(v32);
-    v68 = v66 == v67;
-    if (v68) { goto L9; }
-    else { goto L54; }
+    f8(v26, v29, a2);
+    v86 = load8(v26);
+    v87 = v26 + 1u * 1u;
+    v88 = load8(v87);
+    v89 = v86 == 0u;
+    if (v89) { goto L9; }
+    else { goto L58; }
 L9:;
-    v69 = v36 + 20u * 1u;
-    v70 = load64(v69);
-    v71 = v32 + 10u * 1u;
-    v72 = load64(v71);
-    v73 = v72 == UINT64_C(18446744073709551615);
-    v74 = v70 == v72;
-    v75 = v73 ? 1u : v74;
-    if (v75) { goto L10; }
-    else { goto L55; }
+    v90 = v26 + 2u * 1u;
+    v91 = load8(v90);
+    v92 = v29 + 2u * 1u;
+    v93 = load8(v92);
+    v94 = v29 + 3u * 1u;
+    v95 = load8(v94);
+    v96 = load8(v29);
+    v3 = v96; v4 = v95; v5 = v93; v6 = v88; v7 = v91; goto L10;
 L10:;
-    v76 = v36 + 30u * 1u;
-    v77 = load8(v76);
-    v78 = v36 + 31u * 1u;
-    v79 = load8(v78);
-    v80 = (u16)v77;
-    v81 = (u16)((u32)v80 << (8u & 15u));
-    v82 = (u16)v79;
-    v83 = (u16)((u32)v81 | (u32)v82);
-    v84 = v32 + 20u * 1u;
-    v85 = load16(v84);
-    v86 = v83 == v85;
-    if (v86) { goto L11; }
-    else { goto L56; }
+    v97 = (u64)v5;
+    v98 = (u64)((u64)v97 << (8u & 63u));
+    v99 = (u64)v4;
+    v100 = (u64)((u64)v98 | (u64)v99);
+    v101 = (u8)((u32)v3 >> (4u & 7u));
+    v102 = v29 + 5u * 1u;
+    v103 = load8(v102);
+    v104 = (u8)((u32)v103 | (u32)v101);
+    v105 = v104 == 0u;
+    if (v105) { goto L11; }
+    else { v24 = 1u; goto L59; }
 L11:;
-    v87 = v40 == 2u;
-    if (v87) { goto L12; }
-    else { goto L57; }
+    v106 = v37 + 18u * 1u;
+    v107 = load8(v106);
+    v108 = v29 + 4u * 1u;
+    v109 = load8(v108);
+    v110 = v109 == v107;
+    if (v110) { goto L12; }
+    else { v24 = 1u; goto L59; }
 L12:;
-    v88 = v42 == 0u;
-    v89 = v88 ? 52u : 54u;
-    v90 = v88 ? 53u : 55u;
-    v91 = v36 + v89 * 1u;
-    v92 = load8(v91);
-    v93 = v36 + v90 * 1u;
-    v94 = load8(v93);
-    v95 = (u16)v92;
-    v96 = (u16)((u32)v95 << (8u & 15u));
-    v97 = (u16)v94;
-    v98 = (u16)((u32)v96 | (u32)v97);
-    v99 = v32 + 24u * 1u;
-    v100 = load16(v99);
-    v101 = v98 == v100;
-    if (v101) { goto L13; }
-    else { goto L57; }
+    switch (v6) {
+    case 2u: goto L14;
+    case 4u: goto L14;
+    case 0u: v24 = 10u; goto L59;
+    case 1u: v24 = 10u; goto L59;
+    case 3u: v24 = 10u; goto L59;
+    default: goto L13;
+    }
 L13:;
-    v102 = v32 + 32u * 1u;
-    v103 = v36 + 28u * 1u;
-    v104 = load8(v103);
-    v105 = v36 + 29u * 1u;
-    v106 = load8(v105);
-    v107 = (u16)v104;
-    v108 = (u16)((u32)v107 << (8u & 15u));
-    v109 = (u16)v106;
-    v110 = (u16)((u32)v108 | (u32)v109);
-    v111 = load_address(v102);
-    v112 = v32 + 80u * 1u;
-    v113 = load_address(v112);
-    v114 = v32 + 88u * 1u;
-    v115 = load64(v114);
-    v116 = v115 == 0u;
-    if (v116) { goto L22; }
-    else { goto L14; }
+    UNREACHABLE;
 L14:;
-    v117 = (u64)((u64)v70 >> (8u & 63u));
-    v118 = (u64)((u64)v70 >> (16u & 63u));
-    v119 = (u64)((u64)v70 >> (24u & 63u));
-    v120 = (u64)((u64)v70 >> (32u & 63u));
-    v121 = (u64)((u64)v70 >> (40u & 63u));
-    v122 = (u64)((u64)v70 >> (48u & 63u));
-    v123 = (u64)((u64)v70 >> (56u & 63u));
-    v124 = v32 + 136u * 1u;
-    v125 = load64(v124);
-    v126 = (u64)((u64)v125 ^ (u64)8u);
-    v127 = wide_of(0, v126);
-    v128 = wide_multiply(v127, wide_of(UINT64_C(0), UINT64_C(11400714819323198469)));
-    v129 = wide_right(v128, wide_of(UINT64_C(0), UINT64_C(64)));
-    v130 = wide_xor(v129, v128);
-    v131 = (u64)((v130).low);
-    v132 = (u64)((u64)v70 & (u64)255u);
-    v133 = (u64)((u64)v132 * (u64)UINT64_C(65793));
-    v134 = (u64)((u64)v133 ^ (u64)v131);
-    v135 = wide_of(0, v134);
-    v136 = wide_multiply(v135, wide_of(UINT64_C(0), UINT64_C(11400714819323198487)));
-    v137 = wide_right(v136, wide_of(UINT64_C(0), UINT64_C(64)));
-    v138 = wide_xor(v137, v136);
-    v139 = (u64)((v138).low);
-    v140 = (u64)((u64)v117 & (u64)255u);
-    v141 = (u64)((u64)v140 * (u64)UINT64_C(65793));
-    v142 = (u64)((u64)v141 ^ (u64)v139);
-    v143 = wide_of(0, v142);
-    v144 = wide_multiply(v143, wide_of(UINT64_C(0), UINT64_C(11400714819323198487)));
-    v145 = wide_right(v144, wide_of(UINT64_C(0), UINT64_C(64)));
-    v146 = wide_xor(v145, v144);
-    v147 = (u64)((v146).low);
-    v148 = (u64)((u64)v118 & (u64)255u);
-    v149 = (u64)((u64)v148 * (u64)UINT64_C(65793));
-    v150 = (u64)((u64)v149 ^ (u64)v147);
-    v151 = wide_of(0, v150);
-    v152 = wide_multiply(v151, wide_of(UINT64_C(0), UINT64_C(11400714819323198487)));
-    v153 = wide_right(v152, wide_of(UINT64_C(0), UINT64_C(64)));
-    v154 = wide_xor(v153, v152);
-    v155 = (u64)((v154).low);
-    v156 = (u64)((u64)v119 & (u64)255u);
-    v157 = (u64)((u64)v156 * (u64)UINT64_C(65793));
-    v158 = (u64)((u64)v157 ^ (u64)v155);
-    v159 = wide_of(0, v158);
-    v160 = wide_multiply(v159, wide_of(UINT64_C(0), UINT64_C(11400714819323198487)));
-    v161 = wide_right(v160, wide_of(UINT64_C(0), UINT64_C(64)));
-    v162 = wide_xor(v161, v160);
-    v163 = (u64)((v162).low);
-    v164 = (u64)((u64)v120 & (u64)255u);
-    v165 = (u64)((u64)v164 * (u64)UINT64_C(65793));
-    v166 = (u64)((u64)v165 ^ (u64)v163);
-    v167 = wide_of(0, v166);
-    v168 = wide_multiply(v167, wide_of(UINT64_C(0), UINT64_C(11400714819323198487)));
-    v169 = wide_right(v168, wide_of(UINT64_C(0), UINT64_C(64)));
-    v170 = wide_xor(v169, v168);
-    v171 = (u64)((v170).low);
-    v172 = (u64)((u64)v121 & (u64)255u);
-    v173 = (u64)((u64)v172 * (u64)UINT64_C(65793));
-    v174 = (u64)((u64)v173 ^ (u64)v171);
-    v175 = wide_of(0, v174);
-    v176 = wide_multiply(v175, wide_of(UINT64_C(0), UINT64_C(11400714819323198487)));
-    v177 = wide_right(v176, wide_of(UINT64_C(0), UINT64_C(64)));
-    v178 = wide_xor(v177, v176);
-    v179 = (u64)((v178).low);
-    v180 = (u64)((u64)v122 & (u64)255u);
-    v181 = (u64)((u64)v180 * (u64)UINT64_C(65793));
-    v182 = (u64)((u64)v181 ^ (u64)v179);
-    v183 = wide_of(0, v182);
-    v184 = wide_multiply(v183, wide_of(UINT64_C(0), UINT64_C(11400714819323198487)));
-    v185 = wide_right(v184, wide_of(UINT64_C(0), UINT64_C(64)));
-    v186 = wide_xor(v185, v184);
-    v187 = (u64)((v186).low);
-    v188 = (u64)((u64)v123 * (u64)UINT64_C(65793));
-    v189 = (u64)((u64)v188 ^ (u64)v187);
-    v190 = wide_of(0, v189);
-    v191 = wide_multiply(v190, wide_of(UINT64_C(0), UINT64_C(11400714819323198487)));
-    v192 = wide_right(v191, wide_of(UINT64_C(0), UINT64_C(64)));
-    v193 = wide_xor(v192, v191);
-    v194 = (u64)((v193).low);
-    v195 = (u64)v104;
-    v196 = (u64)((u64)v195 << (8u & 63u));
-    v197 = (u64)v106;
-    v198 = (u64)((u64)v196 | (u64)v197);
-    v199 = (u64)((u64)v195 << (16u & 63u));
-    v200 = (u64)((u64)v198 | (u64)v199);
-    v201 = (u64)((u64)v200 ^ (u64)v194);
-    v202 = wide_of(0, v201);
-    v203 = wide_multiply(v202, wide_of(UINT64_C(0), UINT64_C(11400714819323198481)));
-    v204 = wide_right(v203, wide_of(UINT64_C(0), UINT64_C(64)));
-    v205 = wide_xor(v204, v203);
-    v206 = (u64)((v205).low);
-    v207 = (u64)((u64)v206 >> (32u & 63u));
-    v208 = (u64)((u64)v207 ^ (u64)v206);
-    v209 = (u64)((u64)v208 >> (24u & 63u));
-    v210 = (u8)(v209);
-    v211 = v210 > 1u ? v210 : 1u;
-    v212 = (u64)((u64)v115 + (u64)UINT64_C(4294967295));
-    v213 = (u64)((u64)v212 & (u64)UINT64_C(4294967295));
-    v214 = (u64)((u64)v213 & (u64)v208);
-    v215 = (struct v16u8){ { 0u } };
-    v215.e[0u] = v211;
-    v216.e[0] = v215.e[0];
-    v216.e[1] = v215.e[0];
-    v216.e[2] = v215.e[0];
-    v216.e[3] = v215.e[0];
-    v216.e[4] = v215.e[0];
-    v216.e[5] = v215.e[0];
-    v216.e[6] = v215.e[0];
-    v216.e[7] = v215.e[0];
-    v216.e[8] = v215.e[0];
-    v216.e[9] = v215.e[0];
-    v216.e[10] = v215.e[0];
-    v216.e[11] = v215.e[0];
-    v216.e[12] = v215.e[0];
-    v216.e[13] = v215.e[0];
-    v216.e[14] = v215.e[0];
-    v216.e[15] = v215.e[0];
-    v217 = (u8)((u32)v211 & (u32)31u);
-    v218 = (u32)v217;
-    v219 = (u32)((u32)1u << (v218 & 31u));
-    v220 = (u64)((u64)v115 + (u64)UINT64_C(18446744073709551615));
-    v221 = (u64)((u64)v70 & (u64)UINT64_C(18374686479671623680));
-    v222 = (u64)((u64)v180 << (48u & 63u));
-    v223 = (u64)((u64)v222 | (u64)v221);
-    v224 = (u64)((u64)v172 << (40u & 63u));
-    v225 = (u64)((u64)v223 | (u64)v224);
-    v226 = (u64)((u64)v164 << (32u & 63u));
-    v227 = (u64)((u64)v225 | (u64)v226);
-    v228 = (u64)((u64)v156 << (24u & 63u));
-    v229 = (u64)((u64)v227 | (u64)v228);
-    v230 = (u64)((u64)v148 << (16u & 63u));
-    v231 = (u64)((u64)v140 << (8u & 63u));
-    v232 = (u64)((u64)v229 | (u64)v230);
-    v233 = (u64)((u64)v232 | (u64)v231);
-    v234 = (u64)((u64)v233 | (u64)v132);
-    v3 = v214; goto L15;
+    v111 = v29 + 42u * 1u;
+    v112 = load8(v111);
+    v113 = v29 + 43u * 1u;
+    v114 = load8(v113);
+    v115 = (u16)v112;
+    v116 = (u16)((u32)v115 << (8u & 15u));
+    v117 = (u16)v114;
+    v118 = (u16)((u32)v116 | (u32)v117);
+    v119 = v37 + 8u * 1u;
+    v120 = load16(v119);
+    v121 = v118 == v120;
+    if (v121) { goto L15; }
+    else { v24 = 11u; goto L59; }
 L15:;
-    v235 = (u64)((u64)v3 << (6u & 63u));
-    v236 = v113 + v235 * 1u;
-    v237 = load8(v236);
-    v238 = v236 + 1u * 1u;
-    v239 = load8(v238);
-    v240 = v236 + 2u * 1u;
-    v241 = load8(v240);
-    v242 = v236 + 3u * 1u;
-    v243 = load8(v242);
-    v244 = v236 + 4u * 1u;
-    v245 = load8(v244);
-    v246 = v236 + 5u * 1u;
-    v247 = load8(v246);
-    v248 = v236 + 6u * 1u;
-    v249 = load8(v248);
-    v250 = v236 + 7u * 1u;
-    v251 = load8(v250);
-    v252 = v236 + 8u * 1u;
-    v253 = load8(v252);
-    v254 = v236 + 9u * 1u;
-    v255 = load8(v254);
-    v256 = v236 + 10u * 1u;
-    v257 = load8(v256);
-    v258 = v236 + 11u * 1u;
-    v259 = load8(v258);
-    v260 = v236 + 12u * 1u;
-    v261 = load8(v260);
-    v262 = v236 + 13u * 1u;
-    v263 = load8(v262);
-    v264 = v236 + 14u * 1u;
-    v265 = load8(v264);
-    v266 = v236 + 15u * 1u;
-    v267 = load8(v266);
-    v268 = (struct v16u8){ { 0u } };
-    v268.e[0u] = v237;
-    v269 = v268;
-    v269.e[1u] = v239;
-    v270 = v269;
-    v270.e[2u] = v241;
-    v271 = v270;
-    v271.e[3u] = v243;
-    v272 = v271;
-    v272.e[4u] = v245;
-    v273 = v272;
-    v273.e[5u] = v247;
-    v274 = v273;
-    v274.e[6u] = v249;
-    v275 = v274;
-    v275.e[7u] = v251;
-    v276 = v275;
-    v276.e[8u] = v253;
-    v277 = v276;
-    v277.e[9u] = v255;
-    v278 = v277;
-    v278.e[10u] = v257;
-    v279 = v278;
-    v279.e[11u] = v259;
-    v280 = v279;
-    v280.e[12u] = v261;
-    v281 = v280;
-    v281.e[13u] = v263;
-    v282 = v281;
-    v282.e[14u] = v265;
-    v283 = v282;
-    v283.e[15u] = v267;
-    v284.e[0] = v283.e[0] == v216.e[0];
-    v284.e[1] = v283.e[1] == v216.e[1];
-    v284.e[2] = v283.e[2] == v216.e[2];
-    v284.e[3] = v283.e[3] == v216.e[3];
-    v284.e[4] = v283.e[4] == v216.e[4];
-    v284.e[5] = v283.e[5] == v216.e[5];
-    v284.e[6] = v283.e[6] == v216.e[6];
-    v284.e[7] = v283.e[7] == v216.e[7];
-    v284.e[8] = v283.e[8] == v216.e[8];
-    v284.e[9] = v283.e[9] == v216.e[9];
-    v284.e[10] = v283.e[10] == v216.e[10];
-    v284.e[11] = v283.e[11] == v216.e[11];
-    v284.e[12] = v283.e[12] == v216.e[12];
-    v284.e[13] = v283.e[13] == v216.e[13];
-    v284.e[14] = v283.e[14] == v216.e[14];
-    v284.e[15] = v283.e[15] == v216.e[15];
-    v285 = (u16)((u32)v284.e[0] << 0 | (u32)v284.e[1] << 1 | (u32)v284.e[2] << 2 | (u32)v284.e[3] << 3 | (u32)v284.e[4] << 4 | (u32)v284.e[5] << 5 | (u32)v284.e[6] << 6 | (u32)v284.e[7] << 7 | (u32)v284.e[8] << 8 | (u32)v284.e[9] << 9 | (u32)v284.e[10] << 10 | (u32)v284.e[11] << 11 | (u32)v284.e[12] << 12 | (u32)v284.e[13] << 13 | (u32)v284.e[14] << 14 | (u32)v284.e[15] << 15);
-    v286 = (u16)((u32)v285 & (u32)4095u);
-    v287 = v286 == 0u;
-    if (v287) { goto L20; }
-    else { goto L16; }
+    v122 = v29 + 34u * 1u;
+    v123 = load64(v122);
+    v124 = load64(v37);
+    v125 = v123 == v124;
+    if (v125) { goto L16; }
+    else { v24 = 11u; goto L59; }
 L16:;
-    v288 = (u32)v286;
-    v289 = v236 + 16u * 1u;
-    v4 = v288; goto L17;
+    v126 = v29 + 20u * 1u;
+    v127 = load64(v126);
+    v128 = v37 + 10u * 1u;
+    v129 = load64(v128);
+    v130 = v129 == UINT64_C(18446744073709551615);
+    v131 = v127 == v129;
+    v132 = v130 ? 1u : v131;
+    if (v132) { goto L17; }
+    else { v24 = 12u; goto L59; }
 L17:;
-    v290 = (u32)cttz(v4, 32u);
-    v291 = (u32)((u32)v290 << (2u & 31u));
-    v292 = (u64)v291;
-    v293 = v289 + v292 * 1u;
-    v294 = load32(v293);
-    v295 = (u64)v294;
-    v296 = (u64)((u64)v295 * (u64)10u);
-    v297 = v111 + v296 * 1u;
-    v298 = v297 + 8u * 1u;
-    v299 = load16(v298);
-    v300 = v110 == v299;
-    if (v300) { goto L18; }
-    else { goto L19; }
+    v133 = v29 + 30u * 1u;
+    v134 = load8(v133);
+    v135 = v29 + 31u * 1u;
+    v136 = load8(v135);
+    v137 = (u16)v134;
+    v138 = (u16)((u32)v137 << (8u & 15u));
+    v139 = (u16)v136;
+    v140 = (u16)((u32)v138 | (u32)v139);
+    v141 = v37 + 20u * 1u;
+    v142 = load16(v141);
+    v143 = v140 == v142;
+    if (v143) { goto L18; }
+    else { v24 = 14u; goto L59; }
 L18:;
-    v301 = load64(v297);
-    v302 = v234 == v301;
-    if (v302) { v19 = 27u; goto L58; }
-    else { goto L19; }
+    v144 = v6 == 2u;
+    if (v144) { goto L19; }
+    else { v24 = 15u; goto L59; }
 L19:;
-    v303 = (u32)((u32)v4 + (u32)UINT32_C(4294967295));
-    v304 = (u32)((u32)v303 & (u32)v4);
-    v305 = v304 == 0u;
-    if (v305) { goto L20; }
-    else { v4 = v304; goto L17; }
+    v145 = v7 == 0u;
+    v146 = v145 ? 52u : 54u;
+    v147 = v145 ? 53u : 55u;
+    v148 = v29 + v146 * 1u;
+    v149 = load8(v148);
+    v150 = v29 + v147 * 1u;
+    v151 = load8(v150);
+    v152 = (u16)v149;
+    v153 = (u16)((u32)v152 << (8u & 15u));
+    v154 = (u16)v151;
+    v155 = (u16)((u32)v153 | (u32)v154);
+    v156 = v37 + 24u * 1u;
+    v157 = load16(v156);
+    v158 = v155 == v157;
+    if (v158) { goto L20; }
+    else { v24 = 15u; goto L59; }
 L20:;
-    v306 = (u32)v267;
-    v307 = (u32)((u32)v306 << (24u & 31u));
-    v308 = (u32)v265;
-    v309 = (u32)((u32)v308 << (16u & 31u));
-    v310 = (u32)v263;
-    v311 = (u32)((u32)v310 << (8u & 31u));
-    v312 = (u32)v261;
-    v313 = (u32)((u32)v311 | (u32)v312);
-    v314 = (u32)((u32)v313 | (u32)v309);
-    v315 = (u32)((u32)v314 | (u32)v307);
-    v316 = (u32)((u32)v315 & (u32)v219);
-    v317 = v316 == 0u;
-    if (v317) { goto L22; }
+    v159 = v37 + 32u * 1u;
+    v160 = v29 + 28u * 1u;
+    v161 = load8(v160);
+    v162 = v29 + 29u * 1u;
+    v163 = load8(v162);
+    v164 = (u16)v161;
+    v165 = (u16)((u32)v164 << (8u & 15u));
+    v166 = (u16)v163;
+    v167 = (u16)((u32)v165 | (u32)v166);
+    v168 = load_address(v159);
+    v169 = v37 + 80u * 1u;
+    v170 = load_address(v169);
+    v171 = v37 + 88u * 1u;
+    v172 = load64(v171);
+    v173 = v172 == 0u;
+    if (v173) { goto L29; }
     else { goto L21; }
 L21:;
-    v318 = (u64)((u64)v3 + (u64)1u);
-    v319 = (u64)((u64)v318 & (u64)v220);
-    v320 = v319 == v214;
-    if (v320) { goto L22; }
-    else { v3 = v319; goto L15; }
+    v174 = (u64)((u64)v127 >> (8u & 63u));
+    v175 = (u64)((u64)v127 >> (16u & 63u));
+    v176 = (u64)((u64)v127 >> (24u & 63u));
+    v177 = (u64)((u64)v127 >> (32u & 63u));
+    v178 = (u64)((u64)v127 >> (40u & 63u));
+    v179 = (u64)((u64)v127 >> (48u & 63u));
+    v180 = (u64)((u64)v127 >> (56u & 63u));
+    v181 = v37 + 136u * 1u;
+    v182 = load64(v181);
+    v183 = (u64)((u64)v182 ^ (u64)8u);
+    v184 = wide_of(0, v183);
+    v185 = wide_multiply(v184, wide_of(UINT64_C(0), UINT64_C(11400714819323198469)));
+    v186 = wide_right(v185, wide_of(UINT64_C(0), UINT64_C(64)));
+    v187 = wide_xor(v186, v185);
+    v188 = (u64)((v187).low);
+    v189 = (u64)((u64)v127 & (u64)255u);
+    v190 = (u64)((u64)v189 * (u64)UINT64_C(65793));
+    v191 = (u64)((u64)v190 ^ (u64)v188);
+    v192 = wide_of(0, v191);
+    v193 = wide_multiply(v192, wide_of(UINT64_C(0), UINT64_C(11400714819323198487)));
+    v194 = wide_right(v193, wide_of(UINT64_C(0), UINT64_C(64)));
+    v195 = wide_xor(v194, v193);
+    v196 = (u64)((v195).low);
+    v197 = (u64)((u64)v174 & (u64)255u);
+    v198 = (u64)((u64)v197 * (u64)UINT64_C(65793));
+    v199 = (u64)((u64)v198 ^ (u64)v196);
+    v200 = wide_of(0, v199);
+    v201 = wide_multiply(v200, wide_of(UINT64_C(0), UINT64_C(11400714819323198487)));
+    v202 = wide_right(v201, wide_of(UINT64_C(0), UINT64_C(64)));
+    v203 = wide_xor(v202, v201);
+    v204 = (u64)((v203).low);
+    v205 = (u64)((u64)v175 & (u64)255u);
+    v206 = (u64)((u64)v205 * (u64)UINT64_C(65793));
+    v207 = (u64)((u64)v206 ^ (u64)v204);
+    v208 = wide_of(0, v207);
+    v209 = wide_multiply(v208, wide_of(UINT64_C(0), UINT64_C(11400714819323198487)));
+    v210 = wide_right(v209, wide_of(UINT64_C(0), UINT64_C(64)));
+    v211 = wide_xor(v210, v209);
+    v212 = (u64)((v211).low);
+    v213 = (u64)((u64)v176 & (u64)255u);
+    v214 = (u64)((u64)v213 * (u64)UINT64_C(65793));
+    v215 = (u64)((u64)v214 ^ (u64)v212);
+    v216 = wide_of(0, v215);
+    v217 = wide_multiply(v216, wide_of(UINT64_C(0), UINT64_C(11400714819323198487)));
+    v218 = wide_right(v217, wide_of(UINT64_C(0), UINT64_C(64)));
+    v219 = wide_xor(v218, v217);
+    v220 = (u64)((v219).low);
+    v221 = (u64)((u64)v177 & (u64)255u);
+    v222 = (u64)((u64)v221 * (u64)UINT64_C(65793));
+    v223 = (u64)((u64)v222 ^ (u64)v220);
+    v224 = wide_of(0, v223);
+    v225 = wide_multiply(v224, wide_of(UINT64_C(0), UINT64_C(11400714819323198487)));
+    v226 = wide_right(v225, wide_of(UINT64_C(0), UINT64_C(64)));
+    v227 = wide_xor(v226, v225);
+    v228 = (u64)((v227).low);
+    v229 = (u64)((u64)v178 & (u64)255u);
+    v230 = (u64)((u64)v229 * (u64)UINT64_C(65793));
+    v231 = (u64)((u64)v230 ^ (u64)v228);
+    v232 = wide_of(0, v231);
+    v233 = wide_multiply(v232, wide_of(UINT64_C(0), UINT64_C(11400714819323198487)));
+    v234 = wide_right(v233, wide_of(UINT64_C(0), UINT64_C(64)));
+    v235 = wide_xor(v234, v233);
+    v236 = (u64)((v235).low);
+    v237 = (u64)((u64)v179 & (u64)255u);
+    v238 = (u64)((u64)v237 * (u64)UINT64_C(65793));
+    v239 = (u64)((u64)v238 ^ (u64)v236);
+    v240 = wide_of(0, v239);
+    v241 = wide_multiply(v240, wide_of(UINT64_C(0), UINT64_C(11400714819323198487)));
+    v242 = wide_right(v241, wide_of(UINT64_C(0), UINT64_C(64)));
+    v243 = wide_xor(v242, v241);
+    v244 = (u64)((v243).low);
+    v245 = (u64)((u64)v180 * (u64)UINT64_C(65793));
+    v246 = (u64)((u64)v245 ^ (u64)v244);
+    v247 = wide_of(0, v246);
+    v248 = wide_multiply(v247, wide_of(UINT64_C(0), UINT64_C(11400714819323198487)));
+    v249 = wide_right(v248, wide_of(UINT64_C(0), UINT64_C(64)));
+    v250 = wide_xor(v249, v248);
+    v251 = (u64)((v250).low);
+    v252 = (u64)v161;
+    v253 = (u64)((u64)v252 << (8u & 63u));
+    v254 = (u64)v163;
+    v255 = (u64)((u64)v253 | (u64)v254);
+    v256 = (u64)((u64)v252 << (16u & 63u));
+    v257 = (u64)((u64)v255 | (u64)v256);
+    v258 = (u64)((u64)v257 ^ (u64)v251);
+    v259 = wide_of(0, v258);
+    v260 = wide_multiply(v259, wide_of(UINT64_C(0), UINT64_C(11400714819323198481)));
+    v261 = wide_right(v260, wide_of(UINT64_C(0), UINT64_C(64)));
+    v262 = wide_xor(v261, v260);
+    v263 = (u64)((v262).low);
+    v264 = (u64)((u64)v263 >> (32u & 63u));
+    v265 = (u64)((u64)v264 ^ (u64)v263);
+    v266 = (u64)((u64)v265 >> (24u & 63u));
+    v267 = (u8)(v266);
+    v268 = v267 > 1u ? v267 : 1u;
+    v269 = (u64)((u64)v172 + (u64)UINT64_C(4294967295));
+    v270 = (u64)((u64)v269 & (u64)UINT64_C(4294967295));
+    v271 = (u64)((u64)v270 & (u64)v265);
+    v272 = (struct v16u8){ { 0u } };
+    v272.e[0u] = v268;
+    v273.e[0] = v272.e[0];
+    v273.e[1] = v272.e[0];
+    v273.e[2] = v272.e[0];
+    v273.e[3] = v272.e[0];
+    v273.e[4] = v272.e[0];
+    v273.e[5] = v272.e[0];
+    v273.e[6] = v272.e[0];
+    v273.e[7] = v272.e[0];
+    v273.e[8] = v272.e[0];
+    v273.e[9] = v272.e[0];
+    v273.e[10] = v272.e[0];
+    v273.e[11] = v272.e[0];
+    v273.e[12] = v272.e[0];
+    v273.e[13] = v272.e[0];
+    v273.e[14] = v272.e[0];
+    v273.e[15] = v272.e[0];
+    v274 = (u8)((u32)v268 & (u32)31u);
+    v275 = (u32)v274;
+    v276 = (u32)((u32)1u << (v275 & 31u));
+    v277 = (u64)((u64)v172 + (u64)UINT64_C(18446744073709551615));
+    v278 = (u64)((u64)v127 & (u64)UINT64_C(18374686479671623680));
+    v279 = (u64)((u64)v237 << (48u & 63u));
+    v280 = (u64)((u64)v279 | (u64)v278);
+    v281 = (u64)((u64)v229 << (40u & 63u));
+    v282 = (u64)((u64)v280 | (u64)v281);
+    v283 = (u64)((u64)v221 << (32u & 63u));
+    v284 = (u64)((u64)v282 | (u64)v283);
+    v285 = (u64)((u64)v213 << (24u & 63u));
+    v286 = (u64)((u64)v284 | (u64)v285);
+    v287 = (u64)((u64)v205 << (16u & 63u));
+    v288 = (u64)((u64)v197 << (8u & 63u));
+    v289 = (u64)((u64)v286 | (u64)v287);
+    v290 = (u64)((u64)v289 | (u64)v288);
+    v291 = (u64)((u64)v290 | (u64)v189);
+    v8 = v271; goto L22;
 L22:;
-    v321 = v32 + 40u * 1u;
-    v322 = load64(v321);
-    v323 = v322 > 16383u;
-    if (v323) { v19 = 28u; goto L58; }
+    v292 = (u64)((u64)v8 << (6u & 63u));
+    v293 = v170 + v292 * 1u;
+    v294 = load8(v293);
+    v295 = v293 + 1u * 1u;
+    v296 = load8(v295);
+    v297 = v293 + 2u * 1u;
+    v298 = load8(v297);
+    v299 = v293 + 3u * 1u;
+    v300 = load8(v299);
+    v301 = v293 + 4u * 1u;
+    v302 = load8(v301);
+    v303 = v293 + 5u * 1u;
+    v304 = load8(v303);
+    v305 = v293 + 6u * 1u;
+    v306 = load8(v305);
+    v307 = v293 + 7u * 1u;
+    v308 = load8(v307);
+    v309 = v293 + 8u * 1u;
+    v310 = load8(v309);
+    v311 = v293 + 9u * 1u;
+    v312 = load8(v311);
+    v313 = v293 + 10u * 1u;
+    v314 = load8(v313);
+    v315 = v293 + 11u * 1u;
+    v316 = load8(v315);
+    v317 = v293 + 12u * 1u;
+    v318 = load8(v317);
+    v319 = v293 + 13u * 1u;
+    v320 = load8(v319);
+    v321 = v293 + 14u * 1u;
+    v322 = load8(v321);
+    v323 = v293 + 15u * 1u;
+    v324 = load8(v323);
+    v325 = (struct v16u8){ { 0u } };
+    v325.e[0u] = v294;
+    v326 = v325;
+    v326.e[1u] = v296;
+    v327 = v326;
+    v327.e[2u] = v298;
+    v328 = v327;
+    v328.e[3u] = v300;
+    v329 = v328;
+    v329.e[4u] = v302;
+    v330 = v329;
+    v330.e[5u] = v304;
+    v331 = v330;
+    v331.e[6u] = v306;
+    v332 = v331;
+    v332.e[7u] = v308;
+    v333 = v332;
+    v333.e[8u] = v310;
+    v334 = v333;
+    v334.e[9u] = v312;
+    v335 = v334;
+    v335.e[10u] = v314;
+    v336 = v335;
+    v336.e[11u] = v316;
+    v337 = v336;
+    v337.e[12u] = v318;
+    v338 = v337;
+    v338.e[13u] = v320;
+    v339 = v338;
+    v339.e[14u] = v322;
+    v340 = v339;
+    v340.e[15u] = v324;
+    v341.e[0] = v340.e[0] == v273.e[0];
+    v341.e[1] = v340.e[1] == v273.e[1];
+    v341.e[2] = v340.e[2] == v273.e[2];
+    v341.e[3] = v340.e[3] == v273.e[3];
+    v341.e[4] = v340.e[4] == v273.e[4];
+    v341.e[5] = v340.e[5] == v273.e[5];
+    v341.e[6] = v340.e[6] == v273.e[6];
+    v341.e[7] = v340.e[7] == v273.e[7];
+    v341.e[8] = v340.e[8] == v273.e[8];
+    v341.e[9] = v340.e[9] == v273.e[9];
+    v341.e[10] = v340.e[10] == v273.e[10];
+    v341.e[11] = v340.e[11] == v273.e[11];
+    v341.e[12] = v340.e[12] == v273.e[12];
+    v341.e[13] = v340.e[13] == v273.e[13];
+    v341.e[14] = v340.e[14] == v273.e[14];
+    v341.e[15] = v340.e[15] == v273.e[15];
+    v342 = (u16)((u32)v341.e[0] << 0 | (u32)v341.e[1] << 1 | (u32)v341.e[2] << 2 | (u32)v341.e[3] << 3 | (u32)v341.e[4] << 4 | (u32)v341.e[5] << 5 | (u32)v341.e[6] << 6 | (u32)v341.e[7] << 7 | (u32)v341.e[8] << 8 | (u32)v341.e[9] << 9 | (u32)v341.e[10] << 10 | (u32)v341.e[11] << 11 | (u32)v341.e[12] << 12 | (u32)v341.e[13] << 13 | (u32)v341.e[14] << 14 | (u32)v341.e[15] << 15);
+    v343 = (u16)((u32)v342 & (u32)4095u);
+    v344 = v343 == 0u;
+    if (v344) { goto L27; }
     else { goto L23; }
 L23:;
-    switch (v42) {
-    case 0u: goto L25;
-    case 1u: goto L24;
-    default: v5 = v20; v6 = ADDRESS(c148); v7 = 0u; goto L29;
-    }
+    v345 = (u32)v343;
+    v346 = v293 + 16u * 1u;
+    v9 = v345; goto L24;
 L24:;
-    v324 = v36 + 52u * 1u;
-    v325 = load8(v324);
-    v326 = (u16)v325;
-    v327 = (u16)((u32)v326 << (8u & 15u));
-    v328 = v36 + 53u * 1u;
-    v329 = load8(v328);
-    v330 = (u16)v329;
-    v331 = (u16)((u32)v327 | (u32)v330);
-    v9 = 0u; v10 = 0u; v11 = v331; v12 = 1u; v13 = 2u; goto L31;
+    v347 = (u32)cttz(v9, 32u);
+    v348 = (u32)((u32)v347 << (2u & 31u));
+    v349 = (u64)v348;
+    v350 = v346 + v349 * 1u;
+    v351 = load32(v350);
+    v352 = (u64)v351;
+    v353 = (u64)((u64)v352 * (u64)10u);
+    v354 = v168 + v353 * 1u;
+    v355 = v354 + 8u * 1u;
+    v356 = load16(v355);
+    v357 = v167 == v356;
+    if (v357) { goto L25; }
+    else { goto L26; }
 L25:;
-    v332 = v36 + 54u * 1u;
-    v333 = (u64)((u64)v38 + (u64)UINT64_C(18446744073709551562));
-    v334 = v333 == 0u;
-    if (v334) { v5 = v20; v6 = v332; v7 = 0u; goto L29; }
+    v358 = load64(v354);
+    v359 = v291 == v358;
+    if (v359) { v24 = 27u; goto L59; }
     else { goto L26; }
 L26:;
-    v335 = (i64)v333 > (i64)UINT64_C(18446744073709551615);
-    if (v335) { goto L27; }
-    else { v19 = 35u; goto L58; }
+    v360 = (u32)((u32)v9 + (u32)UINT32_C(4294967295));
+    v361 = (u32)((u32)v360 & (u32)v9);
+    v362 = v361 == 0u;
+    if (v362) { goto L27; }
+    else { v9 = v361; goto L24; }
 L27:;
-    v336 = portable_rattle_alloc(v333, 1u);
-    v337 = v336;
-    v338 = v337.m0;
-    v339 = (u8)((v338) & UINT64_C(1));
-    if (v339) { goto L28; }
-    else { v19 = 35u; goto L58; }
+    v363 = (u32)v324;
+    v364 = (u32)((u32)v363 << (24u & 31u));
+    v365 = (u32)v322;
+    v366 = (u32)((u32)v365 << (16u & 31u));
+    v367 = (u32)v320;
+    v368 = (u32)((u32)v367 << (8u & 31u));
+    v369 = (u32)v318;
+    v370 = (u32)((u32)v368 | (u32)v369);
+    v371 = (u32)((u32)v370 | (u32)v366);
+    v372 = (u32)((u32)v371 | (u32)v364);
+    v373 = (u32)((u32)v372 & (u32)v276);
+    v374 = v373 == 0u;
+    if (v374) { goto L29; }
+    else { goto L28; }
 L28:;
-    v340 = v337.m1;
-    v341 = (address)v340;
-    v342 = (u64)v332;
-    v343 = (u64)((u64)v340 - (u64)v342);
-    v344 = v343 < v333;
-    if (v344) { v8 = 0u; goto L30; }
-    else { v5 = v341; v6 = v332; v7 = v333; goto L29; }
+    v375 = (u64)((u64)v8 + (u64)1u);
+    v376 = (u64)((u64)v375 & (u64)v277);
+    v377 = v376 == v271;
+    if (v377) { goto L29; }
+    else { v8 = v376; goto L22; }
 L29:;
-    memory_move(v5, v6, v7);
-    v9 = v7; v10 = v5; v11 = 0u; v12 = 0u; v13 = 0u; goto L31;
+    v378 = v37 + 40u * 1u;
+    v379 = load64(v378);
+    v380 = v379 > 16383u;
+    if (v380) { v24 = 28u; goto L59; }
+    else { goto L30; }
 L30:;
-    v345 = v341 + v8 * 1u;
-    v346 = v332 + v8 * 1u;
-    v347 = load8(v346);
-    store8(v345, v347);
-    v348 = (u64)((u64)v8 + (u64)1u);
-    v349 = v348 == v333;
-    if (v349) { v9 = v333; v10 = v341; v11 = 0u; v12 = 0u; v13 = 0u; goto L31; }
-    else { v8 = v348; goto L30; }
+    switch (v7) {
+    case 0u: goto L32;
+    case 1u: goto L31;
+    default: v10 = v25; v11 = ADDRESS(c155); v12 = 0u; goto L36;
+    }
 L31:;
-    v350 = (u16)v13;
-    v351 = (u64)((u64)v70 >> (8u & 63u));
-    v352 = (u64)((u64)v70 >> (16u & 63u));
-    v353 = (u64)((u64)v70 >> (24u & 63u));
-    v354 = (u64)((u64)v70 >> (32u & 63u));
-    v355 = (u64)((u64)v70 >> (40u & 63u));
-    v356 = (u64)((u64)v70 >> (48u & 63u));
-    v357 = (u64)((u64)v70 >> (56u & 63u));
-    v358 = v32 + 136u * 1u;
-    v359 = load64(v358);
-    v360 = (u64)((u64)v359 ^ (u64)8u);
-    v361 = wide_of(0, v360);
-    v362 = wide_multiply(v361, wide_of(UINT64_C(0), UINT64_C(11400714819323198469)));
-    v363 = wide_right(v362, wide_of(UINT64_C(0), UINT64_C(64)));
-    v364 = wide_xor(v363, v362);
-    v365 = (u64)((v364).low);
-    v366 = (u64)((u64)v70 & (u64)255u);
-    v367 = (u64)((u64)v366 * (u64)UINT64_C(65793));
-    v368 = (u64)((u64)v367 ^ (u64)v365);
-    v369 = wide_of(0, v368);
-    v370 = wide_multiply(v369, wide_of(UINT64_C(0), UINT64_C(11400714819323198487)));
-    v371 = wide_right(v370, wide_of(UINT64_C(0), UINT64_C(64)));
-    v372 = wide_xor(v371, v370);
-    v373 = (u64)((v372).low);
-    v374 = (u64)((u64)v351 & (u64)255u);
-    v375 = (u64)((u64)v374 * (u64)UINT64_C(65793));
-    v376 = (u64)((u64)v375 ^ (u64)v373);
-    v377 = wide_of(0, v376);
-    v378 = wide_multiply(v377, wide_of(UINT64_C(0), UINT64_C(11400714819323198487)));
-    v379 = wide_right(v378, wide_of(UINT64_C(0), UINT64_C(64)));
-    v380 = wide_xor(v379, v378);
-    v381 = (u64)((v380).low);
-    v382 = (u64)((u64)v352 & (u64)255u);
-    v383 = (u64)((u64)v382 * (u64)UINT64_C(65793));
-    v384 = (u64)((u64)v383 ^ (u64)v381);
-    v385 = wide_of(0, v384);
-    v386 = wide_multiply(v385, wide_of(UINT64_C(0), UINT64_C(11400714819323198487)));
-    v387 = wide_right(v386, wide_of(UINT64_C(0), UINT64_C(64)));
-    v388 = wide_xor(v387, v386);
-    v389 = (u64)((v388).low);
-    v390 = (u64)((u64)v353 & (u64)255u);
-    v391 = (u64)((u64)v390 * (u64)UINT64_C(65793));
-    v392 = (u64)((u64)v391 ^ (u64)v389);
-    v393 = wide_of(0, v392);
-    v394 = wide_multiply(v393, wide_of(UINT64_C(0), UINT64_C(11400714819323198487)));
-    v395 = wide_right(v394, wide_of(UINT64_C(0), UINT64_C(64)));
-    v396 = wide_xor(v395, v394);
-    v397 = (u64)((v396).low);
-    v398 = (u64)((u64)v354 & (u64)255u);
-    v399 = (u64)((u64)v398 * (u64)UINT64_C(65793));
-    v400 = (u64)((u64)v399 ^ (u64)v397);
-    v401 = wide_of(0, v400);
-    v402 = wide_multiply(v401, wide_of(UINT64_C(0), UINT64_C(11400714819323198487)));
-    v403 = wide_right(v402, wide_of(UINT64_C(0), UINT64_C(64)));
-    v404 = wide_xor(v403, v402);
-    v405 = (u64)((v404).low);
-    v406 = (u64)((u64)v355 & (u64)255u);
-    v407 = (u64)((u64)v406 * (u64)UINT64_C(65793));
-    v408 = (u64)((u64)v407 ^ (u64)v405);
-    v409 = wide_of(0, v408);
-    v410 = wide_multiply(v409, wide_of(UINT64_C(0), UINT64_C(11400714819323198487)));
-    v411 = wide_right(v410, wide_of(UINT64_C(0), UINT64_C(64)));
-    v412 = wide_xor(v411, v410);
-    v413 = (u64)((v412).low);
-    v414 = (u64)((u64)v356 & (u64)255u);
-    v415 = (u64)((u64)v414 * (u64)UINT64_C(65793));
-    v416 = (u64)((u64)v415 ^ (u64)v413);
-    v417 = wide_of(0, v416);
-    v418 = wide_multiply(v417, wide_of(UINT64_C(0), UINT64_C(11400714819323198487)));
-    v419 = wide_right(v418, wide_of(UINT64_C(0), UINT64_C(64)));
-    v420 = wide_xor(v419, v418);
-    v421 = (u64)((v420).low);
-    v422 = (u64)((u64)v357 * (u64)UINT64_C(65793));
-    v423 = (u64)((u64)v422 ^ (u64)v421);
-    v424 = wide_of(0, v423);
-    v425 = wide_multiply(v424, wide_of(UINT64_C(0), UINT64_C(11400714819323198487)));
-    v426 = wide_right(v425, wide_of(UINT64_C(0), UINT64_C(64)));
-    v427 = wide_xor(v426, v425);
-    v428 = (u64)((v427).low);
-    v429 = (u64)v104;
-    v430 = (u64)((u64)v429 << (8u & 63u));
-    v431 = (u64)v106;
-    v432 = (u64)((u64)v430 | (u64)v431);
-    v433 = (u64)((u64)v429 << (16u & 63u));
-    v434 = (u64)((u64)v432 | (u64)v433);
-    v435 = (u64)((u64)v434 ^ (u64)v428);
-    v436 = wide_of(0, v435);
-    v437 = wide_multiply(v436, wide_of(UINT64_C(0), UINT64_C(11400714819323198481)));
-    v438 = wide_right(v437, wide_of(UINT64_C(0), UINT64_C(64)));
-    v439 = wide_xor(v438, v437);
-    v440 = (u64)((v439).low);
-    v441 = (u64)((u64)v440 >> (32u & 63u));
-    v442 = (u64)((u64)v441 ^ (u64)v440);
-    v443 = load_address(v102);
-    v444 = load64(v321);
-    v445 = load_address(v112);
-    v446 = load64(v114);
-    v447 = v446 == 0u;
-    if (v447) { goto L40; }
-    else { goto L32; }
+    v381 = v29 + 52u * 1u;
+    v382 = load8(v381);
+    v383 = (u16)v382;
+    v384 = (u16)((u32)v383 << (8u & 15u));
+    v385 = v29 + 53u * 1u;
+    v386 = load8(v385);
+    v387 = (u16)v386;
+    v388 = (u16)((u32)v384 | (u32)v387);
+    v14 = 0u; v15 = 0u; v16 = v388; v17 = 1u; v18 = 2u; goto L38;
 L32:;
-    v448 = (u64)((u64)v442 >> (24u & 63u));
-    v449 = (u8)(v448);
-    v450 = v449 > 1u ? v449 : 1u;
-    v451 = (u64)((u64)v446 + (u64)UINT64_C(4294967295));
-    v452 = (u64)((u64)v451 & (u64)UINT64_C(4294967295));
-    v453 = (u64)((u64)v452 & (u64)v442);
-    v454 = (struct v16u8){ { 0u } };
-    v454.e[0u] = v450;
-    v455.e[0] = v454.e[0];
-    v455.e[1] = v454.e[0];
-    v455.e[2] = v454.e[0];
-    v455.e[3] = v454.e[0];
-    v455.e[4] = v454.e[0];
-    v455.e[5] = v454.e[0];
-    v455.e[6] = v454.e[0];
-    v455.e[7] = v454.e[0];
-    v455.e[8] = v454.e[0];
-    v455.e[9] = v454.e[0];
-    v455.e[10] = v454.e[0];
-    v455.e[11] = v454.e[0];
-    v455.e[12] = v454.e[0];
-    v455.e[13] = v454.e[0];
-    v455.e[14] = v454.e[0];
-    v455.e[15] = v454.e[0];
-    v456 = (u64)((u64)v70 & (u64)UINT64_C(18374686479671623680));
-    v457 = (u64)((u64)v414 << (48u & 63u));
-    v458 = (u64)((u64)v457 | (u64)v456);
-    v459 = (u64)((u64)v406 << (40u & 63u));
-    v460 = (u64)((u64)v458 | (u64)v459);
-    v461 = (u64)((u64)v398 << (32u & 63u));
-    v462 = (u64)((u64)v460 | (u64)v461);
-    v463 = (u64)((u64)v390 << (24u & 63u));
-    v464 = (u64)((u64)v462 | (u64)v463);
-    v465 = (u64)((u64)v382 << (16u & 63u));
-    v466 = (u64)((u64)v374 << (8u & 63u));
-    v467 = (u64)((u64)v464 | (u64)v465);
-    v468 = (u64)((u64)v467 | (u64)v466);
-    v469 = (u64)((u64)v468 | (u64)v366);
-    v470 = (u8)((u32)v450 & (u32)31u);
-    v471 = (u32)v470;
-    v472 = (u32)((u32)1u << (v471 & 31u));
-    v473 = (u64)((u64)v446 + (u64)UINT64_C(18446744073709551615));
-    v14 = v453; goto L33;
+    v389 = v29 + 54u * 1u;
+    v390 = (u64)((u64)v100 + (u64)UINT64_C(18446744073709551562));
+    v391 = v390 == 0u;
+    if (v391) { v10 = v25; v11 = v389; v12 = 0u; goto L36; }
+    else { goto L33; }
 L33:;
-    v474 = (u64)((u64)v14 << (6u & 63u));
-    v475 = v445 + v474 * 1u;
-    v476 = load8(v475);
-    v477 = v475 + 1u * 1u;
-    v478 = load8(v477);
-    v479 = v475 + 2u * 1u;
-    v480 = load8(v479);
-    v481 = v475 + 3u * 1u;
-    v482 = load8(v481);
-    v483 = v475 + 4u * 1u;
-    v484 = load8(v483);
-    v485 = v475 + 5u * 1u;
-    v486 = load8(v485);
-    v487 = v475 + 6u * 1u;
-    v488 = load8(v487);
-    v489 = v475 + 7u * 1u;
-    v490 = load8(v489);
-    v491 = v475 + 8u * 1u;
-    v492 = load8(v491);
-    v493 = v475 + 9u * 1u;
-    v494 = load8(v493);
-    v495 = v475 + 10u * 1u;
-    v496 = load8(v495);
-    v497 = v475 + 11u * 1u;
-    v498 = load8(v497);
-    v499 = v475 + 12u * 1u;
-    v500 = load8(v499);
-    v501 = v475 + 13u * 1u;
-    v502 = load8(v501);
-    v503 = v475 + 14u * 1u;
-    v504 = load8(v503);
-    v505 = v475 + 15u * 1u;
-    v506 = load8(v505);
-    v507 = (struct v16u8){ { 0u } };
-    v507.e[0u] = v476;
-    v508 = v507;
-    v508.e[1u] = v478;
-    v509 = v508;
-    v509.e[2u] = v480;
-    v510 = v509;
-    v510.e[3u] = v482;
-    v511 = v510;
-    v511.e[4u] = v484;
-    v512 = v511;
-    v512.e[5u] = v486;
-    v513 = v512;
-    v513.e[6u] = v488;
-    v514 = v513;
-    v514.e[7u] = v490;
-    v515 = v514;
-    v515.e[8u] = v492;
-    v516 = v515;
-    v516.e[9u] = v494;
-    v517 = v516;
-    v517.e[10u] = v496;
-    v518 = v517;
-    v518.e[11u] = v498;
-    v519 = v518;
-    v519.e[12u] = v500;
-    v520 = v519;
-    v520.e[13u] = v502;
-    v521 = v520;
-    v521.e[14u] = v504;
-    v522 = v521;
-    v522.e[15u] = v506;
-    v523.e[0] = v522.e[0] == v455.e[0];
-    v523.e[1] = v522.e[1] == v455.e[1];
-    v523.e[2] = v522.e[2] == v455.e[2];
-    v523.e[3] = v522.e[3] == v455.e[3];
-    v523.e[4] = v522.e[4] == v455.e[4];
-    v523.e[5] = v522.e[5] == v455.e[5];
-    v523.e[6] = v522.e[6] == v455.e[6];
-    v523.e[7] = v522.e[7] == v455.e[7];
-    v523.e[8] = v522.e[8] == v455.e[8];
-    v523.e[9] = v522.e[9] == v455.e[9];
-    v523.e[10] = v522.e[10] == v455.e[10];
-    v523.e[11] = v522.e[11] == v455.e[11];
-    v523.e[12] = v522.e[12] == v455.e[12];
-    v523.e[13] = v522.e[13] == v455.e[13];
-    v523.e[14] = v522.e[14] == v455.e[14];
-    v523.e[15] = v522.e[15] == v455.e[15];
-    v524 = (u16)((u32)v523.e[0] << 0 | (u32)v523.e[1] << 1 | (u32)v523.e[2] << 2 | (u32)v523.e[3] << 3 | (u32)v523.e[4] << 4 | (u32)v523.e[5] << 5 | (u32)v523.e[6] << 6 | (u32)v523.e[7] << 7 | (u32)v523.e[8] << 8 | (u32)v523.e[9] << 9 | (u32)v523.e[10] << 10 | (u32)v523.e[11] << 11 | (u32)v523.e[12] << 12 | (u32)v523.e[13] << 13 | (u32)v523.e[14] << 14 | (u32)v523.e[15] << 15);
-    v525 = (u16)((u32)v524 & (u32)4095u);
-    v526 = v525 == 0u;
-    if (v526) { goto L38; }
-    else { goto L34; }
+    v392 = v100 > 53u;
+    if (v392) { goto L34; }
+    else { v24 = 35u; goto L59; }
 L34:;
-    v527 = (u32)v525;
-    v528 = v475 + 16u * 1u;
-    v15 = v527; goto L35;
+    v393 = portable_rattle_alloc(v390, 1u);
+    v394 = v393;
+    v395 = v394.m0;
+    v396 = (u8)((v395) & UINT64_C(1));
+    if (v396) { goto L35; }
+    else { v24 = 35u; goto L59; }
 L35:;
-    v529 = (u32)cttz(v15, 32u);
-    v530 = (u32)((u32)v529 << (2u & 31u));
-    v531 = (u64)v530;
-    v532 = v528 + v531 * 1u;
-    v533 = load32(v532);
-    v534 = (u64)v533;
-    v535 = (u64)((u64)v534 * (u64)10u);
-    v536 = v443 + v535 * 1u;
-    v537 = v536 + 8u * 1u;
-    v538 = load16(v537);
-    v539 = v110 == v538;
-    if (v539) { goto L36; }
-    else { goto L37; }
+    v397 = v394.m1;
+    v398 = (address)v397;
+    v399 = (u64)v389;
+    v400 = (u64)((u64)v397 - (u64)v399);
+    v401 = v400 < v390;
+    if (v401) { v13 = 0u; goto L37; }
+    else { v10 = v398; v11 = v389; v12 = v390; goto L36; }
 L36:;
-    v540 = load64(v536);
-    v541 = v469 == v540;
-    if (v541) { goto L47; }
-    else { goto L37; }
+    memory_move(v10, v11, v12);
+    v14 = v12; v15 = v10; v16 = 0u; v17 = 0u; v18 = 0u; goto L38;
 L37:;
-    v542 = (u32)((u32)v15 + (u32)UINT32_C(4294967295));
-    v543 = (u32)((u32)v542 & (u32)v15);
-    v544 = v543 == 0u;
-    if (v544) { goto L38; }
-    else { v15 = v543; goto L35; }
+    v402 = v398 + v13 * 1u;
+    v403 = v389 + v13 * 1u;
+    v404 = load8(v403);
+    store8(v402, v404);
+    v405 = (u64)((u64)v13 + (u64)1u);
+    v406 = v405 == v390;
+    if (v406) { v14 = v390; v15 = v398; v16 = 0u; v17 = 0u; v18 = 0u; goto L38; }
+    else { v13 = v405; goto L37; }
 L38:;
-    v545 = (u32)v506;
-    v546 = (u32)((u32)v545 << (24u & 31u));
-    v547 = (u32)v504;
-    v548 = (u32)((u32)v547 << (16u & 31u));
-    v549 = (u32)v502;
-    v550 = (u32)((u32)v549 << (8u & 31u));
-    v551 = (u32)v500;
-    v552 = (u32)((u32)v550 | (u32)v551);
-    v553 = (u32)((u32)v552 | (u32)v548);
-    v554 = (u32)((u32)v553 | (u32)v546);
-    v555 = (u32)((u32)v554 & (u32)v472);
-    v556 = v555 == 0u;
-    if (v556) { goto L40; }
+    v407 = (u16)v18;
+    v408 = (u64)((u64)v127 >> (8u & 63u));
+    v409 = (u64)((u64)v127 >> (16u & 63u));
+    v410 = (u64)((u64)v127 >> (24u & 63u));
+    v411 = (u64)((u64)v127 >> (32u & 63u));
+    v412 = (u64)((u64)v127 >> (40u & 63u));
+    v413 = (u64)((u64)v127 >> (48u & 63u));
+    v414 = (u64)((u64)v127 >> (56u & 63u));
+    v415 = v37 + 136u * 1u;
+    v416 = load64(v415);
+    v417 = (u64)((u64)v416 ^ (u64)8u);
+    v418 = wide_of(0, v417);
+    v419 = wide_multiply(v418, wide_of(UINT64_C(0), UINT64_C(11400714819323198469)));
+    v420 = wide_right(v419, wide_of(UINT64_C(0), UINT64_C(64)));
+    v421 = wide_xor(v420, v419);
+    v422 = (u64)((v421).low);
+    v423 = (u64)((u64)v127 & (u64)255u);
+    v424 = (u64)((u64)v423 * (u64)UINT64_C(65793));
+    v425 = (u64)((u64)v424 ^ (u64)v422);
+    v426 = wide_of(0, v425);
+    v427 = wide_multiply(v426, wide_of(UINT64_C(0), UINT64_C(11400714819323198487)));
+    v428 = wide_right(v427, wide_of(UINT64_C(0), UINT64_C(64)));
+    v429 = wide_xor(v428, v427);
+    v430 = (u64)((v429).low);
+    v431 = (u64)((u64)v408 & (u64)255u);
+    v432 = (u64)((u64)v431 * (u64)UINT64_C(65793));
+    v433 = (u64)((u64)v432 ^ (u64)v430);
+    v434 = wide_of(0, v433);
+    v435 = wide_multiply(v434, wide_of(UINT64_C(0), UINT64_C(11400714819323198487)));
+    v436 = wide_right(v435, wide_of(UINT64_C(0), UINT64_C(64)));
+    v437 = wide_xor(v436, v435);
+    v438 = (u64)((v437).low);
+    v439 = (u64)((u64)v409 & (u64)255u);
+    v440 = (u64)((u64)v439 * (u64)UINT64_C(65793));
+    v441 = (u64)((u64)v440 ^ (u64)v438);
+    v442 = wide_of(0, v441);
+    v443 = wide_multiply(v442, wide_of(UINT64_C(0), UINT64_C(11400714819323198487)));
+    v444 = wide_right(v443, wide_of(UINT64_C(0), UINT64_C(64)));
+    v445 = wide_xor(v444, v443);
+    v446 = (u64)((v445).low);
+    v447 = (u64)((u64)v410 & (u64)255u);
+    v448 = (u64)((u64)v447 * (u64)UINT64_C(65793));
+    v449 = (u64)((u64)v448 ^ (u64)v446);
+    v450 = wide_of(0, v449);
+    v451 = wide_multiply(v450, wide_of(UINT64_C(0), UINT64_C(11400714819323198487)));
+    v452 = wide_right(v451, wide_of(UINT64_C(0), UINT64_C(64)));
+    v453 = wide_xor(v452, v451);
+    v454 = (u64)((v453).low);
+    v455 = (u64)((u64)v411 & (u64)255u);
+    v456 = (u64)((u64)v455 * (u64)UINT64_C(65793));
+    v457 = (u64)((u64)v456 ^ (u64)v454);
+    v458 = wide_of(0, v457);
+    v459 = wide_multiply(v458, wide_of(UINT64_C(0), UINT64_C(11400714819323198487)));
+    v460 = wide_right(v459, wide_of(UINT64_C(0), UINT64_C(64)));
+    v461 = wide_xor(v460, v459);
+    v462 = (u64)((v461).low);
+    v463 = (u64)((u64)v412 & (u64)255u);
+    v464 = (u64)((u64)v463 * (u64)UINT64_C(65793));
+    v465 = (u64)((u64)v464 ^ (u64)v462);
+    v466 = wide_of(0, v465);
+    v467 = wide_multiply(v466, wide_of(UINT64_C(0), UINT64_C(11400714819323198487)));
+    v468 = wide_right(v467, wide_of(UINT64_C(0), UINT64_C(64)));
+    v469 = wide_xor(v468, v467);
+    v470 = (u64)((v469).low);
+    v471 = (u64)((u64)v413 & (u64)255u);
+    v472 = (u64)((u64)v471 * (u64)UINT64_C(65793));
+    v473 = (u64)((u64)v472 ^ (u64)v470);
+    v474 = wide_of(0, v473);
+    v475 = wide_multiply(v474, wide_of(UINT64_C(0), UINT64_C(11400714819323198487)));
+    v476 = wide_right(v475, wide_of(UINT64_C(0), UINT64_C(64)));
+    v477 = wide_xor(v476, v475);
+    v478 = (u64)((v477).low);
+    v479 = (u64)((u64)v414 * (u64)UINT64_C(65793));
+    v480 = (u64)((u64)v479 ^ (u64)v478);
+    v481 = wide_of(0, v480);
+    v482 = wide_multiply(v481, wide_of(UINT64_C(0), UINT64_C(11400714819323198487)));
+    v483 = wide_right(v482, wide_of(UINT64_C(0), UINT64_C(64)));
+    v484 = wide_xor(v483, v482);
+    v485 = (u64)((v484).low);
+    v486 = (u64)v161;
+    v487 = (u64)((u64)v486 << (8u & 63u));
+    v488 = (u64)v163;
+    v489 = (u64)((u64)v487 | (u64)v488);
+    v490 = (u64)((u64)v486 << (16u & 63u));
+    v491 = (u64)((u64)v489 | (u64)v490);
+    v492 = (u64)((u64)v491 ^ (u64)v485);
+    v493 = wide_of(0, v492);
+    v494 = wide_multiply(v493, wide_of(UINT64_C(0), UINT64_C(11400714819323198481)));
+    v495 = wide_right(v494, wide_of(UINT64_C(0), UINT64_C(64)));
+    v496 = wide_xor(v495, v494);
+    v497 = (u64)((v496).low);
+    v498 = (u64)((u64)v497 >> (32u & 63u));
+    v499 = (u64)((u64)v498 ^ (u64)v497);
+    v500 = load_address(v159);
+    v501 = load64(v378);
+    v502 = load_address(v169);
+    v503 = load64(v171);
+    v504 = v503 == 0u;
+    if (v504) { goto L47; }
     else { goto L39; }
 L39:;
-    v557 = (u64)((u64)v14 + (u64)1u);
-    v558 = (u64)((u64)v557 & (u64)v473);
-    v559 = v558 == v453;
-    if (v559) { goto L40; }
-    else { v14 = v558; goto L33; }
+    v505 = (u64)((u64)v499 >> (24u & 63u));
+    v506 = (u8)(v505);
+    v507 = v506 > 1u ? v506 : 1u;
+    v508 = (u64)((u64)v503 + (u64)UINT64_C(4294967295));
+    v509 = (u64)((u64)v508 & (u64)UINT64_C(4294967295));
+    v510 = (u64)((u64)v509 & (u64)v499);
+    v511 = (struct v16u8){ { 0u } };
+    v511.e[0u] = v507;
+    v512.e[0] = v511.e[0];
+    v512.e[1] = v511.e[0];
+    v512.e[2] = v511.e[0];
+    v512.e[3] = v511.e[0];
+    v512.e[4] = v511.e[0];
+    v512.e[5] = v511.e[0];
+    v512.e[6] = v511.e[0];
+    v512.e[7] = v511.e[0];
+    v512.e[8] = v511.e[0];
+    v512.e[9] = v511.e[0];
+    v512.e[10] = v511.e[0];
+    v512.e[11] = v511.e[0];
+    v512.e[12] = v511.e[0];
+    v512.e[13] = v511.e[0];
+    v512.e[14] = v511.e[0];
+    v512.e[15] = v511.e[0];
+    v513 = (u64)((u64)v127 & (u64)UINT64_C(18374686479671623680));
+    v514 = (u64)((u64)v471 << (48u & 63u));
+    v515 = (u64)((u64)v514 | (u64)v513);
+    v516 = (u64)((u64)v463 << (40u & 63u));
+    v517 = (u64)((u64)v515 | (u64)v516);
+    v518 = (u64)((u64)v455 << (32u & 63u));
+    v519 = (u64)((u64)v517 | (u64)v518);
+    v520 = (u64)((u64)v447 << (24u & 63u));
+    v521 = (u64)((u64)v519 | (u64)v520);
+    v522 = (u64)((u64)v439 << (16u & 63u));
+    v523 = (u64)((u64)v431 << (8u & 63u));
+    v524 = (u64)((u64)v521 | (u64)v522);
+    v525 = (u64)((u64)v524 | (u64)v523);
+    v526 = (u64)((u64)v525 | (u64)v423);
+    v527 = (u8)((u32)v507 & (u32)31u);
+    v528 = (u32)v527;
+    v529 = (u32)((u32)1u << (v528 & 31u));
+    v530 = (u64)((u64)v503 + (u64)UINT64_C(18446744073709551615));
+    v19 = v510; goto L40;
 L40:;
-    v560 = v32 + 48u * 1u;
-    v561 = load64(v560);
-    v562 = v32 + 72u * 1u;
-    v563 = load64(v562);
-    v564 = v563 < v561 ? v563 : v561;
-    v565 = v564 > v444 ? (u64)((u64)v564 - (u64)v444) : 0u;
-    v566 = v32 + 128u * 1u;
-    v567 = load64(v566);
-    v568 = v565 < v567 ? v565 : v567;
-    v569 = v568 == 0u;
-    if (v569) { goto L41; }
-    else { v16 = v446; v17 = v445; goto L43; }
+    v531 = (u64)((u64)v19 << (6u & 63u));
+    v532 = v502 + v531 * 1u;
+    v533 = load8(v532);
+    v534 = v532 + 1u * 1u;
+    v535 = load8(v534);
+    v536 = v532 + 2u * 1u;
+    v537 = load8(v536);
+    v538 = v532 + 3u * 1u;
+    v539 = load8(v538);
+    v540 = v532 + 4u * 1u;
+    v541 = load8(v540);
+    v542 = v532 + 5u * 1u;
+    v543 = load8(v542);
+    v544 = v532 + 6u * 1u;
+    v545 = load8(v544);
+    v546 = v532 + 7u * 1u;
+    v547 = load8(v546);
+    v548 = v532 + 8u * 1u;
+    v549 = load8(v548);
+    v550 = v532 + 9u * 1u;
+    v551 = load8(v550);
+    v552 = v532 + 10u * 1u;
+    v553 = load8(v552);
+    v554 = v532 + 11u * 1u;
+    v555 = load8(v554);
+    v556 = v532 + 12u * 1u;
+    v557 = load8(v556);
+    v558 = v532 + 13u * 1u;
+    v559 = load8(v558);
+    v560 = v532 + 14u * 1u;
+    v561 = load8(v560);
+    v562 = v532 + 15u * 1u;
+    v563 = load8(v562);
+    v564 = (struct v16u8){ { 0u } };
+    v564.e[0u] = v533;
+    v565 = v564;
+    v565.e[1u] = v535;
+    v566 = v565;
+    v566.e[2u] = v537;
+    v567 = v566;
+    v567.e[3u] = v539;
+    v568 = v567;
+    v568.e[4u] = v541;
+    v569 = v568;
+    v569.e[5u] = v543;
+    v570 = v569;
+    v570.e[6u] = v545;
+    v571 = v570;
+    v571.e[7u] = v547;
+    v572 = v571;
+    v572.e[8u] = v549;
+    v573 = v572;
+    v573.e[9u] = v551;
+    v574 = v573;
+    v574.e[10u] = v553;
+    v575 = v574;
+    v575.e[11u] = v555;
+    v576 = v575;
+    v576.e[12u] = v557;
+    v577 = v576;
+    v577.e[13u] = v559;
+    v578 = v577;
+    v578.e[14u] = v561;
+    v579 = v578;
+    v579.e[15u] = v563;
+    v580.e[0] = v579.e[0] == v512.e[0];
+    v580.e[1] = v579.e[1] == v512.e[1];
+    v580.e[2] = v579.e[2] == v512.e[2];
+    v580.e[3] = v579.e[3] == v512.e[3];
+    v580.e[4] = v579.e[4] == v512.e[4];
+    v580.e[5] = v579.e[5] == v512.e[5];
+    v580.e[6] = v579.e[6] == v512.e[6];
+    v580.e[7] = v579.e[7] == v512.e[7];
+    v580.e[8] = v579.e[8] == v512.e[8];
+    v580.e[9] = v579.e[9] == v512.e[9];
+    v580.e[10] = v579.e[10] == v512.e[10];
+    v580.e[11] = v579.e[11] == v512.e[11];
+    v580.e[12] = v579.e[12] == v512.e[12];
+    v580.e[13] = v579.e[13] == v512.e[13];
+    v580.e[14] = v579.e[14] == v512.e[14];
+    v580.e[15] = v579.e[15] == v512.e[15];
+    v581 = (u16)((u32)v580.e[0] << 0 | (u32)v580.e[1] << 1 | (u32)v580.e[2] << 2 | (u32)v580.e[3] << 3 | (u32)v580.e[4] << 4 | (u32)v580.e[5] << 5 | (u32)v580.e[6] << 6 | (u32)v580.e[7] << 7 | (u32)v580.e[8] << 8 | (u32)v580.e[9] << 9 | (u32)v580.e[10] << 10 | (u32)v580.e[11] << 11 | (u32)v580.e[12] << 12 | (u32)v580.e[13] << 13 | (u32)v580.e[14] << 14 | (u32)v580.e[15] << 15);
+    v582 = (u16)((u32)v581 & (u32)4095u);
+    v583 = v582 == 0u;
+    if (v583) { goto L45; }
+    else { goto L41; }
 L41:;
-    v570 = f129(v102);
-    v571 = v570 == 0u;
-    if (v571) { goto L42; }
-    else { goto L49; }
+    v584 = (u32)v582;
+    v585 = v532 + 16u * 1u;
+    v20 = v584; goto L42;
 L42:;
-    v572 = load_address(v112);
-    v573 = load64(v114);
-    v16 = v573; v17 = v572; goto L43;
+    v586 = (u32)cttz(v20, 32u);
+    v587 = (u32)((u32)v586 << (2u & 31u));
+    v588 = (u64)v587;
+    v589 = v585 + v588 * 1u;
+    v590 = load32(v589);
+    v591 = (u64)v590;
+    v592 = (u64)((u64)v591 * (u64)10u);
+    v593 = v500 + v592 * 1u;
+    v594 = v593 + 8u * 1u;
+    v595 = load16(v594);
+    v596 = v167 == v595;
+    if (v596) { goto L43; }
+    else { goto L44; }
 L43:;
-    v574 = v32 + 112u * 1u;
-    v575 = load64(v574);
-    v576 = (u64)((u64)v442 & (u64)UINT64_C(4294967295));
-    v577 = (u64)((u64)v16 + (u64)UINT64_C(4294967295));
-    v578 = (u64)((u64)v577 & (u64)v576);
-    v579 = (u64)((u64)v442 >> (24u & 63u));
-    v580 = (u8)(v579);
-    v581 = v580 > 1u ? v580 : 1u;
-    v582 = (u8)((u32)v581 & (u32)31u);
-    v583 = (u32)v582;
-    v584 = (u32)((u32)1u << (v583 & 31u));
-    v585 = (u64)((u64)v16 + (u64)UINT64_C(18446744073709551615));
-    v18 = v578; goto L44;
+    v597 = load64(v593);
+    v598 = v526 == v597;
+    if (v598) { goto L54; }
+    else { goto L44; }
 L44:;
-    v586 = (u64)((u64)v18 << (6u & 63u));
-    v587 = v17 + v586 * 1u;
-    v588 = load8(v587);
-    v589 = v587 + 1u * 1u;
-    v590 = load8(v589);
-    v591 = v587 + 2u * 1u;
-    v592 = load8(v591);
-    v593 = v587 + 3u * 1u;
-    v594 = load8(v593);
-    v595 = v587 + 4u * 1u;
-    v596 = load8(v595);
-    v597 = v587 + 5u * 1u;
-    v598 = load8(v597);
-    v599 = v587 + 6u * 1u;
-    v600 = load8(v599);
-    v601 = v587 + 7u * 1u;
-    v602 = load8(v601);
-    v603 = v587 + 8u * 1u;
-    v604 = load8(v603);
-    v605 = v587 + 9u * 1u;
-    v606 = load8(v605);
-    v607 = v587 + 10u * 1u;
-    v608 = load8(v607);
-    v609 = v587 + 11u * 1u;
-    v610 = load8(v609);
-    v611 = v587 + 12u * 1u;
-    v612 = load8(v611);
-    v613 = v587 + 13u * 1u;
-    v614 = load8(v613);
-    v615 = v587 + 14u * 1u;
-    v616 = load8(v615);
-    v617 = v587 + 15u * 1u;
-    v618 = load8(v617);
-    v619 = (struct v16u8){ { 0u } };
-    v619.e[0u] = v588;
-    v620 = v619;
-    v620.e[1u] = v590;
-    v621 = v620;
-    v621.e[2u] = v592;
-    v622 = v621;
-    v622.e[3u] = v594;
-    v623 = v622;
-    v623.e[4u] = v596;
-    v624 = v623;
-    v624.e[5u] = v598;
-    v625 = v624;
-    v625.e[6u] = v600;
-    v626 = v625;
-    v626.e[7u] = v602;
-    v627 = v626;
-    v627.e[8u] = v604;
-    v628 = v627;
-    v628.e[9u] = v606;
-    v629 = v628;
-    v629.e[10u] = v608;
-    v630 = v629;
-    v630.e[11u] = v610;
-    v631 = v630;
-    v631.e[12u] = v612;
-    v632 = v631;
-    v632.e[13u] = v614;
-    v633 = v632;
-    v633.e[14u] = v616;
-    v634 = v633;
-    v634.e[15u] = v618;
-    v635.e[0] = v634.e[0] == 0u;
-    v635.e[1] = v634.e[1] == 0u;
-    v635.e[2] = v634.e[2] == 0u;
-    v635.e[3] = v634.e[3] == 0u;
-    v635.e[4] = v634.e[4] == 0u;
-    v635.e[5] = v634.e[5] == 0u;
-    v635.e[6] = v634.e[6] == 0u;
-    v635.e[7] = v634.e[7] == 0u;
-    v635.e[8] = v634.e[8] == 0u;
-    v635.e[9] = v634.e[9] == 0u;
-    v635.e[10] = v634.e[10] == 0u;
-    v635.e[11] = v634.e[11] == 0u;
-    v635.e[12] = v634.e[12] == 0u;
-    v635.e[13] = v634.e[13] == 0u;
-    v635.e[14] = v634.e[14] == 0u;
-    v635.e[15] = v634.e[15] == 0u;
-    v636 = (u16)((u32)v635.e[0] << 0 | (u32)v635.e[1] << 1 | (u32)v635.e[2] << 2 | (u32)v635.e[3] << 3 | (u32)v635.e[4] << 4 | (u32)v635.e[5] << 5 | (u32)v635.e[6] << 6 | (u32)v635.e[7] << 7 | (u32)v635.e[8] << 8 | (u32)v635.e[9] << 9 | (u32)v635.e[10] << 10 | (u32)v635.e[11] << 11 | (u32)v635.e[12] << 12 | (u32)v635.e[13] << 13 | (u32)v635.e[14] << 14 | (u32)v635.e[15] << 15);
-    v637 = (u16)((u32)v636 & (u32)4095u);
-    v638 = v637 == 0u;
-    if (v638) { goto L45; }
-    else { goto L46; }
+    v599 = (u32)((u32)v20 + (u32)UINT32_C(4294967295));
+    v600 = (u32)((u32)v599 & (u32)v20);
+    v601 = v600 == 0u;
+    if (v601) { goto L45; }
+    else { v20 = v600; goto L42; }
 L45:;
-    v639 = (u32)v618;
-    v640 = (u32)((u32)v639 << (24u & 31u));
-    v641 = (u32)v616;
-    v642 = (u32)((u32)v641 << (16u & 31u));
-    v643 = (u32)v614;
-    v644 = (u32)((u32)v643 << (8u & 31u));
-    v645 = (u32)v612;
-    v646 = (u32)((u32)v584 | (u32)v645);
-    v647 = (u32)((u32)v644 | (u32)v646);
-    v648 = (u32)((u32)v642 | (u32)v640);
-    v649 = (u32)((u32)v648 | (u32)v647);
-    v650 = (u8)(v646);
-    v651 = (u32)((u32)v647 >> (8u & 31u));
-    v652 = (u8)(v651);
-    v653 = (u32)((u32)v649 >> (16u & 31u));
-    v654 = (u8)(v653);
-    v655 = (u32)((u32)v649 >> (24u & 31u));
-    v656 = (u8)(v655);
-    store8(v611, v650);
-    store8(v613, v652);
-    store8(v615, v654);
-    store8(v617, v656);
-    v657 = (u64)((u64)v18 + (u64)1u);
-    v658 = (u64)((u64)v657 & (u64)v585);
-    v18 = v658; goto L44;
+    v602 = (u32)v563;
+    v603 = (u32)((u32)v602 << (24u & 31u));
+    v604 = (u32)v561;
+    v605 = (u32)((u32)v604 << (16u & 31u));
+    v606 = (u32)v559;
+    v607 = (u32)((u32)v606 << (8u & 31u));
+    v608 = (u32)v557;
+    v609 = (u32)((u32)v607 | (u32)v608);
+    v610 = (u32)((u32)v609 | (u32)v605);
+    v611 = (u32)((u32)v610 | (u32)v603);
+    v612 = (u32)((u32)v611 & (u32)v529);
+    v613 = v612 == 0u;
+    if (v613) { goto L47; }
+    else { goto L46; }
 L46:;
-    v659 = (u64)((u64)v70 & (u64)UINT64_C(18374686479671623680));
-    v660 = (u64)((u64)v414 << (48u & 63u));
-    v661 = (u64)((u64)v660 | (u64)v659);
-    v662 = (u64)((u64)v406 << (40u & 63u));
-    v663 = (u64)((u64)v661 | (u64)v662);
-    v664 = (u64)((u64)v398 << (32u & 63u));
-    v665 = (u64)((u64)v663 | (u64)v664);
-    v666 = (u64)((u64)v390 << (24u & 63u));
-    v667 = (u64)((u64)v665 | (u64)v666);
-    v668 = (u64)((u64)v382 << (16u & 63u));
-    v669 = (u64)((u64)v374 << (8u & 63u));
-    v670 = (u64)((u64)v667 | (u64)v668);
-    v671 = (u64)((u64)v670 | (u64)v669);
-    v672 = (u64)((u64)v671 | (u64)v366);
-    v673 = v32 + 104u * 1u;
-    v674 = (u16)cttz(v637, 16u);
-    v675 = (u64)v674;
-    v676 = (u32)(v575);
-    v677 = v587 + v675 * 1u;
-    store8(v677, v581);
-    v678 = (u64)((u64)v675 << (2u & 63u));
-    v679 = v587 + 16u * 1u;
-    v680 = v679 + v678 * 1u;
-    store32(v680, v676);
-    v681 = (u64)((u64)v18 << (4u & 63u));
-    v682 = load64(v574);
-    v683 = load_address(v673);
-    v684 = (u64)((u64)v682 << (3u & 63u));
-    v685 = v683 + v684 * 1u;
-    v686 = (u64)((u64)v681 & (u64)UINT64_C(4294967280));
-    v687 = (u64)((u64)v686 | (u64)v675);
-    v688 = (u64)((u64)v687 << (32u & 63u));
-    v689 = (u64)((u64)v688 | (u64)v576);
-    store64(v685, v689);
-    v690 = (u64)((u64)v682 + (u64)1u);
-    store64(v574, v690);
-    v691 = load64(v566);
-    v692 = (u64)((u64)v691 + (u64)UINT64_C(18446744073709551615));
-    store64(v566, v692);
-    v693 = load64(v321);
-    v694 = load_address(v102);
-    v695 = (u64)((u64)v693 * (u64)10u);
-    v696 = v694 + v695 * 1u;
-    store64(v696, v672);
-    v697 = v696 + 8u * 1u;
-    store16(v697, v110);
-    v698 = (u64)((u64)v693 + (u64)1u);
-    store64(v321, v698);
-    v699 = v32 + 56u * 1u;
-    v700 = v32 + 64u * 1u;
-    v701 = load64(v700);
-    v702 = load_address(v699);
-    v703 = (u64)((u64)v701 << (5u & 63u));
-    v704 = v702 + v703 * 1u;
-    store16(v704, v350);
-    v705 = v704 + 2u * 1u;
-    store16(v705, v11);
-    v706 = v704 + 8u * 1u;
-    store_address(v706, v10);
-    v707 = v704 + 16u * 1u;
-    store64(v707, v9);
-    v708 = v704 + 24u * 1u;
-    store64(v708, v9);
-    v709 = (u64)((u64)v701 + (u64)1u);
-    store64(v700, v709);
-    v19 = 0u; goto L58;
+    v614 = (u64)((u64)v19 + (u64)1u);
+    v615 = (u64)((u64)v614 & (u64)v530);
+    v616 = v615 == v510;
+    if (v616) { goto L47; }
+    else { v19 = v615; goto L40; }
 L47:;
-    v710 = v32 + 56u * 1u;
-    v711 = load_address(v710);
-    v712 = (u64)((u64)v534 << (5u & 63u));
-    v713 = v711 + v712 * 1u;
-    v714 = load8(v713);
-    v715 = v713 + 2u * 1u;
-    v716 = v713 + 8u * 1u;
-    v717 = load_address(v716);
-    v718 = v713 + 16u * 1u;
-    v719 = v713 + 24u * 1u;
-    v720 = load64(v719);
-    store16(v713, v350);
-    store16(v715, v11);
-    store_address(v716, v10);
-    store64(v718, v9);
-    store64(v719, v9);
-    v721 = v714 != 0u;
-    v722 = v720 == 0u;
-    v723 = v721 ? 1u : v722;
-    if (v723) { v19 = 0u; goto L58; }
-    else { goto L48; }
+    v617 = v37 + 48u * 1u;
+    v618 = load64(v617);
+    v619 = v37 + 72u * 1u;
+    v620 = load64(v619);
+    v621 = v620 < v618 ? v620 : v618;
+    v622 = v621 > v501 ? (u64)((u64)v621 - (u64)v501) : 0u;
+    v623 = v37 + 128u * 1u;
+    v624 = load64(v623);
+    v625 = v622 < v624 ? v622 : v624;
+    v626 = v625 == 0u;
+    if (v626) { goto L48; }
+    else { v21 = v503; v22 = v502; goto L50; }
 L48:;
-    portable_rattle_dealloc(v717);
-    v19 = 0u; goto L58;
+    v627 = f134(v159);
+    v628 = v627 == 0u;
+    if (v628) { goto L49; }
+    else { goto L56; }
 L49:;
-    v724 = v9 == 0u;
-    v725 = (u8)(((u32)v724 | (u32)v12) & UINT64_C(1));
-    if (v725) { v19 = 35u; goto L58; }
-    else { goto L50; }
+    v629 = load_address(v169);
+    v630 = load64(v171);
+    v21 = v630; v22 = v629; goto L50;
 L50:;
-    portable_rattle_dealloc(v10);
-    v19 = 35u; goto L58;
+    v631 = v37 + 112u * 1u;
+    v632 = load64(v631);
+    v633 = (u64)((u64)v499 & (u64)UINT64_C(4294967295));
+    v634 = (u64)((u64)v21 + (u64)UINT64_C(4294967295));
+    v635 = (u64)((u64)v634 & (u64)v633);
+    v636 = (u64)((u64)v499 >> (24u & 63u));
+    v637 = (u8)(v636);
+    v638 = v637 > 1u ? v637 : 1u;
+    v639 = (u8)((u32)v638 & (u32)31u);
+    v640 = (u32)v639;
+    v641 = (u32)((u32)1u << (v640 & 31u));
+    v642 = (u64)((u64)v21 + (u64)UINT64_C(18446744073709551615));
+    v23 = v635; goto L51;
 L51:;
-    v19 = 1u; goto L58;
+    v643 = (u64)((u64)v23 << (6u & 63u));
+    v644 = v22 + v643 * 1u;
+    v645 = load8(v644);
+    v646 = v644 + 1u * 1u;
+    v647 = load8(v646);
+    v648 = v644 + 2u * 1u;
+    v649 = load8(v648);
+    v650 = v644 + 3u * 1u;
+    v651 = load8(v650);
+    v652 = v644 + 4u * 1u;
+    v653 = load8(v652);
+    v654 = v644 + 5u * 1u;
+    v655 = load8(v654);
+    v656 = v644 + 6u * 1u;
+    v657 = load8(v656);
+    v658 = v644 + 7u * 1u;
+    v659 = load8(v658);
+    v660 = v644 + 8u * 1u;
+    v661 = load8(v660);
+    v662 = v644 + 9u * 1u;
+    v663 = load8(v662);
+    v664 = v644 + 10u * 1u;
+    v665 = load8(v664);
+    v666 = v644 + 11u * 1u;
+    v667 = load8(v666);
+    v668 = v644 + 12u * 1u;
+    v669 = load8(v668);
+    v670 = v644 + 13u * 1u;
+    v671 = load8(v670);
+    v672 = v644 + 14u * 1u;
+    v673 = load8(v672);
+    v674 = v644 + 15u * 1u;
+    v675 = load8(v674);
+    v676 = (struct v16u8){ { 0u } };
+    v676.e[0u] = v645;
+    v677 = v676;
+    v677.e[1u] = v647;
+    v678 = v677;
+    v678.e[2u] = v649;
+    v679 = v678;
+    v679.e[3u] = v651;
+    v680 = v679;
+    v680.e[4u] = v653;
+    v681 = v680;
+    v681.e[5u] = v655;
+    v682 = v681;
+    v682.e[6u] = v657;
+    v683 = v682;
+    v683.e[7u] = v659;
+    v684 = v683;
+    v684.e[8u] = v661;
+    v685 = v684;
+    v685.e[9u] = v663;
+    v686 = v685;
+    v686.e[10u] = v665;
+    v687 = v686;
+    v687.e[11u] = v667;
+    v688 = v687;
+    v688.e[12u] = v669;
+    v689 = v688;
+    v689.e[13u] = v671;
+    v690 = v689;
+    v690.e[14u] = v673;
+    v691 = v690;
+    v691.e[15u] = v675;
+    v692.e[0] = v691.e[0] == 0u;
+    v692.e[1] = v691.e[1] == 0u;
+    v692.e[2] = v691.e[2] == 0u;
+    v692.e[3] = v691.e[3] == 0u;
+    v692.e[4] = v691.e[4] == 0u;
+    v692.e[5] = v691.e[5] == 0u;
+    v692.e[6] = v691.e[6] == 0u;
+    v692.e[7] = v691.e[7] == 0u;
+    v692.e[8] = v691.e[8] == 0u;
+    v692.e[9] = v691.e[9] == 0u;
+    v692.e[10] = v691.e[10] == 0u;
+    v692.e[11] = v691.e[11] == 0u;
+    v692.e[12] = v691.e[12] == 0u;
+    v692.e[13] = v691.e[13] == 0u;
+    v692.e[14] = v691.e[14] == 0u;
+    v692.e[15] = v691.e[15] == 0u;
+    v693 = (u16)((u32)v692.e[0] << 0 | (u32)v692.e[1] << 1 | (u32)v692.e[2] << 2 | (u32)v692.e[3] << 3 | (u32)v692.e[4] << 4 | (u32)v692.e[5] << 5 | (u32)v692.e[6] << 6 | (u32)v692.e[7] << 7 | (u32)v692.e[8] << 8 | (u32)v692.e[9] << 9 | (u32)v692.e[10] << 10 | (u32)v692.e[11] << 11 | (u32)v692.e[12] << 12 | (u32)v692.e[13] << 13 | (u32)v692.e[14] << 14 | (u32)v692.e[15] << 15);
+    v694 = (u16)((u32)v693 & (u32)4095u);
+    v695 = v694 == 0u;
+    if (v695) { goto L52; }
+    else { goto L53; }
 L52:;
-    v726 = v21 + 1u * 1u;
-    v727 = load8(v726);
-    v728 = (u32)v727;
-    v729 = (u32)((u32)v728 + (u32)16u);
-    v19 = v729; goto L58;
+    v696 = (u32)v675;
+    v697 = (u32)((u32)v696 << (24u & 31u));
+    v698 = (u32)v673;
+    v699 = (u32)((u32)v698 << (16u & 31u));
+    v700 = (u32)v671;
+    v701 = (u32)((u32)v700 << (8u & 31u));
+    v702 = (u32)v669;
+    v703 = (u32)((u32)v641 | (u32)v702);
+    v704 = (u32)((u32)v701 | (u32)v703);
+    v705 = (u32)((u32)v699 | (u32)v697);
+    v706 = (u32)((u32)v705 | (u32)v704);
+    v707 = (u8)(v703);
+    v708 = (u32)((u32)v704 >> (8u & 31u));
+    v709 = (u8)(v708);
+    v710 = (u32)((u32)v706 >> (16u & 31u));
+    v711 = (u8)(v710);
+    v712 = (u32)((u32)v706 >> (24u & 31u));
+    v713 = (u8)(v712);
+    store8(v668, v707);
+    store8(v670, v709);
+    store8(v672, v711);
+    store8(v674, v713);
+    v714 = (u64)((u64)v23 + (u64)1u);
+    v715 = (u64)((u64)v714 & (u64)v642);
+    v23 = v715; goto L51;
 L53:;
-    v19 = 10u; goto L58;
+    v716 = (u64)((u64)v127 & (u64)UINT64_C(18374686479671623680));
+    v717 = (u64)((u64)v471 << (48u & 63u));
+    v718 = (u64)((u64)v717 | (u64)v716);
+    v719 = (u64)((u64)v463 << (40u & 63u));
+    v720 = (u64)((u64)v718 | (u64)v719);
+    v721 = (u64)((u64)v455 << (32u & 63u));
+    v722 = (u64)((u64)v720 | (u64)v721);
+    v723 = (u64)((u64)v447 << (24u & 63u));
+    v724 = (u64)((u64)v722 | (u64)v723);
+    v725 = (u64)((u64)v439 << (16u & 63u));
+    v726 = (u64)((u64)v431 << (8u & 63u));
+    v727 = (u64)((u64)v724 | (u64)v725);
+    v728 = (u64)((u64)v727 | (u64)v726);
+    v729 = (u64)((u64)v728 | (u64)v423);
+    v730 = v37 + 104u * 1u;
+    v731 = (u16)cttz(v694, 16u);
+    v732 = (u64)v731;
+    v733 = (u32)(v632);
+    v734 = v644 + v732 * 1u;
+    store8(v734, v638);
+    v735 = (u64)((u64)v732 << (2u & 63u));
+    v736 = v644 + 16u * 1u;
+    v737 = v736 + v735 * 1u;
+    store32(v737, v733);
+    v738 = (u64)((u64)v23 << (4u & 63u));
+    v739 = load64(v631);
+    v740 = load_address(v730);
+    v741 = (u64)((u64)v739 << (3u & 63u));
+    v742 = v740 + v741 * 1u;
+    v743 = (u64)((u64)v738 & (u64)UINT64_C(4294967280));
+    v744 = (u64)((u64)v743 | (u64)v732);
+    v745 = (u64)((u64)v744 << (32u & 63u));
+    v746 = (u64)((u64)v745 | (u64)v633);
+    store64(v742, v746);
+    v747 = (u64)((u64)v739 + (u64)1u);
+    store64(v631, v747);
+    v748 = load64(v623);
+    v749 = (u64)((u64)v748 + (u64)UINT64_C(18446744073709551615));
+    store64(v623, v749);
+    v750 = load64(v378);
+    v751 = load_address(v159);
+    v752 = (u64)((u64)v750 * (u64)10u);
+    v753 = v751 + v752 * 1u;
+    store64(v753, v729);
+    v754 = v753 + 8u * 1u;
+    store16(v754, v167);
+    v755 = (u64)((u64)v750 + (u64)1u);
+    store64(v378, v755);
+    v756 = v37 + 56u * 1u;
+    v757 = v37 + 64u * 1u;
+    v758 = load64(v757);
+    v759 = load_address(v756);
+    v760 = (u64)((u64)v758 << (5u & 63u));
+    v761 = v759 + v760 * 1u;
+    store16(v761, v407);
+    v762 = v761 + 2u * 1u;
+    store16(v762, v16);
+    v763 = v761 + 8u * 1u;
+    store_address(v763, v15);
+    v764 = v761 + 16u * 1u;
+    store64(v764, v14);
+    v765 = v761 + 24u * 1u;
+    store64(v765, v14);
+    v766 = (u64)((u64)v758 + (u64)1u);
+    store64(v757, v766);
+    v24 = 0u; goto L59;
 L54:;
-    v19 = 11u; goto L58;
+    v767 = v37 + 56u * 1u;
+    v768 = load_address(v767);
+    v769 = (u64)((u64)v591 << (5u & 63u));
+    v770 = v768 + v769 * 1u;
+    v771 = load8(v770);
+    v772 = v770 + 2u * 1u;
+    v773 = v770 + 8u * 1u;
+    v774 = load_address(v773);
+    v775 = v770 + 16u * 1u;
+    v776 = v770 + 24u * 1u;
+    v777 = load64(v776);
+    store16(v770, v407);
+    store16(v772, v16);
+    store_address(v773, v15);
+    store64(v775, v14);
+    store64(v776, v14);
+    v778 = v771 != 0u;
+    v779 = v777 == 0u;
+    v780 = v778 ? 1u : v779;
+    if (v780) { v24 = 0u; goto L59; }
+    else { goto L55; }
 L55:;
-    v19 = 12u; goto L58;
+    portable_rattle_dealloc(v774);
+    v24 = 0u; goto L59;
 L56:;
-    v19 = 14u; goto L58;
+    v781 = v14 == 0u;
+    v782 = (u8)(((u32)v781 | (u32)v17) & UINT64_C(1));
+    if (v782) { v24 = 35u; goto L59; }
+    else { goto L57; }
 L57:;
-    v19 = 15u; goto L58;
+    portable_rattle_dealloc(v15);
+    v24 = 35u; goto L59;
 L58:;
-    return v19;
+    v783 = (u32)v88;
+    v784 = (u32)((u32)v783 + (u32)16u);
+    v24 = v784; goto L59;
+L59:;
+    return v24;
 }
 
 u32 portable_ptpm_survey_send(address a0, address a1, u64 a2, address a3) {
@@ -53233,7 +55200,7 @@ L3:;
     v42 = v5 + 38u * 1u;
     store16(v42, 0u);
     v43 = v5 + 40u * 1u;
-    store_address(v43, ADDRESS(c148));
+    store_address(v43, ADDRESS(c155));
     v44 = v5 + 48u * 1u;
     store64(v44, 0u);
     f3(v5, v6);
@@ -53265,7 +55232,7 @@ L1:;
     v7 = load64(v6);
     portable_rattle_dealloc(v1);
     v8 = (address)v7;
-    f12(v5, v8);
+    f11(v5, v8);
     goto L2;
 L2:;
     return;
@@ -53443,7 +55410,7 @@ L10:;
     v100 = v38 + 8u * 1u;
     store16(v100, v79);
     store64(v39, v68);
-    f132(v37, v64, a4, v38, v39, v73, v5);
+    f137(v37, v64, a4, v38, v39, v73, v5);
     v101 = load8(v37);
     v102 = v101 == 0u;
     if (v102) { goto L11; }
@@ -53694,7 +55661,7 @@ L32:;
     v216 = load64(v215);
     portable_rattle_dealloc(v210);
     v217 = (address)v216;
-    f12(v214, v217);
+    f11(v214, v217);
     goto L33;
 L33:;
     store64(a0, v207);
@@ -53703,7 +55670,7 @@ L33:;
     memory_set(v218, 0u, 7u);
     v33 = 0u; goto L38;
 L34:;
-    f17(v159);
+    f16(v159);
     v33 = 35u; goto L38;
 L35:;
     v219 = v17 != 1u;
@@ -53715,7 +55682,7 @@ L36:;
     portable_rattle_dealloc(v15);
     v33 = 35u; goto L38;
 L37:;
-    v222 = ADDRESS(c372) + v32 * 4u;
+    v222 = ADDRESS(c378) + v32 * 4u;
     v223 = load32(v222);
     v33 = v223; goto L38;
 L38:;
@@ -53748,7 +55715,7 @@ L1:;
     v11 = load64(v10);
     portable_rattle_dealloc(v5);
     v12 = (address)v11;
-    f12(v9, v12);
+    f11(v9, v12);
     goto L2;
 L2:;
     v13 = a1 + 6u * 1u;
@@ -53900,7 +55867,7 @@ L12:;
     v91 = load64(v90);
     portable_rattle_dealloc(v86);
     v92 = (address)v91;
-    f12(v89, v92);
+    f11(v89, v92);
     goto L13;
 L13:;
     store64(a0, v83);
@@ -53909,7 +55876,7 @@ L13:;
     memory_set(v93, 0u, 7u);
     v3 = 0u; goto L16;
 L14:;
-    f17(v46);
+    f16(v46);
     v3 = 35u; goto L16;
 L15:;
     v3 = 35u; goto L16;
@@ -53918,317 +55885,386 @@ L16:;
 }
 
 u32 portable_ptpm_clock_restore(address a0, address a1, u64 a2, address a3, u64 a4, address a5, u64 a6, address a7) {
-    u8 v8, v10, v11, v12, v13, v15, v16, v17, v24, v27, v30, v31, v32, v34, v35, v36;
-    u8 v38, v39, v40, v42, v43, v44, v45, v47, v48, v50, v51, v52, v54, v56, v62, v64;
-    u8 v74, v76, v78, v79, v95, v96, v97, v100, v102, v103, v104, v105, v106, v108, v109, v110;
-    u8 v112, v114, v119, v120, v121, v123, v124, v125, v127, v128, v129, v133, v141, v143, v144, v145;
-    u8 v146, v147, v148, v149, v151, v153, v157, v158, v161, v167, v168, v169;
-    u64 v9, v14, v25, v28, v65, v66, v67, v68, v70, v99, v101, v115, v116, v117, v118, v126;
-    u64 v131, v155, v160, v162, v171, v178, v179;
-    u32 v18, v71, v72, v73, v75, v77, v174, v175, v181;
-    address v19, v20, v21, v22, v23, v26, v29, v33, v37, v41, v46, v49, v53, v55, v61, v63;
-    address v69, v80, v81, v82, v83, v84, v85, v86, v87, v88, v89, v90, v91, v92, v93, v94;
-    address v98, v107, v111, v113, v130, v132, v135, v136, v137, v138, v139, v140, v142, v150, v152, v154;
-    address v156, v163, v164, v165, v166, v170, v172, v173, v176, v177, v180;
-    u16 v57, v58, v59, v60, v134;
-    struct s1 v122;
-    struct pair v159;
+    u8 v8, v9, v11, v12, v13, v14, v16, v17, v18, v25, v28, v31, v32, v33, v35, v36;
+    u8 v37, v39, v40, v41, v43, v44, v45, v46, v48, v49, v51, v52, v53, v55, v57, v63;
+    u8 v65, v75, v77, v79, v80, v96, v97, v98, v101, v103, v104, v105, v106, v107, v108, v109;
+    u8 v110, v112, v113, v114, v116, v118, v124, v126, v127, v129, v131, v136, v138, v139, v141, v145;
+    u8 v149, v151, v152, v153, v154, v155, v156, v158, v159, v160, v162, v164, v169, v170, v171, v173;
+    u8 v174, v175, v177, v178, v179, v183, v191, v193, v194, v195, v196, v197, v198, v199, v201, v203;
+    u8 v207, v208, v211, v217, v218, v219;
+    u64 v10, v15, v26, v29, v66, v67, v68, v69, v71, v100, v102, v123, v142, v143, v146, v147;
+    u64 v148, v150, v165, v166, v167, v168, v176, v181, v205, v210, v212, v221, v228, v229;
+    u32 v19, v72, v73, v74, v76, v78, v224, v225, v231;
+    address v20, v21, v22, v23, v24, v27, v30, v34, v38, v42, v47, v50, v54, v56, v62, v64;
+    address v70, v81, v82, v83, v84, v85, v86, v87, v88, v89, v90, v91, v92, v93, v94, v95;
+    address v99, v111, v115, v117, v128, v130, v137, v140, v144, v157, v161, v163, v180, v182, v185, v186;
+    address v187, v188, v189, v190, v192, v200, v202, v204, v206, v213, v214, v215, v216, v220, v222, v223;
+    address v226, v227, v230;
+    u16 v58, v59, v60, v61, v119, v120, v121, v122, v125, v132, v133, v134, v135, v184;
+    struct s1 v172;
+    struct pair v209;
     u64 block0[23];
-    u64 block1[4];
+    u64 block1[1];
     u64 block2[2];
     u64 block3[3];
     u64 block4[3];
-    v19 = ADDRESS(block0);
-    v20 = ADDRESS(block1);
-    v21 = ADDRESS(block2);
-    v22 = ADDRESS(block3);
-    v23 = ADDRESS(block4);
-    v24 = a3 == 0u;
-    v25 = v24 ? 4096u : 0u;
-    v26 = a3 + v25 * 1u;
-    v27 = a5 == 0u;
-    v28 = v27 ? 4096u : 0u;
-    v29 = a5 + v28 * 1u;
+    v20 = ADDRESS(block0);
+    v21 = ADDRESS(block1);
+    v22 = ADDRESS(block2);
+    v23 = ADDRESS(block3);
+    v24 = ADDRESS(block4);
+    v25 = a3 == 0u;
+    v26 = v25 ? 4096u : 0u;
+    v27 = a3 + v26 * 1u;
+    v28 = a5 == 0u;
+    v29 = v28 ? 4096u : 0u;
+    v30 = a5 + v29 * 1u;
     store64(a7, 0u);
-    memory_set(v23, 0u, 24u);
-    v30 = a6 > 11u;
-    if (v30) { goto L1; }
-    else { goto L20; }
+    memory_set(v24, 0u, 24u);
+    v31 = a6 > 11u;
+    if (v31) { goto L1; }
+    else { goto L26; }
 L1:;
-    v31 = load8(v29);
-    v32 = v31 != 112u;
-    v33 = v29 + 1u * 1u;
-    v34 = load8(v33);
-    v35 = v34 != 116u;
-    v36 = (u8)(((u32)v32 | (u32)v35) & UINT64_C(1));
-    v37 = v29 + 2u * 1u;
-    v38 = load8(v37);
-    v39 = v38 != 112u;
-    v40 = (u8)(((u32)v36 | (u32)v39) & UINT64_C(1));
-    v41 = v29 + 3u * 1u;
-    v42 = load8(v41);
-    v43 = v42 != 109u;
-    v44 = (u8)(((u32)v40 | (u32)v43) & UINT64_C(1));
-    if (v44) { goto L20; }
+    v32 = load8(v30);
+    v33 = v32 != 112u;
+    v34 = v30 + 1u * 1u;
+    v35 = load8(v34);
+    v36 = v35 != 116u;
+    v37 = (u8)(((u32)v33 | (u32)v36) & UINT64_C(1));
+    v38 = v30 + 2u * 1u;
+    v39 = load8(v38);
+    v40 = v39 != 112u;
+    v41 = (u8)(((u32)v37 | (u32)v40) & UINT64_C(1));
+    v42 = v30 + 3u * 1u;
+    v43 = load8(v42);
+    v44 = v43 != 109u;
+    v45 = (u8)(((u32)v41 | (u32)v44) & UINT64_C(1));
+    if (v45) { goto L26; }
     else { goto L2; }
 L2:;
-    v45 = f44(v29, 4u, (ADDRESS(c341) + 8u * 1u), 4u);
-    if (v45) { goto L3; }
-    else { goto L20; }
+    v46 = f43(v30, 4u, (ADDRESS(c347) + 8u * 1u), 4u);
+    if (v46) { goto L3; }
+    else { goto L26; }
 L3:;
-    v46 = v29 + 4u * 1u;
-    v47 = load8(v46);
-    v48 = v47 == 3u;
-    if (v48) { goto L4; }
-    else { goto L20; }
+    v47 = v30 + 4u * 1u;
+    v48 = load8(v47);
+    v49 = v48 == 3u;
+    if (v49) { goto L4; }
+    else { goto L26; }
 L4:;
-    v49 = v29 + 5u * 1u;
-    v50 = load8(v49);
-    v51 = v50 == 1u;
-    if (v51) { goto L5; }
-    else { goto L20; }
+    v50 = v30 + 5u * 1u;
+    v51 = load8(v50);
+    v52 = v51 == 1u;
+    if (v52) { goto L5; }
+    else { goto L26; }
 L5:;
-    memory_set(v22, 0u, 24u);
-    v52 = a6 < 16u;
-    if (v52) { goto L14; }
+    memory_set(v23, 0u, 24u);
+    v53 = a6 < 16u;
+    if (v53) { goto L20; }
     else { goto L6; }
 L6:;
-    v53 = v29 + 12u * 1u;
-    v54 = load8(v53);
-    v55 = v29 + 13u * 1u;
-    v56 = load8(v55);
-    v57 = (u16)v54;
-    v58 = (u16)((u32)v57 << (8u & 15u));
-    v59 = (u16)v56;
-    v60 = (u16)((u32)v58 | (u32)v59);
-    v61 = v29 + 14u * 1u;
-    v62 = load8(v61);
-    v63 = v29 + 15u * 1u;
-    v64 = load8(v63);
-    v65 = (u64)v62;
-    v66 = (u64)((u64)v65 << (8u & 63u));
-    v67 = (u64)v64;
-    v68 = (u64)((u64)v66 | (u64)v67);
-    v69 = v29 + 16u * 1u;
-    v70 = (u64)((u64)a6 + (u64)UINT64_C(18446744073709551600));
-    v71 = (u32)(v70);
-    v72 = (u32)((u32)v71 + (u32)4u);
-    v73 = (u32)((u32)v72 >> (24u & 31u));
-    v74 = (u8)(v73);
-    v75 = (u32)((u32)v72 >> (16u & 31u));
-    v76 = (u8)(v75);
-    v77 = (u32)((u32)v72 >> (8u & 31u));
-    v78 = (u8)(v77);
-    v79 = (u8)(v72);
-    store8(v21, 112u);
-    v80 = v21 + 1u * 1u;
-    store8(v80, 116u);
-    v81 = v21 + 2u * 1u;
-    store8(v81, 112u);
-    v82 = v21 + 3u * 1u;
-    store8(v82, 109u);
-    v83 = v21 + 4u * 1u;
-    store8(v83, 3u);
-    v84 = v21 + 5u * 1u;
-    store8(v84, 1u);
-    v85 = v21 + 6u * 1u;
-    store8(v85, 0u);
-    v86 = v21 + 7u * 1u;
+    v54 = v30 + 12u * 1u;
+    v55 = load8(v54);
+    v56 = v30 + 13u * 1u;
+    v57 = load8(v56);
+    v58 = (u16)v55;
+    v59 = (u16)((u32)v58 << (8u & 15u));
+    v60 = (u16)v57;
+    v61 = (u16)((u32)v59 | (u32)v60);
+    v62 = v30 + 14u * 1u;
+    v63 = load8(v62);
+    v64 = v30 + 15u * 1u;
+    v65 = load8(v64);
+    v66 = (u64)v63;
+    v67 = (u64)((u64)v66 << (8u & 63u));
+    v68 = (u64)v65;
+    v69 = (u64)((u64)v67 | (u64)v68);
+    v70 = v30 + 16u * 1u;
+    v71 = (u64)((u64)a6 + (u64)UINT64_C(18446744073709551600));
+    v72 = (u32)(v71);
+    v73 = (u32)((u32)v72 + (u32)4u);
+    v74 = (u32)((u32)v73 >> (24u & 31u));
+    v75 = (u8)(v74);
+    v76 = (u32)((u32)v73 >> (16u & 31u));
+    v77 = (u8)(v76);
+    v78 = (u32)((u32)v73 >> (8u & 31u));
+    v79 = (u8)(v78);
+    v80 = (u8)(v73);
+    store8(v22, 112u);
+    v81 = v22 + 1u * 1u;
+    store8(v81, 116u);
+    v82 = v22 + 2u * 1u;
+    store8(v82, 112u);
+    v83 = v22 + 3u * 1u;
+    store8(v83, 109u);
+    v84 = v22 + 4u * 1u;
+    store8(v84, 3u);
+    v85 = v22 + 5u * 1u;
+    store8(v85, 1u);
+    v86 = v22 + 6u * 1u;
     store8(v86, 0u);
-    v87 = v21 + 8u * 1u;
-    store8(v87, v74);
-    v88 = v21 + 9u * 1u;
-    store8(v88, v76);
-    v89 = v21 + 10u * 1u;
-    store8(v89, v78);
-    v90 = v21 + 11u * 1u;
+    v87 = v22 + 7u * 1u;
+    store8(v87, 0u);
+    v88 = v22 + 8u * 1u;
+    store8(v88, v75);
+    v89 = v22 + 9u * 1u;
+    store8(v89, v77);
+    v90 = v22 + 10u * 1u;
     store8(v90, v79);
-    v91 = v21 + 12u * 1u;
-    store8(v91, v54);
-    v92 = v21 + 13u * 1u;
-    store8(v92, v56);
-    v93 = v21 + 14u * 1u;
-    store8(v93, v62);
-    v94 = v21 + 15u * 1u;
-    store8(v94, v64);
-    v95 = f44(v29, 16u, v21, 16u);
-    v96 = v70 >= v68;
-    v97 = v95 ? v96 : 0u;
-    if (v97) { goto L7; }
-    else { goto L14; }
+    v91 = v22 + 11u * 1u;
+    store8(v91, v80);
+    v92 = v22 + 12u * 1u;
+    store8(v92, v55);
+    v93 = v22 + 13u * 1u;
+    store8(v93, v57);
+    v94 = v22 + 14u * 1u;
+    store8(v94, v63);
+    v95 = v22 + 15u * 1u;
+    store8(v95, v65);
+    v96 = f43(v30, 16u, v22, 16u);
+    v97 = v71 >= v69;
+    v98 = v96 ? v97 : 0u;
+    if (v98) { goto L7; }
+    else { goto L20; }
 L7:;
-    v98 = v69 + v68 * 1u;
-    v99 = (u64)((u64)v70 - (u64)v68);
-    v100 = v60 == 0u;
-    v101 = (u64)v60;
-    v102 = a2 < v101;
-    v103 = (u8)(((u32)v100 | (u32)v102) & UINT64_C(1));
-    if (v103) { goto L14; }
+    v99 = v70 + v69 * 1u;
+    v100 = (u64)((u64)v71 - (u64)v69);
+    v101 = v61 == 0u;
+    v102 = (u64)v61;
+    v103 = a2 < v102;
+    v104 = (u8)(((u32)v101 | (u32)v103) & UINT64_C(1));
+    v105 = v69 > 184u;
+    v106 = v104 ? 1u : v105;
+    if (v106) { goto L20; }
     else { goto L8; }
 L8:;
-    memory_set(v20, 0u, 32u);
-    v104 = v68 > 184u;
-    if (v104) { goto L11; }
+    memory_set(v21, 0u, 3u);
+    v107 = v69 < 54u;
+    if (v107) { goto L14; }
     else { goto L9; }
 L9:;
-    f8(v20, v69, v68);
-    v105 = load8(v20);
-    v106 = v105 == 0u;
-    if (v106) { goto L10; }
-    else { goto L11; }
+    v108 = load8(v70);
+    v109 = (u8)((u32)v108 & (u32)15u);
+    v110 = v109 == 13u;
+    if (v110) { goto L10; }
+    else { goto L14; }
 L10:;
-    v107 = v20 + 24u * 1u;
-    v108 = load8(v107);
-    v109 = (u8)((u32)v108 & (u32)253u);
-    v110 = v109 == 1u;
-    if (v110) { goto L12; }
-    else { goto L11; }
-L11:;
-    goto L14;
-L12:;
-    v111 = v29 + 18u * 1u;
+    v111 = v30 + 17u * 1u;
     v112 = load8(v111);
-    v113 = v29 + 19u * 1u;
-    v114 = load8(v113);
-    v115 = (u64)v112;
-    v116 = (u64)((u64)v115 << (8u & 63u));
-    v117 = (u64)v114;
-    v118 = (u64)((u64)v116 | (u64)v117);
-    v119 = v118 == v68;
-    if (v119) { goto L13; }
+    v113 = (u8)((u32)v112 & (u32)15u);
+    v114 = v113 == 2u;
+    if (v114) { goto L11; }
+    else { goto L14; }
+L11:;
+    v115 = v30 + 18u * 1u;
+    v116 = load8(v115);
+    v117 = v30 + 19u * 1u;
+    v118 = load8(v117);
+    v119 = (u16)v116;
+    v120 = (u16)((u32)v119 << (8u & 15u));
+    v121 = (u16)v118;
+    v122 = (u16)((u32)v120 | (u32)v121);
+    v123 = (u64)v122;
+    v124 = v69 < v123;
+    v125 = (u16)((u32)v122 + (u32)64063u);
+    v126 = v125 < 64117u;
+    v127 = (u8)(((u32)v126 | (u32)v124) & UINT64_C(1));
+    if (v127) { goto L14; }
+    else { goto L12; }
+L12:;
+    v128 = v30 + 64u * 1u;
+    v129 = load8(v128);
+    v130 = v30 + 65u * 1u;
+    v131 = load8(v130);
+    v132 = (u16)v129;
+    v133 = (u16)((u32)v132 << (8u & 15u));
+    v134 = (u16)v131;
+    v135 = (u16)((u32)v133 | (u32)v134);
+    v136 = v135 == 1u;
+    if (v136) { goto L13; }
     else { goto L14; }
 L13:;
-    f134(v22, a1, a2, v26, a4, v98, v99);
-    v120 = load8(v22);
-    v121 = v120 == 0u;
-    if (v121) { goto L17; }
-    else { goto L18; }
+    v137 = v30 + 62u * 1u;
+    v138 = load8(v137);
+    v139 = (u8)((u32)v138 & (u32)15u);
+    v140 = v30 + 66u * 1u;
+    v141 = load8(v140);
+    v142 = (u64)v141;
+    v143 = (u64)((u64)v142 << (8u & 63u));
+    v144 = v30 + 67u * 1u;
+    v145 = load8(v144);
+    v146 = (u64)v145;
+    v147 = (u64)((u64)v143 | (u64)v146);
+    v148 = (u64)((u64)v147 + (u64)52u);
+    v149 = v148 == v123;
+    v150 = (u64)((u64)v123 & (u64)1u);
+    v151 = v150 == 0u;
+    v152 = (u8)(((u32)v151 & (u32)v149) & UINT64_C(1));
+    v153 = v139 < 5u;
+    v154 = v152 ? v153 : 0u;
+    if (v154) { v8 = v139; goto L17; }
+    else { goto L14; }
 L14:;
-    v122 = f133(v26, a4);
-    v123 = v122.m0;
-    v124 = v123 == 1u;
-    if (v124) { goto L15; }
+    f8(v21, v70, v69);
+    v155 = load8(v21);
+    v156 = v155 == 0u;
+    if (v156) { goto L15; }
     else { goto L16; }
 L15:;
-    v125 = v122.m1;
-    v8 = 0u; v9 = 0u; v10 = v125; v11 = 0u; v12 = 1u; goto L19;
+    v157 = v21 + 1u * 1u;
+    v158 = load8(v157);
+    v8 = v158; goto L17;
 L16:;
-    v126 = load64(a1);
-    v127 = v126 == 0u;
-    v128 = v127 ? 0u : 3u;
-    v129 = v127 ? 1u : 2u;
-    v8 = 0u; v9 = 0u; v10 = v128; v11 = v129; v12 = 1u; goto L19;
+    goto L20;
 L17:;
-    v130 = v22 + 8u * 1u;
-    v131 = load64(v130);
-    v132 = v22 + 16u * 1u;
-    v133 = load8(v132);
-    memory_set(v19, 0u, 184u);
-    memory_cpy(v19, v69, v68);
-    v134 = (u16)v64;
-    v135 = (address)v131;
-    v136 = v135 + 424u * 1u;
-    store16(v136, 1u);
-    v137 = v135 + 426u * 1u;
-    store16(v137, v60);
-    v138 = v135 + 428u * 1u;
-    store16(v138, v134);
-    v139 = v135 + 430u * 1u;
-    memory_cpy(v139, v19, 184u);
-    v8 = v133; v9 = v131; v10 = 0u; v11 = 0u; v12 = 0u; goto L19;
+    v159 = (u8)((u32)v8 & (u32)253u);
+    v160 = v159 == 1u;
+    if (v160) { goto L18; }
+    else { goto L20; }
 L18:;
-    v140 = v22 + 1u * 1u;
-    v141 = load8(v140);
-    v142 = v22 + 2u * 1u;
-    v143 = load8(v142);
-    v144 = v141 == 2u;
-    v145 = v143 < 3u;
-    v146 = v144 ? v145 : 0u;
-    v147 = v146 ? 2u : v141;
-    v148 = v146 ? 3u : v143;
-    v8 = 0u; v9 = 0u; v10 = v148; v11 = v147; v12 = v120; goto L19;
+    v161 = v30 + 18u * 1u;
+    v162 = load8(v161);
+    v163 = v30 + 19u * 1u;
+    v164 = load8(v163);
+    v165 = (u64)v162;
+    v166 = (u64)((u64)v165 << (8u & 63u));
+    v167 = (u64)v164;
+    v168 = (u64)((u64)v166 | (u64)v167);
+    v169 = v168 == v69;
+    if (v169) { goto L19; }
+    else { goto L20; }
 L19:;
-    v13 = v8; v14 = v9; v15 = v10; v16 = v11; v17 = v12; goto L21;
+    f139(v23, a1, a2, v27, a4, v99, v100);
+    v170 = load8(v23);
+    v171 = v170 == 0u;
+    if (v171) { goto L23; }
+    else { goto L24; }
 L20:;
-    f134(v23, a1, a2, v26, a4, v29, a6);
-    v149 = load8(v23);
-    v150 = v23 + 1u * 1u;
-    v151 = load8(v150);
-    v152 = v23 + 2u * 1u;
-    v153 = load8(v152);
-    v154 = v23 + 8u * 1u;
-    v155 = load64(v154);
-    v156 = v23 + 16u * 1u;
-    v157 = load8(v156);
-    v13 = v157; v14 = v155; v15 = v153; v16 = v151; v17 = v149; goto L21;
+    v172 = f138(v27, a4);
+    v173 = v172.m0;
+    v174 = v173 == 1u;
+    if (v174) { goto L21; }
+    else { goto L22; }
 L21:;
-    v158 = v17 == 0u;
-    if (v158) { goto L22; }
-    else { goto L26; }
+    v175 = v172.m1;
+    v9 = 0u; v10 = 0u; v11 = v175; v12 = 0u; v13 = 1u; goto L25;
 L22:;
-    v159 = portable_rattle_alloc(16u, 8u);
-    v160 = v159.m0;
-    v161 = (u8)((v160) & UINT64_C(1));
-    if (v161) { goto L23; }
-    else { goto L25; }
+    v176 = load64(a1);
+    v177 = v176 == 0u;
+    v178 = v177 ? 0u : 3u;
+    v179 = v177 ? 1u : 2u;
+    v9 = 0u; v10 = 0u; v11 = v178; v12 = v179; v13 = 1u; goto L25;
 L23:;
-    v162 = v159.m1;
-    v163 = (address)v162;
-    store64(v163, 1u);
-    v164 = v163 + 8u * 1u;
-    store64(v164, v14);
-    v165 = load_address(a0);
-    v166 = a0 + 8u * 1u;
-    v167 = load8(v166);
-    v168 = (u8)((v167) & UINT64_C(1));
-    memory_set(a0, 0u, 16u);
-    if (v168) { goto L24; }
-    else { goto L30; }
+    v180 = v23 + 8u * 1u;
+    v181 = load64(v180);
+    v182 = v23 + 16u * 1u;
+    v183 = load8(v182);
+    memory_set(v20, 0u, 184u);
+    memory_cpy(v20, v70, v69);
+    v184 = (u16)v65;
+    v185 = (address)v181;
+    v186 = v185 + 448u * 1u;
+    store16(v186, 1u);
+    v187 = v185 + 450u * 1u;
+    store16(v187, v61);
+    v188 = v185 + 452u * 1u;
+    store16(v188, v184);
+    v189 = v185 + 454u * 1u;
+    memory_cpy(v189, v20, 184u);
+    v9 = v183; v10 = v181; v11 = 0u; v12 = 0u; v13 = 0u; goto L25;
 L24:;
-    v169 = load8(v165);
-    v170 = v165 + 8u * 1u;
-    v171 = load64(v170);
-    portable_rattle_dealloc(v165);
-    v172 = (address)v171;
-    f12(v169, v172);
-    goto L30;
+    v190 = v23 + 1u * 1u;
+    v191 = load8(v190);
+    v192 = v23 + 2u * 1u;
+    v193 = load8(v192);
+    v194 = v191 == 2u;
+    v195 = v193 < 3u;
+    v196 = v194 ? v195 : 0u;
+    v197 = v196 ? 2u : v191;
+    v198 = v196 ? 3u : v193;
+    v9 = 0u; v10 = 0u; v11 = v198; v12 = v197; v13 = v170; goto L25;
 L25:;
-    v173 = (address)v14;
-    f13(v173);
-    v18 = 35u; goto L32;
+    v14 = v9; v15 = v10; v16 = v11; v17 = v12; v18 = v13; goto L27;
 L26:;
-    switch (v16) {
-    case 0u: goto L31;
-    case 1u: v18 = 56u; goto L32;
-    case 2u: goto L27;
-    case 3u: goto L28;
-    default: goto L29;
-    }
+    f139(v24, a1, a2, v27, a4, v30, a6);
+    v199 = load8(v24);
+    v200 = v24 + 1u * 1u;
+    v201 = load8(v200);
+    v202 = v24 + 2u * 1u;
+    v203 = load8(v202);
+    v204 = v24 + 8u * 1u;
+    v205 = load64(v204);
+    v206 = v24 + 16u * 1u;
+    v207 = load8(v206);
+    v14 = v207; v15 = v205; v16 = v203; v17 = v201; v18 = v199; goto L27;
 L27:;
-    v174 = (u32)v15;
-    v175 = (u32)((u32)v174 + (u32)104u);
-    v18 = v175; goto L32;
+    v208 = v18 == 0u;
+    if (v208) { goto L28; }
+    else { goto L32; }
 L28:;
-    v18 = 35u; goto L32;
+    v209 = portable_rattle_alloc(16u, 8u);
+    v210 = v209.m0;
+    v211 = (u8)((v210) & UINT64_C(1));
+    if (v211) { goto L29; }
+    else { goto L31; }
 L29:;
-    UNREACHABLE;
+    v212 = v209.m1;
+    v213 = (address)v212;
+    store64(v213, 1u);
+    v214 = v213 + 8u * 1u;
+    store64(v214, v15);
+    v215 = load_address(a0);
+    v216 = a0 + 8u * 1u;
+    v217 = load8(v216);
+    v218 = (u8)((v217) & UINT64_C(1));
+    memory_set(a0, 0u, 16u);
+    if (v218) { goto L30; }
+    else { goto L36; }
 L30:;
-    store64(a0, v162);
-    store8(v166, 1u);
-    v176 = a0 + 9u * 1u;
-    v177 = a0 + 10u * 1u;
-    memory_set(v177, 0u, 6u);
-    store8(v176, 1u);
-    v178 = (u64)v13;
-    store64(a7, v178);
-    v18 = 0u; goto L32;
+    v219 = load8(v215);
+    v220 = v215 + 8u * 1u;
+    v221 = load64(v220);
+    portable_rattle_dealloc(v215);
+    v222 = (address)v221;
+    f11(v219, v222);
+    goto L36;
 L31:;
-    v179 = (u64)v15;
-    v180 = ADDRESS(c370) + v179 * 4u;
-    v181 = load32(v180);
-    v18 = v181; goto L32;
+    v223 = (address)v15;
+    f12(v223);
+    v19 = 35u; goto L38;
 L32:;
-    return v18;
+    switch (v17) {
+    case 0u: goto L37;
+    case 1u: v19 = 56u; goto L38;
+    case 2u: goto L33;
+    case 3u: goto L34;
+    default: goto L35;
+    }
+L33:;
+    v224 = (u32)v16;
+    v225 = (u32)((u32)v224 + (u32)104u);
+    v19 = v225; goto L38;
+L34:;
+    v19 = 35u; goto L38;
+L35:;
+    UNREACHABLE;
+L36:;
+    store64(a0, v212);
+    store8(v216, 1u);
+    v226 = a0 + 9u * 1u;
+    v227 = a0 + 10u * 1u;
+    memory_set(v227, 0u, 6u);
+    store8(v226, 1u);
+    v228 = (u64)v14;
+    store64(a7, v228);
+    v19 = 0u; goto L38;
+L37:;
+    v229 = (u64)v16;
+    v230 = ADDRESS(c376) + v229 * 4u;
+    v231 = load32(v230);
+    v19 = v231; goto L38;
+L38:;
+    return v19;
 }
 
 u32 portable_ptpm_clock_start(address a0, address a1, address a2, u64 a3, address a4, u64 a5) {
@@ -54280,11 +56316,11 @@ L1:;
     v28 = load64(v27);
     portable_rattle_dealloc(v22);
     v29 = (address)v28;
-    f12(v26, v29);
+    f11(v26, v29);
     goto L2;
 L2:;
     memory_set(v12, 0u, 424u);
-    f152(v12, a1, v18, a3, v21, a5);
+    f157(v12, a1, v18, a3, v21, a5);
     v30 = load8(v12);
     v31 = v30 == 0u;
     if (v31) { goto L3; }
@@ -54322,7 +56358,7 @@ L3:;
     v56 = v39 == 0u;
     v57 = v56 ? v49 : v44;
     v58 = (u16)(v57);
-    f148(v7, v8, v58, v21, a5);
+    f153(v7, v8, v58, v21, a5);
     v59 = load8(v7);
     v60 = v7 + 8u * 1u;
     v61 = v13 + 7u * 1u;
@@ -54349,7 +56385,7 @@ L4:;
     v70 = v14 + 376u * 1u;
     store64(v70, v49);
     memory_cpy(v15, v61, 40u);
-    v71 = f149(v14, v15);
+    v71 = f154(v14, v15);
     v72 = v71.m0;
     v73 = v72 == 0u;
     if (v73) { goto L8; }
@@ -54401,7 +56437,7 @@ L13:;
     v90 = load64(v89);
     portable_rattle_dealloc(v85);
     v91 = (address)v90;
-    f12(v88, v91);
+    f11(v88, v91);
     goto L14;
 L14:;
     store64(a0, v82);
@@ -54410,7 +56446,7 @@ L14:;
     memory_set(v92, 0u, 7u);
     v6 = 0u; goto L61;
 L15:;
-    f13(v77);
+    f12(v77);
     v6 = 35u; goto L61;
 L16:;
     portable_rattle_dealloc(v50);
@@ -54562,7 +56598,7 @@ L59:;
     UNREACHABLE;
 L60:;
     v104 = (u64)v98;
-    v105 = ADDRESS(c370) + v104 * 4u;
+    v105 = ADDRESS(c376) + v104 * 4u;
     v106 = load32(v105);
     v6 = v106; goto L61;
 L61:;
@@ -54591,7 +56627,7 @@ L1:;
     v9 = load64(v8);
     portable_rattle_dealloc(v3);
     v10 = (address)v9;
-    f12(v7, v10);
+    f11(v7, v10);
     goto L2;
 L2:;
     v11 = portable_rattle_alloc(88u, 8u);
@@ -54634,7 +56670,7 @@ L5:;
     v31 = load64(v30);
     portable_rattle_dealloc(v26);
     v32 = (address)v31;
-    f12(v29, v32);
+    f11(v29, v32);
     goto L6;
 L6:;
     store64(a0, v23);
@@ -54761,7 +56797,7 @@ L1:;
     store_address(v68, v61);
     v85 = v68 + 8u * 1u;
     memory_set(v85, 0u, 16u);
-    f109(v69, v66, v76, a2);
+    f113(v69, v66, v76, a2);
     v86 = load8(v69);
     v87 = v86 == 0u;
     if (v87) { goto L2; }
@@ -54902,7 +56938,7 @@ L20:;
     if (v159) { goto L21; }
     else { v13 = v158; goto L23; }
 L21:;
-    v160 = f153(v67);
+    v160 = f158(v67);
     if (v160) { goto L22; }
     else { goto L27; }
 L22:;
@@ -54943,7 +56979,7 @@ L23:;
     if (v179) { goto L24; }
     else { v14 = v5; v15 = v178; goto L26; }
 L24:;
-    v180 = f154(v68);
+    v180 = f159(v68);
     if (v180) { goto L25; }
     else { goto L49; }
 L25:;
@@ -55065,7 +57101,7 @@ L47:;
     v231 = (u64)((u64)v230 + (u64)v117);
     v232 = v76 + v231 * 1u;
     v233 = (u64)((u64)a2 - (u64)v231);
-    f109(v69, v66, v232, v233);
+    f113(v69, v66, v232, v233);
     v234 = load8(v69);
     v235 = v234 == 0u;
     if (v235) { v5 = v17; v6 = v18; v7 = v232; v8 = v231; goto L3; }
@@ -55156,7 +57192,7 @@ L63:;
     store8(v72, 5u);
     v272 = v72 + 1u * 1u;
     store8(v272, 0u);
-    v273 = f105(v70, v72);
+    v273 = f109(v70, v72);
     if (v273) { goto L80; }
     else { goto L65; }
 L64:;
@@ -55301,7 +57337,7 @@ L89:;
     if (v328) { goto L90; }
     else { v32 = v23; v33 = v24; v34 = v25; v35 = v63; goto L92; }
 L90:;
-    v329 = f155(v65);
+    v329 = f160(v65);
     if (v329) { goto L91; }
     else { goto L108; }
 L91:;
@@ -55634,7 +57670,7 @@ L148:;
     goto L150;
 L149:;
     v480 = (u64)v58;
-    v481 = ADDRESS(c371) + v480 * 4u;
+    v481 = ADDRESS(c377) + v480 * 4u;
     v482 = load32(v481);
     v60 = v482; goto L173;
 L150:;
@@ -55713,10 +57749,10 @@ L153:;
     v521 = load64(v520);
     portable_rattle_dealloc(v515);
     v522 = (address)v521;
-    f12(v519, v522);
+    f11(v519, v522);
     goto L172;
 L154:;
-    f19(v486);
+    f18(v486);
     v60 = 35u; goto L173;
 L155:;
     v523 = v468 == 0u;
@@ -55836,7 +57872,7 @@ u32 portable_ptpm_session_restore(address a0, address a1, address a2, u64 a3) {
     v20 = load16(v19);
     v21 = a1 + 4u * 1u;
     v22 = load16(v21);
-    f132(v5, v12, a3, v6, v7, v20, v22);
+    f137(v5, v12, a3, v6, v7, v20, v22);
     v23 = load8(v5);
     v24 = v23 == 0u;
     if (v24) { goto L1; }
@@ -55869,7 +57905,7 @@ L2:;
     v44 = v5 + 1u * 1u;
     v45 = load8(v44);
     v46 = (u64)v45;
-    v47 = ADDRESS(c372) + v46 * 4u;
+    v47 = ADDRESS(c378) + v46 * 4u;
     v48 = load32(v47);
     v4 = v48; goto L14;
 L3:;
@@ -55918,7 +57954,7 @@ L5:;
     v72 = load64(v71);
     portable_rattle_dealloc(v66);
     v73 = (address)v72;
-    f12(v70, v73);
+    f11(v70, v73);
     goto L6;
 L6:;
     store64(a0, v63);
@@ -55996,7 +58032,7 @@ L1:;
     v9 = load64(v8);
     portable_rattle_dealloc(v3);
     v10 = (address)v9;
-    f12(v7, v10);
+    f11(v7, v10);
     goto L2;
 L2:;
     v11 = a1 + 6u * 1u;
@@ -56087,7 +58123,7 @@ L11:;
     v57 = load64(v56);
     portable_rattle_dealloc(v52);
     v58 = (address)v57;
-    f12(v55, v58);
+    f11(v55, v58);
     goto L12;
 L12:;
     store64(a0, v49);
@@ -56160,7 +58196,7 @@ L1:;
     v11 = load64(v10);
     portable_rattle_dealloc(v5);
     v12 = (address)v11;
-    f12(v9, v12);
+    f11(v9, v12);
     goto L2;
 L2:;
     v13 = a1 + 6u * 1u;
@@ -56217,7 +58253,7 @@ L3:;
     memory_set(v43, 0u, 24u);
     v44 = v4 + 136u * 1u;
     store64(v44, UINT64_C(2611923443488327891));
-    v45 = f156(a0, v4);
+    v45 = f161(a0, v4);
     v2 = v45; goto L4;
 L4:;
     return v2;
@@ -56247,7 +58283,7 @@ L1:;
     v12 = load64(v11);
     portable_rattle_dealloc(v6);
     v13 = (address)v12;
-    f12(v10, v13);
+    f11(v10, v13);
     goto L2;
 L2:;
     v14 = a1 + 6u * 1u;
@@ -56317,10 +58353,189 @@ L6:;
     memory_set(v48, 0u, 24u);
     v49 = v5 + 136u * 1u;
     store64(v49, UINT64_C(2611923443488327891));
-    v50 = f156(a0, v5);
+    v50 = f161(a0, v5);
     v3 = v50; goto L7;
 L7:;
     return v3;
+}
+
+u32 portable_ptpm_clock_relay(address a0, address a1, u64 a2) {
+    u64 v3, v5, v6, v8, v9, v14, v26, v28, v33, v36, v50, v53, v55, v57, v79, v85;
+    address v4, v7, v10, v12, v15, v16, v19, v22, v23, v29, v32, v38, v41, v43, v45, v56;
+    address v58, v60, v64, v66, v68, v70, v72, v73, v74, v75, v76, v77, v78, v81, v82, v83;
+    address v84;
+    u32 v11;
+    u8 v13, v17, v18, v20, v21, v24, v25, v27, v31, v35, v37, v39, v40, v42, v47, v48;
+    u8 v49, v54, v61, v62, v63, v65, v67, v80, v86;
+    u16 v30, v34, v44, v46, v59, v69, v71;
+    struct pair v51, v52;
+    u64 block0[1];
+    v12 = ADDRESS(block0);
+    v13 = a1 == 0u;
+    v14 = v13 ? 4096u : 0u;
+    v15 = a1 + v14 * 1u;
+    v16 = a0 + 8u * 1u;
+    v17 = load8(v16);
+    v18 = (u8)((v17) & UINT64_C(1));
+    if (v18) { goto L1; }
+    else { v11 = 32u; goto L19; }
+L1:;
+    v19 = load_address(a0);
+    v20 = load8(v19);
+    v21 = v20 == 1u;
+    if (v21) { goto L2; }
+    else { v11 = 32u; goto L19; }
+L2:;
+    v22 = v19 + 8u * 1u;
+    v23 = load_address(v22);
+    v24 = a2 > 32u;
+    if (v24) { v11 = 133u; goto L19; }
+    else { goto L3; }
+L3:;
+    v25 = a2 == 0u;
+    if (v25) { v10 = v12; goto L17; }
+    else { v3 = 0u; goto L5; }
+L4:;
+    v26 = (u64)((u64)v3 + (u64)1u);
+    v27 = v26 == a2;
+    if (v27) { goto L14; }
+    else { v3 = v26; goto L5; }
+L5:;
+    v28 = (u64)((u64)v3 * (u64)10u);
+    v29 = v15 + v28 * 1u;
+    v30 = load16(v29);
+    switch (v30) {
+    case 0u: v11 = 134u; goto L19;
+    case 2u: v11 = 134u; goto L19;
+    case 8192u: v11 = 134u; goto L19;
+    case 8193u: v11 = 134u; goto L19;
+    case 8194u: v11 = 134u; goto L19;
+    case 8195u: v11 = 134u; goto L19;
+    case 8196u: v11 = 134u; goto L19;
+    case 8197u: v11 = 134u; goto L19;
+    case 8198u: v11 = 134u; goto L19;
+    case 8199u: v11 = 134u; goto L19;
+    case 8200u: v11 = 134u; goto L19;
+    case 8201u: v11 = 134u; goto L19;
+    case 8202u: v11 = 134u; goto L19;
+    case 8203u: v11 = 134u; goto L19;
+    case 8204u: v11 = 134u; goto L19;
+    case 8205u: v11 = 134u; goto L19;
+    case 8206u: v11 = 134u; goto L19;
+    case 8208u: v11 = 134u; goto L19;
+    case 8209u: v11 = 134u; goto L19;
+    case 24576u: v11 = 134u; goto L19;
+    case 24577u: v11 = 134u; goto L19;
+    default: v4 = v15; v5 = a2; v6 = 0u; goto L6;
+    }
+L6:;
+    v7 = v4; v8 = v5; goto L7;
+L7:;
+    v31 = v8 == 0u;
+    if (v31) { goto L10; }
+    else { goto L8; }
+L8:;
+    v32 = v7 + 10u * 1u;
+    v33 = (u64)((u64)v8 + (u64)UINT64_C(18446744073709551615));
+    v34 = load16(v7);
+    v35 = v34 == v30;
+    if (v35) { goto L9; }
+    else { v7 = v32; v8 = v33; goto L7; }
+L9:;
+    v36 = (u64)((u64)v6 + (u64)1u);
+    v4 = v32; v5 = v33; v6 = v36; goto L6;
+L10:;
+    v37 = v6 > 1u;
+    if (v37) { v11 = 135u; goto L19; }
+    else { goto L11; }
+L11:;
+    v38 = v29 + 2u * 1u;
+    v39 = load8(v38);
+    v40 = v39 > 1u;
+    if (v40) { v11 = 136u; goto L19; }
+    else { goto L12; }
+L12:;
+    v41 = v29 + 3u * 1u;
+    v42 = load8(v41);
+    switch (v42) {
+    case 6u: goto L13;
+    case 4u: goto L13;
+    case 2u: goto L13;
+    default: v11 = 137u; goto L19;
+    }
+L13:;
+    v43 = v29 + 6u * 1u;
+    v44 = load16(v43);
+    v45 = v29 + 8u * 1u;
+    v46 = load16(v45);
+    v47 = v46 >= v44;
+    v48 = v46 < 131u;
+    v49 = (u8)(((u32)v47 & (u32)v48) & UINT64_C(1));
+    if (v49) { goto L4; }
+    else { v11 = 138u; goto L19; }
+L14:;
+    v50 = (u64)((u64)a2 * (u64)10u);
+    v51 = portable_rattle_alloc(v50, 2u);
+    v52 = v51;
+    v53 = v52.m0;
+    v54 = (u8)((v53) & UINT64_C(1));
+    if (v54) { goto L15; }
+    else { v11 = 35u; goto L19; }
+L15:;
+    v55 = v52.m1;
+    v56 = (address)v55;
+    v9 = 0u; goto L16;
+L16:;
+    v57 = (u64)((u64)v9 * (u64)10u);
+    v58 = v15 + v57 * 1u;
+    v59 = load16(v58);
+    v60 = v58 + 2u * 1u;
+    v61 = load8(v60);
+    v62 = v61 == 1u;
+    v63 = (u8)v62;
+    v64 = v58 + 3u * 1u;
+    v65 = load8(v64);
+    v66 = v58 + 4u * 1u;
+    v67 = load8(v66);
+    v68 = v58 + 6u * 1u;
+    v69 = load16(v68);
+    v70 = v58 + 8u * 1u;
+    v71 = load16(v70);
+    v72 = v56 + v57 * 1u;
+    store16(v72, v59);
+    v73 = v72 + 2u * 1u;
+    store8(v73, v63);
+    v74 = v72 + 3u * 1u;
+    store8(v74, v65);
+    v75 = v72 + 4u * 1u;
+    store8(v75, v67);
+    v76 = v72 + 5u * 1u;
+    store8(v76, 0u);
+    v77 = v72 + 6u * 1u;
+    store16(v77, v69);
+    v78 = v72 + 8u * 1u;
+    store16(v78, v71);
+    v79 = (u64)((u64)v9 + (u64)1u);
+    v80 = v79 == a2;
+    if (v80) { v10 = v56; goto L17; }
+    else { v9 = v79; goto L16; }
+L17:;
+    v81 = v23 + 424u * 1u;
+    v82 = load_address(v81);
+    v83 = v23 + 432u * 1u;
+    v84 = v23 + 440u * 1u;
+    v85 = load64(v84);
+    store_address(v81, v10);
+    store64(v83, a2);
+    store64(v84, a2);
+    v86 = v85 == 0u;
+    if (v86) { v11 = 0u; goto L19; }
+    else { goto L18; }
+L18:;
+    portable_rattle_dealloc(v82);
+    v11 = 0u; goto L19;
+L19:;
+    return v11;
 }
 
 u32 portable_ptpm_clock_observe(address a0, address a1, address a2, u64 a3, address a4) {
@@ -56529,12 +58744,12 @@ L46:;
 L47:;
     v54 = v33 + 8u * 1u;
     v55 = load_address(v54);
-    f157(v16, v55, a1, v20, a3);
+    f162(v16, v55, a1, v20, a3);
     v5 = v25; v6 = v27; v7 = v29; v8 = v31; v9 = v16; goto L2;
 L48:;
     v56 = v33 + 8u * 1u;
     v57 = load_address(v56);
-    f161(v17, v57, a1, v20, a3);
+    f166(v17, v57, a1, v20, a3);
     v5 = v26; v6 = v28; v7 = v30; v8 = v32; v9 = v17; goto L2;
 L49:;
     UNREACHABLE;
@@ -56712,7 +58927,7 @@ L28:;
 L29:;
     v10 = 11u; v11 = 4u; goto L39;
 L30:;
-    f40(v6, v7, v17);
+    f39(v6, v7, v17);
     v42 = load64(v41);
     v15 = v42; goto L47;
 L31:;
@@ -56875,261 +59090,250 @@ L50:;
 }
 
 u64 portable_ptpm_clock_transit(address a0, u16 a1, address a2, u64 a3, address a4, u64 a5) {
-    address v6, v8, v12, v15, v18, v21, v22, v25, v27, v28, v29, v30, v31, v33, v37, v46;
-    address v50, v52, v61, v64, v66, v69, v72, v75, v80, v81, v82, v88, v89, v92, v103, v104;
-    address v109, v110, v113, v115, v116, v119;
-    u64 v7, v9, v10, v11, v13, v14, v17, v20, v36, v38, v41, v54, v55, v56, v57, v58;
-    u64 v70, v73, v83, v85, v87, v91, v93, v98, v99, v105, v106, v108, v112, v120, v121;
-    u8 v16, v19, v23, v24, v26, v32, v34, v35, v40, v42, v43, v44, v45, v47, v48, v49;
-    u8 v51, v53, v59, v60, v62, v63, v65, v67, v68, v71, v74, v76, v77, v78, v79, v86;
-    u8 v90, v96, v100, v101, v102, v107, v111, v117, v118, v122;
-    u16 v39, v84, v94, v95, v97, v114;
-    u64 block0[4];
-    v15 = ADDRESS(block0);
-    v16 = a2 == 0u;
-    v17 = v16 ? 4096u : 0u;
-    v18 = a2 + v17 * 1u;
-    v19 = a4 == 0u;
-    v20 = v19 ? 4096u : 0u;
-    v21 = a4 + v20 * 1u;
-    v22 = a0 + 8u * 1u;
-    v23 = load8(v22);
-    v24 = (u8)((v23) & UINT64_C(1));
-    if (v24) { goto L1; }
-    else { v14 = 0u; goto L36; }
+    address v6, v8, v12, v16, v19, v22, v23, v26, v28, v29, v30, v31, v32, v34, v38, v47;
+    address v48, v49, v54, v57, v59, v62, v65, v68, v73, v74, v75, v81, v82, v85, v91, v97;
+    address v98, v103, v104, v107, v109, v110, v113;
+    u64 v7, v9, v10, v11, v13, v14, v15, v18, v21, v37, v39, v42, v50, v51, v63, v66;
+    u64 v76, v78, v80, v84, v86, v92, v93, v99, v100, v102, v106, v114, v115;
+    u8 v17, v20, v24, v25, v27, v33, v35, v36, v41, v43, v44, v45, v46, v52, v53, v55;
+    u8 v56, v58, v60, v61, v64, v67, v69, v70, v71, v72, v79, v83, v89, v94, v95, v96;
+    u8 v101, v105, v111, v112, v116;
+    u16 v40, v77, v87, v88, v90, v108;
+    u64 block0[3];
+    v16 = ADDRESS(block0);
+    v17 = a2 == 0u;
+    v18 = v17 ? 4096u : 0u;
+    v19 = a2 + v18 * 1u;
+    v20 = a4 == 0u;
+    v21 = v20 ? 4096u : 0u;
+    v22 = a4 + v21 * 1u;
+    v23 = a0 + 8u * 1u;
+    v24 = load8(v23);
+    v25 = (u8)((v24) & UINT64_C(1));
+    if (v25) { goto L1; }
+    else { v15 = 0u; goto L35; }
 L1:;
-    v25 = load_address(a0);
-    v26 = load8(v25);
-    switch (v26) {
+    v26 = load_address(a0);
+    v27 = load8(v26);
+    switch (v27) {
     case 1u: goto L2;
     case 4u: goto L3;
-    case 0u: v14 = 0u; goto L36;
-    case 2u: v14 = 0u; goto L36;
-    case 3u: v14 = 0u; goto L36;
-    case 5u: v14 = 0u; goto L36;
-    case 6u: v14 = 0u; goto L36;
-    case 7u: v14 = 0u; goto L36;
+    case 0u: v15 = 0u; goto L35;
+    case 2u: v15 = 0u; goto L35;
+    case 3u: v15 = 0u; goto L35;
+    case 5u: v15 = 0u; goto L35;
+    case 6u: v15 = 0u; goto L35;
+    case 7u: v15 = 0u; goto L35;
     default: goto L4;
     }
 L2:;
-    v27 = v25 + 8u * 1u;
-    v28 = load_address(v27);
-    v6 = v28; goto L5;
+    v28 = v26 + 8u * 1u;
+    v29 = load_address(v28);
+    v6 = v29; goto L5;
 L3:;
-    v29 = v25 + 8u * 1u;
-    v30 = load_address(v29);
-    v31 = v30 + 8u * 1u;
-    v6 = v31; goto L5;
+    v30 = v26 + 8u * 1u;
+    v31 = load_address(v30);
+    v32 = v31 + 8u * 1u;
+    v6 = v32; goto L5;
 L4:;
     UNREACHABLE;
 L5:;
-    v32 = a1 == 0u;
-    if (v32) { v14 = 0u; goto L36; }
+    v33 = a1 == 0u;
+    if (v33) { v14 = 0u; goto L34; }
     else { goto L6; }
 L6:;
-    v33 = v6 + 240u * 1u;
-    v34 = load8(v33);
-    v35 = v34 == 0u;
-    v36 = v35 ? 376u : 256u;
-    v37 = v6 + v36 * 1u;
-    v38 = load64(v37);
-    v39 = (u16)(v38);
-    v40 = a1 > v39;
-    v41 = (u64)((u64)v38 & (u64)65535u);
-    v42 = a5 < v41;
-    v43 = (u8)(((u32)v40 | (u32)v42) & UINT64_C(1));
-    if (v43) { v14 = 0u; goto L36; }
+    v34 = v6 + 240u * 1u;
+    v35 = load8(v34);
+    v36 = v35 == 0u;
+    v37 = v36 ? 376u : 256u;
+    v38 = v6 + v37 * 1u;
+    v39 = load64(v38);
+    v40 = (u16)(v39);
+    v41 = a1 > v40;
+    v42 = (u64)((u64)v39 & (u64)65535u);
+    v43 = a5 < v42;
+    v44 = (u8)(((u32)v41 | (u32)v43) & UINT64_C(1));
+    if (v44) { v14 = 0u; goto L34; }
     else { goto L7; }
 L7:;
-    memory_set(v15, 0u, 32u);
-    f8(v15, v18, a3);
-    v44 = load8(v15);
-    v45 = v44 == 1u;
-    if (v45) { goto L8; }
-    else { goto L9; }
+    f117(v16, v19, a3);
+    v45 = load8(v16);
+    v46 = v45 == 1u;
+    if (v46) { goto L8; }
+    else { v14 = 0u; goto L34; }
 L8:;
-    v46 = v15 + 1u * 1u;
-    v47 = load8(v46);
-    v48 = (u8)((u32)v47 & (u32)252u);
-    v49 = v48 == 4u;
-    if (v49) { goto L10; }
-    else { goto L9; }
+    v47 = v16 + 8u * 1u;
+    v48 = load_address(v47);
+    v49 = v16 + 16u * 1u;
+    v50 = load64(v49);
+    v51 = load64(v6);
+    v52 = load8(v48);
+    v53 = v52 < 16u;
+    if (v53) { goto L9; }
+    else { v14 = 0u; goto L34; }
 L9:;
-    v14 = 0u; goto L36;
+    v54 = v48 + 5u * 1u;
+    v55 = load8(v54);
+    v56 = v55 == 0u;
+    if (v56) { goto L10; }
+    else { v14 = 0u; goto L34; }
 L10:;
-    v50 = v18 + 2u * 1u;
-    v51 = load8(v50);
-    v52 = v18 + 3u * 1u;
-    v53 = load8(v52);
-    v54 = (u64)v51;
-    v55 = (u64)((u64)v54 << (8u & 63u));
-    v56 = (u64)v53;
-    v57 = (u64)((u64)v55 | (u64)v56);
-    v58 = load64(v6);
-    v59 = load8(v18);
-    v60 = v59 < 16u;
-    if (v60) { goto L11; }
-    else { v14 = 0u; goto L36; }
+    v57 = v48 + 4u * 1u;
+    v58 = load8(v57);
+    v59 = v6 + 8u * 1u;
+    v60 = load8(v59);
+    v61 = v58 == v60;
+    if (v61) { goto L11; }
+    else { v14 = 0u; goto L34; }
 L11:;
-    v61 = v18 + 5u * 1u;
-    v62 = load8(v61);
-    v63 = v62 == 0u;
-    if (v63) { goto L12; }
-    else { v14 = 0u; goto L36; }
+    v62 = v48 + 20u * 1u;
+    v63 = load64(v62);
+    v64 = v63 == v51;
+    if (v64) { v14 = 0u; goto L34; }
+    else { goto L12; }
 L12:;
-    v64 = v18 + 4u * 1u;
-    v65 = load8(v64);
-    v66 = v6 + 8u * 1u;
-    v67 = load8(v66);
-    v68 = v65 == v67;
-    if (v68) { goto L13; }
-    else { v14 = 0u; goto L36; }
+    v65 = v48 + 34u * 1u;
+    v66 = load64(v65);
+    v67 = v66 == v51;
+    if (v67) { v14 = 0u; goto L34; }
+    else { goto L13; }
 L13:;
-    v69 = v18 + 20u * 1u;
-    v70 = load64(v69);
-    v71 = v70 == v58;
-    if (v71) { v14 = 0u; goto L36; }
+    v68 = v48 + 45u * 1u;
+    v69 = load8(v68);
+    v70 = v69 == 0u;
+    if (v70) { v14 = 0u; goto L34; }
     else { goto L14; }
 L14:;
-    v72 = v18 + 34u * 1u;
-    v73 = load64(v72);
-    v74 = v73 == v58;
-    if (v74) { v14 = 0u; goto L36; }
+    v71 = load8(v34);
+    v72 = v71 == 0u;
+    v73 = v6 + 248u * 1u;
+    if (v72) { v7 = 376u; v8 = v73; goto L16; }
     else { goto L15; }
 L15:;
-    v75 = v18 + 45u * 1u;
-    v76 = load8(v75);
-    v77 = v76 == 0u;
-    if (v77) { v14 = 0u; goto L36; }
-    else { goto L16; }
+    v74 = load_address(v73);
+    v7 = 256u; v8 = v74; goto L16;
 L16:;
-    v78 = load8(v33);
-    v79 = v78 == 0u;
-    v80 = v6 + 248u * 1u;
-    if (v79) { v7 = 376u; v8 = v80; goto L18; }
-    else { goto L17; }
+    v75 = v6 + v7 * 1u;
+    v76 = load64(v75);
+    v77 = (u16)((u32)a1 + (u32)65535u);
+    v78 = (u64)v77;
+    v79 = v76 > v78;
+    if (v79) { goto L17; }
+    else { v14 = 0u; goto L34; }
 L17:;
-    v81 = load_address(v80);
-    v7 = 256u; v8 = v81; goto L18;
-L18:;
-    v82 = v6 + v7 * 1u;
-    v83 = load64(v82);
-    v84 = (u16)((u32)a1 + (u32)65535u);
-    v85 = (u64)v84;
-    v86 = v83 > v85;
-    if (v86) { goto L19; }
-    else { v14 = 0u; goto L36; }
-L19:;
-    v87 = (u64)((u64)v85 << (4u & 63u));
-    v88 = v8 + v87 * 1u;
-    v89 = v88 + 8u * 1u;
-    v90 = load8(v89);
-    switch (v90) {
-    case 4u: goto L21;
-    case 5u: goto L21;
-    case 7u: goto L21;
-    case 8u: goto L21;
-    case 0u: v14 = 0u; goto L36;
-    case 1u: v14 = 0u; goto L36;
-    case 2u: v14 = 0u; goto L36;
-    case 3u: v14 = 0u; goto L36;
-    case 6u: v14 = 0u; goto L36;
-    default: goto L20;
+    v80 = (u64)((u64)v78 << (4u & 63u));
+    v81 = v8 + v80 * 1u;
+    v82 = v81 + 8u * 1u;
+    v83 = load8(v82);
+    switch (v83) {
+    case 4u: goto L19;
+    case 5u: goto L19;
+    case 7u: goto L19;
+    case 8u: goto L19;
+    case 0u: v14 = 0u; goto L34;
+    case 1u: v14 = 0u; goto L34;
+    case 2u: v14 = 0u; goto L34;
+    case 3u: v14 = 0u; goto L34;
+    case 6u: v14 = 0u; goto L34;
+    default: goto L18;
     }
-L20:;
+L18:;
     UNREACHABLE;
+L19:;
+    v84 = v72 ? 376u : 256u;
+    v85 = v6 + v84 * 1u;
+    v86 = load64(v85);
+    v87 = (u16)(v86);
+    v88 = (u16)((u32)v87 + (u32)1u);
+    v89 = v88 > 1u;
+    if (v89) { goto L20; }
+    else { v14 = 0u; goto L34; }
+L20:;
+    v90 = (u16)(v50);
+    v91 = v19 + 45u * 1u;
+    v92 = (u64)a1;
+    v93 = (u64)v88;
+    v9 = 1u; v10 = 0u; goto L21;
 L21:;
-    v91 = v79 ? 376u : 256u;
-    v92 = v6 + v91 * 1u;
-    v93 = load64(v92);
-    v94 = (u16)(v93);
-    v95 = (u16)((u32)v94 + (u32)1u);
-    v96 = v95 > 1u;
-    if (v96) { goto L22; }
-    else { v14 = 0u; goto L36; }
+    v94 = v9 == v92;
+    if (v94) { v13 = v10; goto L33; }
+    else { goto L22; }
 L22:;
-    v97 = (u16)(v57);
-    v98 = (u64)a1;
-    v99 = (u64)v95;
-    v9 = 1u; v10 = 0u; goto L23;
+    v95 = load8(v34);
+    v96 = v95 == 0u;
+    if (v96) { v11 = 376u; v12 = v73; goto L24; }
+    else { goto L23; }
 L23:;
-    v100 = v9 == v98;
-    if (v100) { v13 = v10; goto L35; }
-    else { goto L24; }
+    v97 = load_address(v73);
+    v11 = 256u; v12 = v97; goto L24;
 L24:;
-    v101 = load8(v33);
-    v102 = v101 == 0u;
-    if (v102) { v11 = 376u; v12 = v80; goto L26; }
-    else { goto L25; }
+    v98 = v6 + v11 * 1u;
+    v99 = load64(v98);
+    v100 = (u64)((u64)v9 + (u64)UINT64_C(18446744073709551615));
+    v101 = v99 > v100;
+    if (v101) { goto L25; }
+    else { v13 = v10; goto L33; }
 L25:;
-    v103 = load_address(v80);
-    v11 = 256u; v12 = v103; goto L26;
+    v102 = (u64)((u64)v100 << (4u & 63u));
+    v103 = v12 + v102 * 1u;
+    v104 = v103 + 8u * 1u;
+    v105 = load8(v104);
+    switch (v105) {
+    case 4u: goto L27;
+    case 5u: goto L27;
+    case 7u: goto L27;
+    case 8u: goto L27;
+    case 0u: v13 = v10; goto L33;
+    case 1u: v13 = v10; goto L33;
+    case 2u: v13 = v10; goto L33;
+    case 3u: v13 = v10; goto L33;
+    case 6u: v13 = v10; goto L33;
+    default: goto L26;
+    }
 L26:;
-    v104 = v6 + v11 * 1u;
-    v105 = load64(v104);
-    v106 = (u64)((u64)v9 + (u64)UINT64_C(18446744073709551615));
-    v107 = v105 > v106;
-    if (v107) { goto L27; }
-    else { v13 = v10; goto L35; }
+    UNREACHABLE;
 L27:;
-    v108 = (u64)((u64)v106 << (4u & 63u));
-    v109 = v12 + v108 * 1u;
-    v110 = v109 + 8u * 1u;
-    v111 = load8(v110);
-    switch (v111) {
-    case 4u: goto L29;
-    case 5u: goto L29;
-    case 7u: goto L29;
-    case 8u: goto L29;
-    case 0u: v13 = v10; goto L35;
-    case 1u: v13 = v10; goto L35;
-    case 2u: v13 = v10; goto L35;
-    case 3u: v13 = v10; goto L35;
-    case 6u: v13 = v10; goto L35;
-    default: goto L28;
+    v106 = (u64)((u64)v10 * (u64)1476u);
+    v107 = v22 + v106 * 1u;
+    v108 = (u16)(v9);
+    store16(v107, v108);
+    v109 = v107 + 2u * 1u;
+    store16(v109, v90);
+    v110 = v107 + 4u * 1u;
+    switch (v50) {
+    case 54u: goto L28;
+    case 56u: goto L29;
+    case 80u: goto L30;
+    default: goto L31;
     }
 L28:;
-    UNREACHABLE;
+    memory_move(v110, v19, 54u);
+    goto L32;
 L29:;
-    v112 = (u64)((u64)v10 * (u64)1476u);
-    v113 = v21 + v112 * 1u;
-    v114 = (u16)(v9);
-    store16(v113, v114);
-    v115 = v113 + 2u * 1u;
-    store16(v115, v97);
-    v116 = v113 + 4u * 1u;
-    switch (v97) {
-    case 54u: goto L30;
-    case 56u: goto L31;
-    case 80u: goto L32;
-    default: goto L33;
-    }
+    memory_move(v110, v19, 56u);
+    goto L32;
 L30:;
-    memory_move(v116, v18, 54u);
-    goto L34;
+    memory_move(v110, v19, 80u);
+    goto L32;
 L31:;
-    memory_move(v116, v18, 56u);
-    goto L34;
+    f51(v110, v19, v50);
+    goto L32;
 L32:;
-    memory_move(v116, v18, 80u);
-    goto L34;
+    v111 = load8(v91);
+    v112 = (u8)((u32)v111 + (u32)255u);
+    v113 = v107 + 49u * 1u;
+    store8(v113, v112);
+    v114 = (u64)((u64)v10 + (u64)1u);
+    v13 = v114; goto L33;
 L33:;
-    f52(v116, v18, v57);
-    goto L34;
+    v115 = (u64)((u64)v9 + (u64)1u);
+    v116 = v115 == v93;
+    if (v116) { v14 = v13; goto L34; }
+    else { v9 = v115; v10 = v13; goto L21; }
 L34:;
-    v117 = load8(v75);
-    v118 = (u8)((u32)v117 + (u32)255u);
-    v119 = v113 + 49u * 1u;
-    store8(v119, v118);
-    v120 = (u64)((u64)v10 + (u64)1u);
-    v13 = v120; goto L35;
+    v15 = v14; goto L35;
 L35:;
-    v121 = (u64)((u64)v9 + (u64)1u);
-    v122 = v121 == v99;
-    if (v122) { v14 = v13; goto L36; }
-    else { v9 = v121; v10 = v13; goto L23; }
-L36:;
-    return v14;
+    return v15;
 }
 
 u32 portable_ptpm_clock_set(address a0, u8 a1, u16 a2, u16 a3, address a4, u64 a5, address a6, address a7) {
@@ -57175,7 +59379,7 @@ L1:;
 L2:;
     v21 = v19 + 8u * 1u;
     v22 = load_address(v21);
-    f162(v10, v22, a1, a2, a3, v14, a5);
+    f167(v10, v22, a1, a2, a3, v14, a5);
     v23 = load8(v10);
     v24 = v10 + 1u * 1u;
     v25 = load8(v24);
@@ -57201,7 +59405,7 @@ L4:;
     }
 L5:;
     v30 = (u64)v27;
-    v31 = ADDRESS(c373) + v30 * 2u;
+    v31 = ADDRESS(c379) + v30 * 2u;
     v32 = load16(v31);
     store16(a7, v32);
     v8 = 26u; goto L19;
@@ -57218,7 +59422,7 @@ L10:;
     v34 = load_address(v33);
     memory_set(v9, 0u, 72u);
     v35 = load_address(v34);
-    f162(v9, v35, a1, a2, a3, v14, a5);
+    f167(v9, v35, a1, a2, a3, v14, a5);
     v36 = load8(v9);
     v37 = v36 == 0u;
     if (v37) { goto L11; }
@@ -57251,7 +59455,7 @@ L12:;
     }
 L13:;
     v46 = (u64)v43;
-    v47 = ADDRESS(c373) + v46 * 2u;
+    v47 = ADDRESS(c379) + v46 * 2u;
     v48 = load16(v47);
     store16(a7, v48);
     v8 = 26u; goto L19;
@@ -57281,7 +59485,6 @@ u32 portable_ptpm_clock_ask(address a0, u16 a1, address a2, u64 a3, address a4) 
     v10 = a2 == 0u;
     v11 = v10 ? 4096u : 0u;
     v12 = a2 + v11 * 1u;
-    memory_set(v9, 0u, 154u);
     memory_set(a4, 0u, 150u);
     v13 = a0 + 8u * 1u;
     v14 = load8(v13);
@@ -57305,7 +59508,7 @@ L1:;
 L2:;
     v18 = v16 + 8u * 1u;
     v19 = load_address(v18);
-    f163(v8, v19, a1, v12, a3);
+    f168(v8, v19, a1, v12, a3);
     v20 = load8(v8);
     v21 = v20 == 0u;
     if (v21) { goto L3; }
@@ -57338,7 +59541,7 @@ L7:;
 L8:;
     v29 = v16 + 8u * 1u;
     v30 = load_address(v29);
-    f164(v9, v30, a1, v12, a3);
+    f169(v9, v30, a1, v12, a3);
     v31 = load8(v9);
     v32 = v31 == 0u;
     if (v32) { goto L9; }
@@ -57375,158 +59578,258 @@ L15:;
 }
 
 u32 portable_ptpm_clock_under_way(address a0, address a1) {
-    address v2, v5, v6, v7, v10, v12, v13, v14, v15, v16, v19, v22, v25, v26, v27, v29;
-    address v31, v33, v35, v37, v39, v41, v46, v48, v50, v52, v57, v58, v76, v77, v78, v79;
-    address v80, v81, v82, v83;
-    u16 v3, v20, v59, v60, v61, v62, v63, v64, v65, v66, v67, v68, v69, v70, v71, v72;
-    u16 v73, v74, v75;
-    u32 v4;
-    u8 v8, v9, v11, v17, v18, v23, v24, v30, v32, v36, v38, v40, v42, v43, v47, v49;
-    u8 v51, v53, v56;
-    u64 v21, v28, v34, v44, v45, v54, v55;
+    address v2, v22, v35, v36, v37, v40, v42, v43, v44, v45, v46, v49, v52, v57, v61, v63;
+    address v74, v76, v83, v86, v90, v101, v103, v105, v107, v109, v113, v115, v119, v121, v123, v125;
+    address v127, v129, v131, v133, v135, v137, v139, v147, v149, v151, v153, v155, v173, v174, v175, v176;
+    address v177, v178, v179, v180;
+    u8 v3, v4, v5, v7, v8, v9, v10, v12, v14, v15, v16, v17, v18, v19, v20, v21;
+    u8 v23, v24, v25, v26, v27, v28, v29, v30, v32, v38, v39, v41, v47, v48, v53, v54;
+    u8 v55, v56, v58, v59, v60, v62, v64, v70, v72, v73, v75, v77, v82, v84, v85, v87;
+    u8 v91, v95, v97, v98, v99, v100, v104, v106, v108, v110, v111, v112, v114, v116, v117, v118;
+    u8 v120, v122, v126, v128, v130, v132, v134, v136, v138, v140, v146, v148, v150, v152, v154;
+    u64 v6, v11, v13, v31, v51, v69, v88, v89, v92, v93, v94, v96, v102, v124, v141, v142;
+    u64 v143, v144, v145;
+    u16 v33, v50, v65, v66, v67, v68, v71, v78, v79, v80, v81, v156, v157, v158, v159, v160;
+    u16 v161, v162, v163, v164, v165, v166, v167, v168, v169, v170, v171, v172;
+    u32 v34;
     u64 block0[17];
-    u64 block1[4];
-    v5 = ADDRESS(block0);
-    v6 = ADDRESS(block1);
+    u64 block1[1];
+    v35 = ADDRESS(block0);
+    v36 = ADDRESS(block1);
     memory_set(a1, 0u, 150u);
-    v7 = a0 + 8u * 1u;
-    v8 = load8(v7);
-    v9 = (u8)((v8) & UINT64_C(1));
-    if (v9) { goto L1; }
-    else { v4 = 32u; goto L11; }
+    v37 = a0 + 8u * 1u;
+    v38 = load8(v37);
+    v39 = (u8)((v38) & UINT64_C(1));
+    if (v39) { goto L1; }
+    else { v34 = 32u; goto L21; }
 L1:;
-    v10 = load_address(a0);
-    v11 = load8(v10);
-    switch (v11) {
+    v40 = load_address(a0);
+    v41 = load8(v40);
+    switch (v41) {
     case 1u: goto L2;
     case 4u: goto L3;
-    case 0u: v4 = 32u; goto L11;
-    case 2u: v4 = 32u; goto L11;
-    case 3u: v4 = 32u; goto L11;
-    case 5u: v4 = 32u; goto L11;
-    case 6u: v4 = 32u; goto L11;
-    case 7u: v4 = 32u; goto L11;
+    case 0u: v34 = 32u; goto L21;
+    case 2u: v34 = 32u; goto L21;
+    case 3u: v34 = 32u; goto L21;
+    case 5u: v34 = 32u; goto L21;
+    case 6u: v34 = 32u; goto L21;
+    case 7u: v34 = 32u; goto L21;
     default: goto L4;
     }
 L2:;
-    v12 = v10 + 8u * 1u;
-    v2 = v12; goto L5;
+    v42 = v40 + 8u * 1u;
+    v2 = v42; goto L5;
 L3:;
-    v13 = v10 + 8u * 1u;
-    v14 = load_address(v13);
-    v2 = v14; goto L5;
+    v43 = v40 + 8u * 1u;
+    v44 = load_address(v43);
+    v2 = v44; goto L5;
 L4:;
     UNREACHABLE;
 L5:;
-    v15 = load_address(v2);
-    v16 = v15 + 424u * 1u;
-    v17 = load8(v16);
-    v18 = v17 == 1u;
-    if (v18) { goto L6; }
-    else { v4 = 0u; goto L11; }
-L6:;
-    memory_set(v6, 0u, 32u);
-    v19 = v15 + 428u * 1u;
-    v20 = load16(v19);
-    v21 = (u64)v20;
-    v22 = v15 + 430u * 1u;
-    f8(v6, v22, v21);
-    v23 = load8(v6);
-    v24 = v23 == 0u;
-    if (v24) { goto L7; }
-    else { goto L9; }
-L7:;
-    v25 = v6 + 8u * 1u;
-    v26 = load_address(v25);
-    v27 = v6 + 16u * 1u;
-    v28 = load64(v27);
-    v29 = v6 + 24u * 1u;
-    v30 = load8(v29);
-    v31 = v6 + 25u * 1u;
-    v32 = load8(v31);
-    v33 = v26 + 20u * 1u;
-    v34 = load64(v33);
-    v35 = v26 + 28u * 1u;
-    v36 = load8(v35);
-    v37 = v26 + 29u * 1u;
-    v38 = load8(v37);
-    v39 = v26 + 30u * 1u;
-    v40 = load8(v39);
-    v41 = v26 + 31u * 1u;
-    v42 = load8(v41);
-    v43 = v32 == 0u;
-    v44 = v43 ? 52u : 54u;
-    v45 = v43 ? 53u : 55u;
-    v46 = v26 + v44 * 1u;
+    v45 = load_address(v2);
+    v46 = v45 + 448u * 1u;
     v47 = load8(v46);
-    v48 = v26 + v45 * 1u;
-    v49 = load8(v48);
-    v50 = v26 + 42u * 1u;
-    v51 = load8(v50);
-    v52 = v26 + 43u * 1u;
-    v53 = load8(v52);
-    v54 = (u64)((u64)v28 + (u64)UINT64_C(18446744073709551562));
-    v55 = v43 ? v54 : 0u;
-    memory_set(v5, 0u, 130u);
-    v56 = v55 > 130u;
-    if (v56) { v3 = 0u; goto L10; }
-    else { goto L8; }
+    v48 = v47 == 1u;
+    if (v48) { goto L6; }
+    else { v34 = 0u; goto L21; }
+L6:;
+    v49 = v45 + 452u * 1u;
+    v50 = load16(v49);
+    v51 = (u64)v50;
+    v52 = v45 + 454u * 1u;
+    memory_set(v36, 0u, 3u);
+    v53 = v50 < 54u;
+    if (v53) { goto L13; }
+    else { goto L7; }
+L7:;
+    v54 = load8(v52);
+    v55 = (u8)((u32)v54 & (u32)15u);
+    v56 = v55 == 13u;
+    if (v56) { goto L8; }
+    else { goto L13; }
 L8:;
-    v57 = v26 + 54u * 1u;
-    v58 = v43 ? v57 : ADDRESS(c148);
-    memory_cpy(v5, v58, v55);
-    v59 = (u16)(v55);
-    v3 = v59; goto L10;
+    v57 = v45 + 455u * 1u;
+    v58 = load8(v57);
+    v59 = (u8)((u32)v58 & (u32)15u);
+    v60 = v59 == 2u;
+    if (v60) { goto L9; }
+    else { goto L13; }
 L9:;
+    v61 = v45 + 456u * 1u;
+    v62 = load8(v61);
+    v63 = v45 + 457u * 1u;
+    v64 = load8(v63);
+    v65 = (u16)v62;
+    v66 = (u16)((u32)v65 << (8u & 15u));
+    v67 = (u16)v64;
+    v68 = (u16)((u32)v66 | (u32)v67);
+    v69 = (u64)v68;
+    v70 = v50 < v68;
+    v71 = (u16)((u32)v68 + (u32)64063u);
+    v72 = v71 < 64117u;
+    v73 = (u8)(((u32)v70 | (u32)v72) & UINT64_C(1));
+    if (v73) { goto L13; }
+    else { goto L10; }
+L10:;
+    v74 = v45 + 502u * 1u;
+    v75 = load8(v74);
+    v76 = v45 + 503u * 1u;
+    v77 = load8(v76);
+    v78 = (u16)v75;
+    v79 = (u16)((u32)v78 << (8u & 15u));
+    v80 = (u16)v77;
+    v81 = (u16)((u32)v79 | (u32)v80);
+    v82 = v81 == 1u;
+    if (v82) { goto L11; }
+    else { goto L13; }
+L11:;
+    v83 = v45 + 500u * 1u;
+    v84 = load8(v83);
+    v85 = (u8)((u32)v84 & (u32)15u);
+    v86 = v45 + 504u * 1u;
+    v87 = load8(v86);
+    v88 = (u64)v87;
+    v89 = (u64)((u64)v88 << (8u & 63u));
+    v90 = v45 + 505u * 1u;
+    v91 = load8(v90);
+    v92 = (u64)v91;
+    v93 = (u64)((u64)v89 | (u64)v92);
+    v94 = (u64)((u64)v93 + (u64)52u);
+    v95 = v94 == v69;
+    v96 = (u64)((u64)v69 & (u64)1u);
+    v97 = v96 == 0u;
+    v98 = (u8)(((u32)v97 & (u32)v95) & UINT64_C(1));
+    v99 = v85 < 5u;
+    v100 = v98 ? v99 : 0u;
+    if (v100) { goto L12; }
+    else { goto L13; }
+L12:;
+    v101 = v45 + 474u * 1u;
+    v102 = load64(v101);
+    v103 = v45 + 482u * 1u;
+    v104 = load8(v103);
+    v105 = v45 + 483u * 1u;
+    v106 = load8(v105);
+    v107 = v45 + 484u * 1u;
+    v108 = load8(v107);
+    v109 = v45 + 485u * 1u;
+    v110 = load8(v109);
+    v3 = v64; v4 = v62; v5 = v85; v6 = v102; v7 = v104; v8 = v106; v9 = v108; v10 = v110; goto L15;
+L13:;
+    f8(v36, v52, v51);
+    v111 = load8(v36);
+    v112 = v111 == 0u;
+    if (v112) { goto L14; }
+    else { goto L19; }
+L14:;
+    v113 = v36 + 1u * 1u;
+    v114 = load8(v113);
+    v115 = v36 + 2u * 1u;
+    v116 = load8(v115);
+    v117 = v116;
+    v118 = v117 == 0u;
+    v119 = v45 + 456u * 1u;
+    v120 = load8(v119);
+    v121 = v45 + 457u * 1u;
+    v122 = load8(v121);
+    v123 = v45 + 474u * 1u;
+    v124 = load64(v123);
+    v125 = v45 + 482u * 1u;
+    v126 = load8(v125);
+    v127 = v45 + 483u * 1u;
+    v128 = load8(v127);
+    v129 = v45 + 484u * 1u;
+    v130 = load8(v129);
+    v131 = v45 + 485u * 1u;
+    v132 = load8(v131);
+    if (v118) { v3 = v122; v4 = v120; v5 = v114; v6 = v124; v7 = v126; v8 = v128; v9 = v130; v10 = v132; goto L15; }
+    else { goto L16; }
+L15:;
+    v133 = v45 + 506u * 1u;
+    v134 = load8(v133);
+    v135 = v45 + 507u * 1u;
+    v136 = load8(v135);
+    v137 = v45 + 496u * 1u;
+    v138 = load8(v137);
+    v139 = v45 + 497u * 1u;
+    v140 = load8(v139);
+    v141 = (u64)v4;
+    v142 = (u64)((u64)v141 << (8u & 63u));
+    v143 = (u64)v3;
+    v144 = (u64)((u64)v143 + (u64)UINT64_C(18446744073709551562));
+    v145 = (u64)((u64)v144 + (u64)v142);
+    memory_set(v35, 0u, 130u);
+    v146 = v145 > 130u;
+    if (v146) { v23 = v140; v24 = v138; v25 = v136; v26 = v134; v27 = v10; v28 = v9; v29 = v8; v30 = v7; v31 = v6; v32 = v5; v33 = 0u; goto L20; }
+    else { goto L17; }
+L16:;
+    v147 = v45 + 508u * 1u;
+    v148 = load8(v147);
+    v149 = v45 + 509u * 1u;
+    v150 = load8(v149);
+    v151 = v45 + 496u * 1u;
+    v152 = load8(v151);
+    v153 = v45 + 497u * 1u;
+    v154 = load8(v153);
+    memory_set(v35, 0u, 130u);
+    v11 = 0u; v12 = v114; v13 = v124; v14 = v126; v15 = v128; v16 = v130; v17 = v132; v18 = v148; v19 = v150; v20 = v152; v21 = v154; v22 = ADDRESS(c155); goto L18;
+L17:;
+    v155 = v45 + 508u * 1u;
+    v11 = v145; v12 = v5; v13 = v6; v14 = v7; v15 = v8; v16 = v9; v17 = v10; v18 = v134; v19 = v136; v20 = v138; v21 = v140; v22 = v155; goto L18;
+L18:;
+    memory_cpy(v35, v22, v11);
+    v156 = (u16)(v11);
+    v23 = v21; v24 = v20; v25 = v19; v26 = v18; v27 = v17; v28 = v16; v29 = v15; v30 = v14; v31 = v13; v32 = v12; v33 = v156; goto L20;
+L19:;
     TRAP;
     UNREACHABLE;
-L10:;
-    v60 = (u16)v51;
-    v61 = (u16)((u32)v60 << (8u & 15u));
-    v62 = (u16)v53;
-    v63 = (u16)((u32)v61 | (u32)v62);
-    v64 = (u16)v47;
-    v65 = (u16)((u32)v64 << (8u & 15u));
-    v66 = (u16)v49;
-    v67 = (u16)((u32)v65 | (u32)v66);
-    v68 = (u16)v40;
-    v69 = (u16)((u32)v68 << (8u & 15u));
-    v70 = (u16)v42;
-    v71 = (u16)((u32)v69 | (u32)v70);
-    v72 = (u16)v36;
-    v73 = (u16)((u32)v72 << (8u & 15u));
-    v74 = (u16)v38;
-    v75 = (u16)((u32)v73 | (u32)v74);
-    store64(a1, v34);
-    v76 = a1 + 8u * 1u;
-    store16(v76, v75);
-    v77 = a1 + 10u * 1u;
-    store16(v77, v71);
-    v78 = a1 + 12u * 1u;
-    store16(v78, v67);
-    v79 = a1 + 14u * 1u;
-    store16(v79, v63);
-    v80 = a1 + 16u * 1u;
-    store16(v80, v3);
-    v81 = a1 + 18u * 1u;
-    store8(v81, v30);
-    v82 = a1 + 19u * 1u;
-    memory_cpy(v82, v5, 130u);
-    v83 = a1 + 149u * 1u;
-    store8(v83, 0u);
-    v4 = 29u; goto L11;
-L11:;
-    return v4;
+L20:;
+    v157 = (u16)v24;
+    v158 = (u16)((u32)v157 << (8u & 15u));
+    v159 = (u16)v23;
+    v160 = (u16)((u32)v158 | (u32)v159);
+    v161 = (u16)v26;
+    v162 = (u16)((u32)v161 << (8u & 15u));
+    v163 = (u16)v25;
+    v164 = (u16)((u32)v162 | (u32)v163);
+    v165 = (u16)v28;
+    v166 = (u16)((u32)v165 << (8u & 15u));
+    v167 = (u16)v27;
+    v168 = (u16)((u32)v166 | (u32)v167);
+    v169 = (u16)v30;
+    v170 = (u16)((u32)v169 << (8u & 15u));
+    v171 = (u16)v29;
+    v172 = (u16)((u32)v170 | (u32)v171);
+    store64(a1, v31);
+    v173 = a1 + 8u * 1u;
+    store16(v173, v172);
+    v174 = a1 + 10u * 1u;
+    store16(v174, v168);
+    v175 = a1 + 12u * 1u;
+    store16(v175, v164);
+    v176 = a1 + 14u * 1u;
+    store16(v176, v160);
+    v177 = a1 + 16u * 1u;
+    store16(v177, v33);
+    v178 = a1 + 18u * 1u;
+    store8(v178, v32);
+    v179 = a1 + 19u * 1u;
+    memory_cpy(v179, v35, 130u);
+    v180 = a1 + 149u * 1u;
+    store8(v180, 0u);
+    v34 = 29u; goto L21;
+L21:;
+    return v34;
 }
 
 u32 portable_ptpm_clock_undertake(address a0, u16 a1, address a2, u64 a3, address a4) {
     u32 v5, v6, v7;
     address v8, v9, v10, v11, v14, v15, v18, v21, v22, v24, v25, v29, v33, v36, v41, v43;
-    address v44, v47, v48, v51, v53, v60, v61, v62, v63, v64, v65;
-    u8 v12, v16, v17, v19, v20, v23, v26, v27, v32, v34, v35, v38, v39, v40, v42, v45;
-    u8 v46, v49, v50, v52, v54;
-    u64 v13, v28, v30, v37, v55, v56, v57, v58;
-    u16 v31, v59;
+    address v44, v45, v46, v47, v51, v52, v55, v57, v64, v65, v66, v67, v68, v69;
+    u8 v12, v16, v17, v19, v20, v23, v26, v27, v32, v34, v35, v38, v39, v40, v42, v49;
+    u8 v50, v53, v54, v56, v58;
+    u64 v13, v28, v30, v37, v48, v59, v60, v61, v62;
+    u16 v31, v63;
     u64 block0[23];
     u64 block1[6];
     u64 block2[20];
@@ -57553,7 +59856,6 @@ L1:;
 L2:;
     v21 = v18 + 8u * 1u;
     v22 = load_address(v21);
-    memory_set(v10, 0u, 154u);
     v23 = a1 == 0u;
     if (v23) { goto L4; }
     else { goto L3; }
@@ -57585,7 +59887,7 @@ L6:;
     if (v38) { goto L7; }
     else { goto L16; }
 L7:;
-    f164(v10, v22, a1, v14, a3);
+    f169(v10, v22, a1, v14, a3);
     v39 = load8(v10);
     v40 = v39 == 0u;
     if (v40) { goto L8; }
@@ -57595,46 +59897,50 @@ L8:;
     v42 = load8(v41);
     v43 = v10 + 4u * 1u;
     v44 = load_address(v22);
-    f83(v9, v44, v14, a3);
-    v45 = load8(v9);
-    v46 = v45 == 1u;
-    if (v46) { goto L10; }
+    v45 = v44 + 424u * 1u;
+    v46 = load_address(v45);
+    v47 = v44 + 432u * 1u;
+    v48 = load64(v47);
+    f87(v9, v44, v46, v48, v14, a3);
+    v49 = load8(v9);
+    v50 = v49 == 1u;
+    if (v50) { goto L10; }
     else { goto L12; }
 L9:;
     TRAP;
     UNREACHABLE;
 L10:;
-    v47 = load_address(v22);
-    v48 = v47 + 424u * 1u;
-    v49 = load8(v48);
-    v50 = v49 == 1u;
-    if (v50) { goto L17; }
+    v51 = load_address(v22);
+    v52 = v51 + 448u * 1u;
+    v53 = load8(v52);
+    v54 = v53 == 1u;
+    if (v54) { goto L17; }
     else { goto L11; }
 L11:;
-    v51 = v14 + 2u * 1u;
-    v52 = load8(v51);
-    v53 = v14 + 3u * 1u;
-    v54 = load8(v53);
-    v55 = (u64)v52;
-    v56 = (u64)((u64)v55 << (8u & 63u));
-    v57 = (u64)v54;
-    v58 = (u64)((u64)v56 | (u64)v57);
+    v55 = v14 + 2u * 1u;
+    v56 = load8(v55);
+    v57 = v14 + 3u * 1u;
+    v58 = load8(v57);
+    v59 = (u64)v56;
+    v60 = (u64)((u64)v59 << (8u & 63u));
+    v61 = (u64)v58;
+    v62 = (u64)((u64)v60 | (u64)v61);
     memory_set(v8, 0u, 184u);
-    memory_cpy(v8, v14, v58);
-    v59 = (u16)(v58);
-    store16(v48, 1u);
-    v60 = v47 + 426u * 1u;
-    store16(v60, a1);
-    v61 = v47 + 428u * 1u;
-    store16(v61, v59);
-    v62 = v47 + 430u * 1u;
-    memory_cpy(v62, v8, 184u);
-    v63 = v22 + 841u * 1u;
-    store8(v63, 1u);
-    v64 = v22 + 842u * 1u;
-    store8(v64, 1u);
-    v65 = v22 + 844u * 1u;
-    store8(v65, 1u);
+    memory_cpy(v8, v14, v62);
+    v63 = (u16)(v62);
+    store16(v52, 1u);
+    v64 = v51 + 450u * 1u;
+    store16(v64, a1);
+    v65 = v51 + 452u * 1u;
+    store16(v65, v63);
+    v66 = v51 + 454u * 1u;
+    memory_cpy(v66, v8, 184u);
+    v67 = v22 + 841u * 1u;
+    store8(v67, 1u);
+    v68 = v22 + 842u * 1u;
+    store8(v68, 1u);
+    v69 = v22 + 844u * 1u;
+    store8(v69, 1u);
     goto L12;
 L12:;
     memory_cpy(v11, v43, 150u);
