@@ -24,12 +24,12 @@ extern "C" {
    They may start and stop in any order. A restore in a live handle has both clocks for a moment. A table of the device's own ids
    (ptpm_clock_relay) takes PTPM_PIECE(10 * ids) more. */
 #define PTPM_CLOCK_MEMORY_OF(ports, managers) \
-    ((size_t)672 + ((managers) > 0 ? PTPM_PIECE((size_t)(managers) * 2144) : 0) \
+    ((size_t)688 + ((managers) > 0 ? PTPM_PIECE((size_t)(managers) * 2144) : 0) \
      + ((ports) > 8 ? PTPM_OF_MANY_PORTS((size_t)(ports), (size_t)(managers)) : 0))
 #define PTPM_OF_MANY_PORTS(ports, managers) \
     (PTPM_PIECE(16 * (ports)) + PTPM_PIECE(160 * (ports)) + (managers) * (PTPM_PIECE(ports) + PTPM_PIECE(80 * (ports))))
 #define PTPM_PIECE(octets) (((octets) + 31) / 16 * 16)
-#define PTPM_CLOCK_MEMORY 34992
+#define PTPM_CLOCK_MEMORY 35008
 
 /* What ptpm_clock_saving takes in addition, for a clock of this many ports and with places for this many messages. */
 #define PTPM_SAVING_MEMORY_OF(ports, places) \
