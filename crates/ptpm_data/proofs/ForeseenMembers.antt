@@ -44,7 +44,7 @@ by_digits d e digit each c is =
 
 -- ---- the description
 
-description_digit : Bool → Member → Bool
+abbrev description_digit : Bool → Member → Bool
 description_digit t members.UserDescription = t
 description_digit t _ = false
 
@@ -64,12 +64,12 @@ pub description_told : (d : DataSetsValue) (text : List ℕ) (t : Bool) (c : Clo
     → c.0 ≡ (if t then 4 else 0)
     → c ≡ clock_changed d (record d { description = text })
 description_told d text t c is told =
-    by_digits d (record d { description = text }) _ (description_each d text) c
-    (told ∙ description_number t ∙ ap (λ b. number_of (map (description_digit b) clock_members)) is)
+    by_digits d (record d { description = text }) (description_digit (differ (Some (Octets d.description)) (Some (Octets text)))) (description_each d text) c
+    (told ∙ description_number t ∙ ap (λ (b : Bool). number_of (map (description_digit b) clock_members)) is)
 
 -- ---- the domain
 
-domain_digit : Bool → Member → Bool
+abbrev domain_digit : Bool → Member → Bool
 domain_digit t members.Domain = t
 domain_digit t _ = false
 
@@ -89,8 +89,8 @@ pub domain_told : (d : DataSetsValue) (n : ℕ) (t : Bool) (c : ClockMembers)
     → c.0 ≡ (if t then 2 else 0)
     → c ≡ clock_changed d (record d { default = record d.default { domain = n } })
 domain_told d n t c is told =
-    by_digits d (record d { default = record d.default { domain = n } }) _ (domain_each d n) c
-    (told ∙ domain_number t ∙ ap (λ b. number_of (map (domain_digit b) clock_members)) is)
+    by_digits d (record d { default = record d.default { domain = n } }) (domain_digit (differ (natural d.default.domain) (natural n))) (domain_each d n) c
+    (told ∙ domain_number t ∙ ap (λ (b : Bool). number_of (map (domain_digit b) clock_members)) is)
 
 -- ---- the precedence; the grandmaster's member has the same value if the clock is its own grandmaster
 
@@ -107,7 +107,7 @@ own_bit (ClockAccuracy n) = 64
 abbrev bits : Bool → Bool → ℕ → ℕ
 bits b t own = if t then (if b then own + 4096 * own else own) else 0
 
-precedence_digit : Bool → Bool → PrecedenceChange → Member → Bool
+abbrev precedence_digit : Bool → Bool → PrecedenceChange → Member → Bool
 precedence_digit b t (Priority1 n) members.Priority1 = t
 precedence_digit b t (Priority1 n) members.GrandmasterPriority1 = b && t
 precedence_digit b t (Priority2 n) members.Priority2 = t
@@ -154,21 +154,24 @@ told_at : (b : Bool) (change : PrecedenceChange) (d : DataSetsValue)
     → c.0 ≡ bits b t (own_bit change)
     → c ≡ clock_changed d (after b change d)
 told_at b change d same t c is told =
-    by_digits d (after b change d) _ (precedence_each b change d same) c
-    (told ∙ precedence_number b t change ∙ ap (λ s. number_of (map (precedence_digit b s change) clock_members)) is)
+    by_digits d (after b change d) (precedence_digit b (alters change d.default.precedence) change) (precedence_each b change d same) c
+    (told ∙ precedence_number b t change ∙ ap (λ (s : Bool). number_of (map (precedence_digit b s change) clock_members)) is)
 
-pub precedence_told : (change : PrecedenceChange) (d : DataSetsValue) (t b : Bool) (c : ClockMembers)
+pub precedence_told : (change x : PrecedenceChange) (v d : DataSetsValue) (t b : Bool) (c : ClockMembers)
+    → change ≡ x
+    → d ≡ v
     → IsConsistent d
     → b ≡ is_own_grandmaster d
-    → t ≡ alters change d.default.precedence
-    → c.0 ≡ bits b t (own_bit change)
-    → c ≡ clock_changed d (with_precedence d change)
-precedence_told change d t b c consistent shown is told =
-    told_at (is_own_grandmaster d) change d consistent.grandmaster t c is (told ∙ ap (λ s. bits s t (own_bit change)) shown)
+    → t ≡ alters x d.default.precedence
+    → c.0 ≡ bits b t (own_bit x)
+    → c ≡ clock_changed v (with_precedence v change)
+precedence_told change x v d t b c same view consistent shown is told =
+    told_at (is_own_grandmaster d) x d consistent.grandmaster t c is (told ∙ ap (λ (s : Bool). bits s t (own_bit x)) shown)
+    ∙ (λ i. clock_changed (view i) (with_precedence (view i) (sym same i)))
 
 -- ---- the UTC properties
 
-utc_digit : Bool → Bool → Bool → Bool → Member → Bool
+abbrev utc_digit : Bool → Bool → Bool → Bool → Member → Bool
 utc_digit a b c e members.UtcOffset = a
 utc_digit a b c e members.Leap61 = b
 utc_digit a b c e members.Leap59 = c
@@ -193,7 +196,15 @@ utc_each d octets m = differ_itself (clock_member m d)
 utc_number : (a b c e : Bool)
     → number_of (a ∷ b ∷ c ∷ e ∷ []) * 4194304 ≡ number_of (map (utc_digit a b c e) clock_members)
 unfolding number_of
-utc_number a b c e = omega arith
+utc_number true true true true = refl
+utc_number true true false true = refl
+utc_number true false true true = refl
+utc_number true false false true = refl
+utc_number false true true true = refl
+utc_number false true false true = refl
+utc_number false false true true = refl
+utc_number false false false true = refl
+utc_number a b c e = refl
 
 pub utc_told : (d : DataSetsValue) (octets : List ℕ) (t : TimePropertiesDataSet) (c : ClockMembers)
     → t ≡ with_utc_properties d.time octets
@@ -201,7 +212,7 @@ pub utc_told : (d : DataSetsValue) (octets : List ℕ) (t : TimePropertiesDataSe
     ∷ differ (flag d.time.leap59) (flag t.leap59) ∷ differ (flag d.time.utc_valid) (flag t.utc_valid) ∷ []) * 4194304
     → c ≡ clock_changed d (with_time d octets)
 utc_told d octets t c is told =
-    by_digits d (with_time d octets) _ (utc_each d octets) c
+    by_digits d (with_time d octets) (utc_digit_of d.time (with_utc_properties d.time octets)) (utc_each d octets) c
     (told ∙ utc_number _ _ _ _ ∙ ap (λ (s : TimePropertiesDataSet). number_of (map (utc_digit_of d.time s) clock_members)) is)
 
 -- ---- ports
@@ -212,12 +223,11 @@ at_place : (port a : ℕ) (change : PortDataSet → PortDataSet) (ports : List P
     ≡ option_map (changed_if (is_named port n) change) (slice_get ports i)
 at_place port a change [] i n is = refl
 at_place port a change (p ∷ ports) zero n is =
-    let here : a ≡ n = omega arith in ap (λ k. Some (changed_if (is_named port k) change p)) here
+    let here : a ≡ n = omega arith in ap (λ (k : ℕ). Some (changed_if (is_named port k) change p)) here
 at_place port a change (p ∷ ports) (suc i) n is = at_place port (a + 1) change ports i n (omega arith)
 
 among : (ports : List PortDataSet) (n i : ℕ) → n ≡ i + 1 → port_among n ports ≡ slice_get ports i
 among ports n i is = grind arith
-
 
 told_by : (port n i : ℕ) (change : PortChange) (d : DataSetsValue) → n ≡ i + 1
     → port_changed d (with_ports port d change) n
@@ -250,7 +260,7 @@ pub unnamed_told : (port n i : ℕ) (change : PortChange) (d : DataSetsValue)
 unnamed_told port n i change d at named =
     stays (port_after change) (slice_get d.ports i)
     ∙ sym (told_by port n i change d at
-    ∙ ap (λ b. members_changed (slice_get d.ports i) (option_map (changed_if b (port_after change)) (slice_get d.ports i))) named)
+    ∙ ap (λ (b : Bool). members_changed (slice_get d.ports i) (option_map (changed_if b (port_after change)) (slice_get d.ports i))) named)
 
 pub past_told : (port n i : ℕ) (change : PortChange) (d : DataSetsValue)
     → n ≡ i + 1
@@ -268,8 +278,8 @@ pub none_before : (f : ℕ → PortMembers) (first most : ℕ)
     → replicate most untold ≡ map f (range_with_len 1 first) ++ replicate (most - first) untold
 none_before f first most within none =
     let all : most ≡ first + (most - first) = omega arith in
-    ap (λ n. replicate n untold) all ∙ sym (replicate-append-replicate first (most - first) untold)
-    ∙ ap (λ ms. ms ++ replicate (most - first) untold) (others_told f 1 first none)
+    ap (λ (n : ℕ). replicate n untold) all ∙ sym (replicate-append-replicate first (most - first) untold)
+    ∙ ap (λ (ms : List PortMembers). ms ++ replicate (most - first) untold) (others_told f 1 first none)
 
 pub of_ports_told : (port : ℕ) (change : PortChange) (d : DataSetsValue) (ports : List PortMembers)
     → ports ≡ map (port_changed d (with_ports port d change)) (range_with_len 1 PORTS)
@@ -282,8 +292,8 @@ pub none_named_before : (port first most : ℕ) (change : PortChange) (d : DataS
     → replicate most untold ≡ map (port_changed d (with_ports port d change)) (range_with_len 1 first) ++ replicate (most - first) untold
 none_named_before port first most change d within none =
     none_before (port_changed d (with_ports port d change)) first most within
-    (λ n least below. let at : n ≡ n - 1 + 1 = omega arith in
-    unnamed_told port n (n - 1) change d at (ap (is_named port) at ∙ none (n - 1) (omega arith)))
+    (λ n least below. let at : n ≡ n - 1 + 1 = omega (arith, least) in
+    unnamed_told port n (n - 1) change d at (ap (is_named port) at ∙ none (n - 1) (omega (arith, least, below))))
 
 pub none_named_after : (port end most : ℕ) (change : PortChange) (d : DataSetsValue) (ports : List PortMembers)
     → ports ≡ map (port_changed d (with_ports port d change)) (range_with_len 1 end) ++ replicate (most - end) untold
@@ -292,6 +302,6 @@ pub none_named_after : (port end most : ℕ) (change : PortChange) (d : DataSets
     → ports ≡ map (port_changed d (with_ports port d change)) (range_with_len 1 most)
 none_named_after port end most change d ports told within none =
     rest_told (port_changed d (with_ports port d change)) end most ports told within
-    (λ n past. let at : n ≡ n - 1 + 1 = omega arith in
-    ⊎_elim (λ (has : n - 1 < length d.ports). unnamed_told port n (n - 1) change d at (ap (is_named port) at ∙ none (n - 1) (omega arith) has))
+    (λ n past. let at : n ≡ n - 1 + 1 = omega (arith, past) in
+    ⊎_elim (λ (has : n - 1 < length d.ports). unnamed_told port n (n - 1) change d at (ap (is_named port) at ∙ none (n - 1) (omega (arith, past)) has))
     (λ (lacks : length d.ports ≤ n - 1). past_told port n (n - 1) change d at lacks) (cases_lt (n - 1) (length d.ports)))

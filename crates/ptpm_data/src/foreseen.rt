@@ -28,7 +28,7 @@ impl ClockMembers {
         if differ { self } else { ClockMembers::NONE }
     }
 
-    /// These, and the others too if these are shown by them.
+    /// These, with the others if these are shown there too.
     fn and_if(self, is_shown: bool, others: ClockMembers) -> ClockMembers
         requires { self.0 + others.0 < 2 ^ 32 }
         ensures { result.0 ≡ (if is_shown then self.0 + others.0 else self.0) }
@@ -83,6 +83,17 @@ impl DataSets {
     /// Which members a numbered request of a manager with these rights would change: those whose values would differ. Takes no
     /// memory.
     pub fn changes_of(&self, request: &Request<'_>, rights: Rights) -> ChangedMembers
+        requires { IsTargetPort request.now.port self.now }
+        ensures { result ≡ changed self.now (changed_by request.now rights self.now) }
+    {
+        match request.action {
+            Action::Get => ChangedMembers::NONE,
+            _ => self.changes_of_id(request, rights),
+        }
+    }
+
+    /// The same by what the table says of its id.
+    fn changes_of_id(&self, request: &Request<'_>, rights: Rights) -> ChangedMembers
         requires { IsTargetPort request.now.port self.now }
         ensures { result ≡ changed self.now (changed_by request.now rights self.now) }
     {
