@@ -3,7 +3,7 @@ use Rattle.ptpm_data.specs.declared.precedence_change.PrecedenceChange.TheVarian
 use Rattle.ptpm_data.specs.Members.{data_sets_value}
 use Rattle.ptpm_data.proofs.Differing.{naturals}
 use Rattle.ptpm_data.proofs.ForeseenMembers.{precedence_told}
-use Rattle.ptpm_data.proofs.foreseen.DataSets.precedence_members.Goals as goal
+use Rattle.ptpm_data.proofs.data_sets.DataSets.precedence_members.Goals as goal
 
 pub returns-in-Priority1 : goal.returns-in-Priority1
 returns-in-Priority1 c =

@@ -4,7 +4,7 @@ use Rattle.ptpm_data.specs.Changes.{with_utc_properties}
 use Rattle.ptpm_data.specs.Members.{DataSetsValue, data_sets_value}
 use Rattle.ptpm_data.proofs.Differing.{digit, flags}
 use Rattle.ptpm_data.proofs.ForeseenMembers.{of_clock_told, utc_told}
-use Rattle.ptpm_data.proofs.foreseen.DataSets.changes_of_utc.Goals as goal
+use Rattle.ptpm_data.proofs.data_sets.DataSets.changes_of_utc.Goals as goal
 
 pub returns : goal.returns
 returns c =

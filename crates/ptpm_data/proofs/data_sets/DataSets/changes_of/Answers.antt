@@ -5,7 +5,7 @@ use Rattle.ptpm_data.specs.Members.{DataSetsValue}
 use Rattle.ptpm_data.specs.Request.{RequestValue}
 use Rattle.ptpm_data.proofs.Differing.{nothing_changed}
 use Rattle.ptpm_data.proofs.Keeping.{changed_by-get}
-use Rattle.ptpm_data.proofs.foreseen.DataSets.changes_of.Goals as goal
+use Rattle.ptpm_data.proofs.data_sets.DataSets.changes_of.Goals as goal
 
 pub returns-in-Get : goal.returns-in-Get
 returns-in-Get c =

@@ -3,7 +3,7 @@ use Rattle.ptpm_data.specs.Changed.{changed}
 use Rattle.ptpm_data.specs.Members.{DataSetsValue, data_sets_value}
 use Rattle.ptpm_data.proofs.Differing.{texts}
 use Rattle.ptpm_data.proofs.ForeseenMembers.{description_told, of_clock_told}
-use Rattle.ptpm_data.proofs.foreseen.DataSets.changes_of_description.Goals as goal
+use Rattle.ptpm_data.proofs.data_sets.DataSets.changes_of_description.Goals as goal
 
 pub returns : goal.returns
 returns c =

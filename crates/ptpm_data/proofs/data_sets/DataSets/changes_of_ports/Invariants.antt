@@ -3,7 +3,7 @@ use Rattle.std.specs.List.{range_with_len}
 use Rattle.ptpm_data.specs.declared.ports.TheConstants.{PORTS}
 use Rattle.ptpm_data.specs.Changed.{port_changed}
 use Rattle.ptpm_data.specs.Changes.{with_ports}
-use Rattle.ptpm_data.proofs.foreseen.DataSets.changes_of_ports.Given as goal
+use Rattle.ptpm_data.proofs.data_sets.DataSets.changes_of_ports.Given as goal
 
 abbrev pub invariant-loop-place : goal.invariant-loop-place
 invariant-loop-place l =

@@ -1,7 +1,7 @@
 use Rattle.std.proofs.Common.{◌∙◌, refl}
 use Rattle.ptpm_data.specs.Changes.{with_precedence}
 use Rattle.ptpm_data.proofs.ForeseenMembers.{of_clock_told}
-use Rattle.ptpm_data.proofs.foreseen.DataSets.changes_of_precedence.Goals as goal
+use Rattle.ptpm_data.proofs.data_sets.DataSets.changes_of_precedence.Goals as goal
 
 pub returns : goal.returns
 returns c =
