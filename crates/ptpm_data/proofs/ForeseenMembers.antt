@@ -4,7 +4,6 @@ use Rattle.std.proofs.lemmas.Bool.{cases_lt}
 use Rattle.std.proofs.lemmas.List.{replicate-append-replicate}
 use Rattle.std.proofs.lemmas.Option.{slice_get_past}
 use Rattle.std.specs.List.{enumerate_from, range_with_len}
-use Rattle.ptpm_data.specs.declared.changed.ChangedMembers.{ChangedMembers}
 use Rattle.ptpm_data.specs.declared.changed.ClockMembers.{ClockMembers}
 use Rattle.ptpm_data.specs.declared.changed.PortMembers.{PortMembers}
 use Rattle.ptpm_data.specs.declared.data_sets.ClockPrecedence.{ClockPrecedence}
