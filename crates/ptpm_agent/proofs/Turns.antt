@@ -6,9 +6,11 @@ use Rattle.ptpm_codec.specs.declared.error.DecodeError.{DecodeError}
 use Rattle.ptpm_codec.specs.declared.identity.ClockIdentity.{ClockIdentity}
 use Rattle.ptpm_codec.specs.declared.message.Message.{Message}
 use Rattle.ptpm_codec.specs.Identity.{every_clock, same_clock}
-use Rattle.ptpm_codec.specs.Message.{action_of}
 use Rattle.ptpm_codec.specs.Reading.{message_of, reading}
-use Rattle.ptpm_data.specs.Changed.{changed, no_members}
+use Rattle.ptpm_data.specs.declared.changed.ChangedMembers.{ChangedMembers}
+use Rattle.ptpm_data.specs.declared.rights.Rights.{Rights}
+use Rattle.ptpm_data.specs.Changed.{changed}
+use Rattle.ptpm_data.specs.Changes.{changed_by}
 use Rattle.ptpm_data.specs.Members.{DataSetsValue, may_forward}
 use Rattle.ptpm_table.specs.declared.reply_table.Look.{Look}
 use Rattle.ptpm_table.specs.declared.reply_table.Look.TheVariants as looks
@@ -24,10 +26,8 @@ use Rattle.ptpm_agent.specs.Turn.{Clock, State, carried_out, is_accepted_repeat,
 use Rattle.ptpm_agent.specs.Once.{is_copy}
 use Rattle.ptpm_agent.specs.Laws.{AreOfManagers}
 use Rattle.ptpm_codec.proofs.MessageLaws.{same_identity-true}
-use Rattle.ptpm_data.proofs.Differing.{nothing_changed}
-use Rattle.ptpm_data.proofs.Keeping.{changed_by-get, changed_by-ports}
+use Rattle.ptpm_data.proofs.Keeping.{changed_by-ports}
 use Rattle.ptpm_agent.proofs.Entries.{get-insert_other}
-use Rattle.ptpm_codec.specs.declared.message.Action.TheVariants as actions
 use Rattle.ptpm_agent.specs.declared.verdict.Verdict.TheVariants as verdicts
 
 -- ---- the message of a datagram
@@ -401,14 +401,14 @@ unnumbered_parts c s v e =
     let p = is_addressed-unnumbered c s v e in
     (port_of_addressed c s.sets v p.0, p.1)
 
--- a GET that is carried out changes no member
-pub got_nothing : (c : Clock) (s t : State) (v : Message)
+-- what a request changes, as it was foreseen
+pub as_foreseen : (c : Clock) (s t : State) (v : Message) (rights : Rights) (m : ChangedMembers)
+    → m ≡ changed s.sets (changed_by (request_of v) rights s.sets)
+    → rights ≡ c.rights v.source
     → t ≡ carried_out c s v
-    → action_of v.body ≡ actions.Get
-    → no_members ≡ changed s.sets t.sets
-got_nothing c s t v is get =
-    let same : t.sets ≡ s.sets = ap (λ (u : State). u.sets) is ∙ changed_by-get (request_of v) (c.rights v.source) s.sets get in
-    subst (λ (d : DataSetsValue). no_members ≡ changed s.sets d) (sym same) (nothing_changed s.sets)
+    → m ≡ changed s.sets t.sets
+as_foreseen c s t v rights m told own is =
+    told ∙ ap (λ (r : Rights). changed s.sets (changed_by (request_of v) r s.sets)) own ∙ ap (λ (u : State). changed s.sets u.sets) (sym is)
 
 -- ---- a call, against the turn
 

@@ -12,6 +12,7 @@ ghost use Rattle.ptpm_data.specs.Changes.{IsTargetPort, changed_by};
 ghost use Rattle.ptpm_data.specs.Members.{HasPort};
 ghost use Rattle.ptpm_data.specs.Observation.{left_disabled, observation_refusal};
 ghost use Rattle.ptpm_data.specs.Refusals.{refusal_of};
+ghost use Rattle.ptpm_data.specs.Replies.{reply_to};
 ghost use Rattle.ptpm_data.specs.Reply.{ReplyValue, answer_of};
 ghost use Rattle.ptpm_data.specs.Rights.{all_rights};
 ghost use Rattle.ptpm_data.specs.Start.{unless};
@@ -30,10 +31,10 @@ ghost use Rattle.ptpm_agent.specs.Turn.{carried_out, is_accepted_repeat, judged,
 
 use crate::agent::Agent;
 use crate::verdict::Verdict;
-use ptpm_codec::{Action, ClockIdentity, ErrorId, Octets, OutOfMemory, PortIdentity, View, view};
+use ptpm_codec::{ClockIdentity, ErrorId, Octets, OutOfMemory, PortIdentity, View, view};
 use ptpm_data::{
-    ChangedMembers, ClockObservation, DataSets, INLINE_PORTS, ObservationError, PORTS, PortAnswer,
-    PortDataSet, PortObservation, PortsLeftDisabled, Reply, Request, Rights, data_sets_law,
+    ChangedMembers, ClockObservation, DataSets, INLINE_PORTS, ObservationError, PortAnswer,
+    PortObservation, PortsLeftDisabled, Reply, Request, Rights, data_sets_law,
 };
 use ptpm_table::{
     Heard, LongOutgoing, Look, Outbox, Outgoing, ReplyTable, Sender, SlotTable, SureTable, render,
@@ -150,6 +151,39 @@ impl<T: ReplyTable + Drop> Agent<T> {
         ensures table { self.new.table ≡ self.old.table }
     {
         self.sets.change(request, Rights::ALL)
+    }
+
+    /// Carries out a request of the clock's owner as `carry_out_here` does, and sends the reply to it. Only the reply is written to
+    /// `out`, which must be empty and take it. Answers which members have another value after it.
+    #[tactic(auto, using(crate::proofs::Alike::port_laws))]
+    pub fn answer_here<O: Outgoing>(
+        &mut self,
+        ingress: u16,
+        message: &View<'_>,
+        out: &mut O,
+    ) -> ChangedMembers
+        requires action { IsRequestAction (request_of message.now).action }
+        requires port { IsTargetPort (request_of message.now).port self.old.sets }
+        requires valid { IsValid message.now }
+        requires empty { O.sent out.old ≡ [] }
+        requires room { length (reply_to (request_of message.now) all_rights self.old.sets).answers
+            ≤ O.most out.old }
+        ensures changed { self.new.sets
+            ≡ changed_by (request_of message.now) all_rights self.old.sets }
+        ensures members { result ≡ changed self.old.sets self.new.sets }
+        ensures sent { O.sent out.new
+            ≡ rendered (T.owner self.old.table).identity (heard_of message.now)
+            (reply_to (request_of message.now) all_rights self.old.sets) ingress }
+        ensures grown { O.grown out.old out.new }
+        ensures table { self.new.table ≡ self.old.table }
+    {
+        let heard = heard_of(message);
+        let request = request_of(message);
+        let members = self.sets.changes_of(&request, Rights::ALL);
+        let mut sender = Sender::new(out);
+        sender.address(&self.table.clock(), &heard, &request, ingress);
+        self.sets.decide_into(&request, Rights::ALL, &mut sender);
+        members
     }
 
     /// Exchanges the data sets for these. What is kept of each manager stays. Takes no memory.
@@ -513,7 +547,7 @@ impl<T: SureTable + Drop> Agent<T> {
     }
 
     /// Does what `handle_into` does, and answers which members have another value after it. Only a manager's new SET or COMMAND may
-    /// change one. So for any other message none is compared, and the data sets are not copied.
+    /// change one. So for any other message none is compared.
     #[inline(always)]
     pub fn change_into<O: LongOutgoing>(
         &mut self,
@@ -614,7 +648,7 @@ impl<T: SureTable + Drop> Agent<T> {
         }
     }
 
-    /// Does what `accept` does, and compares nothing unless its caller `ASKS`.
+    /// Does what `accept` does, and answers which members have another value after it if its caller `ASKS`.
     #[inline(always)]
     fn accept_asked<O: Outgoing, const ASKS: bool>(
         &mut self,
@@ -643,85 +677,22 @@ impl<T: SureTable + Drop> Agent<T> {
         ensures clock { clock_of T.owner self.new ≡ clock_of T.owner self.old }
         ensures most { T.most self.new.table ≡ T.most self.old.table }
     {
-        if ASKS {
-            return self.accept_telling(ingress, message, rights, out);
-        }
+        let members = self.members_asked::<ASKS>(message, rights);
         self.accept(ingress, message, rights, out);
-        ChangedMembers::NONE
+        members
     }
 
-    /// Does what `accept` does, and answers which members have another value after it. A GET changes none.
+    /// Which members a request with these rights would change, if the caller `ASKS`.
     #[inline(always)]
-    fn accept_telling<O: Outgoing>(
-        &mut self,
-        ingress: u16,
-        message: &View<'_>,
-        rights: Rights,
-        out: &mut O,
-    ) -> ChangedMembers
-        requires new { judged
-            (clock_of T.owner self.old) (state_of T.entries self.old) message.now
-            ≡ Verdict.AnsweredNew }
-        requires rights { rights ≡ (clock_of T.owner self.old).rights message.now.source }
-        requires valid { IsValid message.now }
-        requires empty { O.sent out.old ≡ [] }
-        requires room { length (new_reply
-            (clock_of T.owner self.old) (state_of T.entries self.old) message.now).answers
-            ≤ O.most out.old }
-        ensures accepted { state_of T.entries self.new ≡ carried_out
-            (clock_of T.owner self.old) (state_of T.entries self.old) message.now }
-        ensures sent { O.sent out.new
-            ≡ rendered (clock_of T.owner self.old).identity (heard_of message.now)
-            (new_reply (clock_of T.owner self.old) (state_of T.entries self.old) message.now)
-            ingress }
-        ensures members { result ≡ changed self.old.sets self.new.sets }
-        ensures grown { O.grown out.old out.new }
-        ensures clock { clock_of T.owner self.new ≡ clock_of T.owner self.old }
-        ensures most { T.most self.new.table ≡ T.most self.old.table }
+    fn members_asked<const ASKS: bool>(&self, message: &View<'_>, rights: Rights) -> ChangedMembers
+        requires { IsTargetPort (request_of message.now).port self.now.sets }
+        ensures { ASKS ≡ true → result ≡ changed self.now.sets
+            (changed_by (request_of message.now) rights self.now.sets) }
     {
-        match message.action() {
-            Action::Get => {
-                self.accept(ingress, message, rights, out);
-                ChangedMembers::NONE
-            }
-            _ => self.accept_change(ingress, message, rights, out),
+        if ASKS {
+            return self.sets.changes_of(&request_of(message), rights);
         }
-    }
-
-    /// Does what `accept` does, and compares the data sets with a copy of those before. Never inlined: so the stack has that copy for
-    /// a change alone.
-    #[inline(never)]
-    fn accept_change<O: Outgoing>(
-        &mut self,
-        ingress: u16,
-        message: &View<'_>,
-        rights: Rights,
-        out: &mut O,
-    ) -> ChangedMembers
-        requires new { judged
-            (clock_of T.owner self.old) (state_of T.entries self.old) message.now
-            ≡ Verdict.AnsweredNew }
-        requires rights { rights ≡ (clock_of T.owner self.old).rights message.now.source }
-        requires valid { IsValid message.now }
-        requires empty { O.sent out.old ≡ [] }
-        requires room { length (new_reply
-            (clock_of T.owner self.old) (state_of T.entries self.old) message.now).answers
-            ≤ O.most out.old }
-        ensures accepted { state_of T.entries self.new ≡ carried_out
-            (clock_of T.owner self.old) (state_of T.entries self.old) message.now }
-        ensures sent { O.sent out.new
-            ≡ rendered (clock_of T.owner self.old).identity (heard_of message.now)
-            (new_reply (clock_of T.owner self.old) (state_of T.entries self.old) message.now)
-            ingress }
-        ensures members { result ≡ changed self.old.sets self.new.sets }
-        ensures grown { O.grown out.old out.new }
-        ensures clock { clock_of T.owner self.new ≡ clock_of T.owner self.old }
-        ensures most { T.most self.new.table ≡ T.most self.old.table }
-    {
-        let mut room = [PortDataSet::default(); PORTS];
-        let before = self.sets.snapshot(&mut room);
-        self.accept(ingress, message, rights, out);
-        self.sets.changed_since(&before)
+        ChangedMembers::NONE
     }
 
     /// Carries out a new request, keeps it with its reply, and sends the messages of the reply.

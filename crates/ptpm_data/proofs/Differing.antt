@@ -116,7 +116,7 @@ still_small place number digit b small is = grind (arith, common_steps, pow-suc,
 octets_same : (octets : List ℕ) → bytes_eq octets octets ≡ true
 octets_same octets = (bytes_eq-Decides octets octets).1 refl
 
-differ_itself : (v : Option MemberValue) → differ v v ≡ false
+pub differ_itself : (v : Option MemberValue) → differ v v ≡ false
 differ_itself None = refl
 differ_itself (Some v) = grind (arith, octets_same, eq-eqb, Decides-int_eq)
 
@@ -126,14 +126,14 @@ unfolding number_of
 no_digit value [] = refl
 no_digit value (m ∷ ms) = rw (differ_itself (value m), no_digit value ms) refl
 
-no_port_member : (p : Option PortDataSet) → members_changed p p ≡ record { 0 = 0 }
+pub no_port_member : (p : Option PortDataSet) → members_changed p p ≡ record { 0 = 0 }
 no_port_member p = ap (λ n. let m : PortMembers = record { 0 = n } in m) (no_digit (λ m. member_of m p) port_members)
 
-no_clock_member : (d : DataSetsValue) → clock_changed d d ≡ record { 0 = 0 }
+pub no_clock_member : (d : DataSetsValue) → clock_changed d d ≡ record { 0 = 0 }
 no_clock_member d = ap (λ n. let m : ClockMembers = record { 0 = n } in m) (no_digit (λ m. clock_member m d) clock_members)
 
 -- no member
-abbrev untold : PortMembers
+abbrev pub untold : PortMembers
 untold = record { 0 = 0 }
 
 -- of ports that neither has
@@ -166,11 +166,12 @@ one_more_told f place most ports x told below is =
     ∙ ap (λ ps. ps ++ replicate (most - (place + 1)) untold)
     (ap (λ y. before ++ y ∷ []) is ∙ sym (map-range_with_len_more f 1 place (place + 1) (omega arith)))
 
--- the others are those that neither has
-others_told : (f : ℕ → PortMembers) (a n : ℕ) → ((port : ℕ) → a ≤ port → untold ≡ f port)
+-- these are not told
+pub others_told : (f : ℕ → PortMembers) (a n : ℕ) → ((port : ℕ) → a ≤ port → port < a + n → untold ≡ f port)
     → replicate n untold ≡ map f (range_with_len a n)
 others_told f a zero none = refl
-others_told f a (suc n) none = λ i. none a (omega arith) i ∷ others_told f (a + 1) n (λ port past. none port (omega (arith, past))) i
+others_told f a (suc n) none =
+    λ i. none a (omega arith) (omega arith) i ∷ others_told f (a + 1) n (λ port past below. none port (omega (arith, past)) (omega (arith, below))) i
 
 ranges_join : (a m n : ℕ) → range_with_len a m ++ range_with_len (a + m) n ≡ range_with_len a (m + n)
 ranges_join a zero n =
@@ -182,6 +183,18 @@ ranges_join a (suc m) n =
     let total : suc (m + n) ≡ suc m + n = omega arith in
     ap (λ ks. a ∷ ks) (ap (λ k. range_with_len (a + 1) m ++ range_with_len k n) from ∙ ranges_join (a + 1) m n) ∙ ap (range_with_len a) total
 
+pub rest_told : (f : ℕ → PortMembers) (count most : ℕ) (ports : List PortMembers)
+    → ports ≡ map f (range_with_len 1 count) ++ replicate (most - count) untold
+    → count ≤ most
+    → ((port : ℕ) → 1 + count ≤ port → untold ≡ f port)
+    → ports ≡ map f (range_with_len 1 most)
+rest_told f count most ports told within none =
+    let all : count + (most - count) ≡ most = omega arith in
+    told
+    ∙ ap (λ ms. map f (range_with_len 1 count) ++ ms) (others_told f (1 + count) (most - count) (λ port past below. none port past))
+    ∙ sym (map-append f (range_with_len 1 count) (range_with_len (1 + count) (most - count)))
+    ∙ ap (map f) (ranges_join 1 count (most - count) ∙ ap (range_with_len 1) all)
+
 pub all_told : (before after : DataSetsValue) (count most : ℕ) (ports : List PortMembers)
     → ports ≡ map (port_changed before after) (range_with_len 1 count) ++ replicate (most - count) untold
     → length before.ports ≤ count
@@ -189,16 +202,11 @@ pub all_told : (before after : DataSetsValue) (count most : ℕ) (ports : List P
     → count ≤ most
     → ports ≡ map (port_changed before after) (range_with_len 1 most)
 all_told before after count most ports told few few_too within =
-    let f = port_changed before after in
-    let none : (port : ℕ) → 1 + count ≤ port → untold ≡ f port =
-    λ port past. of_neither (port_of port before) (port_of port after)
-    (no_port before.ports port (omega (arith, past, few))) (no_port after.ports port (omega (arith, past, few_too))) in
-    let all : count + (most - count) ≡ most = omega arith in
-    told ∙ ap (λ ms. map f (range_with_len 1 count) ++ ms) (others_told f (1 + count) (most - count) none)
-    ∙ sym (map-append f (range_with_len 1 count) (range_with_len (1 + count) (most - count)))
-    ∙ ap (map f) (ranges_join 1 count (most - count) ∙ ap (range_with_len 1) all)
+    rest_told (port_changed before after) count most ports told within
+    (λ port past. of_neither (port_of port before) (port_of port after)
+    (no_port before.ports port (omega (arith, past, few))) (no_port after.ports port (omega (arith, past, few_too))))
 
-no_ports : (d : DataSetsValue) (a n : ℕ) → replicate n untold ≡ map (port_changed d d) (range_with_len a n)
+pub no_ports : (d : DataSetsValue) (a n : ℕ) → replicate n untold ≡ map (port_changed d d) (range_with_len a n)
 no_ports d a zero = refl
 no_ports d a (suc n) = λ i. sym (no_port_member (port_of a d)) i ∷ no_ports d (a + 1) n i
 

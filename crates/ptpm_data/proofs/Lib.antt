@@ -10,6 +10,7 @@ pub mod OwnOctets
 pub mod PlainMap
 pub mod Observed
 pub mod Differing
+pub mod ForeseenMembers
 pub mod Consistency
 pub mod OneImage
 pub mod ObservingBack

@@ -158,7 +158,7 @@ impl ChangedMembers {
 }
 
 /// The number of these binary digits, the lowest first.
-fn number_of(digits: &[bool]) -> u32
+pub(crate) fn number_of(digits: &[bool]) -> u32
     requires { length digits.now ≤ 32 }
     ensures exact { result ≡ number_of digits.now }
     ensures few { result < 2 ^ length digits.now }
@@ -180,14 +180,14 @@ fn greater(a: u16, b: u16) -> u16
 }
 
 /// Whether two values differ.
-fn differ<T: PartialEq>(before: &T, after: &T) -> bool
+pub(crate) fn differ<T: PartialEq>(before: &T, after: &T) -> bool
     ensures { result ≡ not (T.eq before.now after.now) }
 {
     before != after
 }
 
 /// Whether two texts differ.
-fn texts_differ(before: &[u8], after: &[u8]) -> bool
+pub(crate) fn texts_differ(before: &[u8], after: &[u8]) -> bool
     ensures { result ≡ not (bytes_eq before.now after.now) }
 {
     before != after
@@ -215,7 +215,7 @@ impl PortDataSet {
     ghost use Rattle.ptpm_data.specs.Changed.{members_changed};
 
     /// The members of the port whose values were others before.
-    fn changed_since(&self, before: &PortDataSet) -> PortMembers
+    pub(crate) fn changed_since(&self, before: &PortDataSet) -> PortMembers
         ensures { result ≡ members_changed (Some before.now) (Some self.now) }
     {
         let settings = &self.settings;

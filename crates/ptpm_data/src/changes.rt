@@ -121,7 +121,7 @@ impl DataSets {
     }
 }
 
-fn set_utc_properties(time: &mut TimePropertiesDataSet, octets: &[u8])
+pub(crate) fn set_utc_properties(time: &mut TimePropertiesDataSet, octets: &[u8])
     requires { length octets.now ≡ 4 }
     ensures { time.new ≡ with_utc_properties time.old octets.now }
 {

@@ -10,6 +10,7 @@ mod data_field;
 mod data_sets;
 mod deciding;
 mod description;
+mod foreseen;
 mod image;
 mod image_laws;
 mod image_places;

@@ -9,7 +9,7 @@ use crate::clock::HostedClock;
 use crate::refusal::ChangeRefusal;
 use crate::session::asked_action;
 use ptpm_codec::{Action, PortIdentity, is_data_field, view};
-use ptpm_data::{ChangedMembers, DataSets, PORTS, PortDataSet, Request};
+use ptpm_data::{ChangedMembers, DataSets, Request, Rights};
 use ptpm_device::{change_here, is_change};
 
 /// The managementId of the clock's domainNumber (15.5.2.3).
@@ -56,10 +56,9 @@ impl HostedClock {
         if self.under_way.is_some() && moves_domain(&request) {
             return Err(ChangeRefusal::UnderWay);
         }
-        let mut room = [PortDataSet::default(); PORTS];
-        let before = self.agent.sets().snapshot(&mut room);
+        let members = self.agent.sets().changes_of(&request, Rights::ALL);
         match change_here(&mut self.agent, &request) {
-            Ok(()) => Ok(self.agent.sets().changed_since(&before)),
+            Ok(()) => Ok(members),
             Err(error) => Err(ChangeRefusal::Refused(error)),
         }
     }

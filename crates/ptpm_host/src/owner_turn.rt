@@ -1,6 +1,6 @@
 //! What the device's owner sends, at a clock as a host keeps it.
 
-ghost use Rattle.std.specs.Prelude.{◌≡◌, ◌≤◌, ◌==◌, ◌&&◌, [], All, drop, length, take};
+ghost use Rattle.std.specs.Prelude.{◌≡◌, ◌≤◌, ◌==◌, ◌&&◌, All, drop, length, take};
 ghost use Rattle.std.specs.List.{AllZip};
 ghost use Rattle.ptpm_codec.specs.Identity.{same_clock};
 ghost use Rattle.ptpm_codec.specs.Message.{IsRequestAction, IsValid};
@@ -23,9 +23,9 @@ use crate::sent::Sent;
 use crate::taken::Taken;
 use ptpm_agent::Verdict;
 use ptpm_codec::{ClockIdentity, PortIdentity, View, view};
-use ptpm_data::{ChangedMembers, DataSets, PORTS, PortDataSet, Request, Rights};
+use ptpm_data::ChangedMembers;
 use ptpm_device::is_change;
-use ptpm_table::{Heard, Outgoing, ReplyTable, Sender};
+use ptpm_table::{Outgoing, ReplyTable};
 
 impl HostedClock {
     /// One turn for a datagram of the device's owner, at a port that the clock has, with places enough for whatever it sends. It is
@@ -99,9 +99,8 @@ impl HostedClock {
             && (target.port == PortIdentity::EVERY_PORT || self.agent.sets().has_port(target.port))
     }
 
-    /// Carries out a request of the owner for this clock, and answers it. The table stays. Never inlined: so the stack has other data
-    /// sets for such a request alone.
-    #[inline(never)]
+    /// Carries out a request of the owner for this clock, and answers it. The table stays.
+    #[tactic(auto, using(crate::specs::OutboxLaws::kept_by_none))]
     fn carry_out_owned(&mut self, port: u16, message: &View<'_>, room: &mut [Sent]) -> Taken
         requires action { IsRequestAction (request_of message.now).action }
         requires port { IsTargetPort (request_of message.now).port self.old.agent.sets }
@@ -124,103 +123,17 @@ impl HostedClock {
         ensures waiting { result.waiting ≡ 0 }
         ensures under_way { self.new.under_way ≡ self.old.under_way }
     {
-        self.sent_law();
-        let me = self.agent.table().clock();
-        let mut sets = DataSets::blank();
-        self.agent.swap_sets(&mut sets);
-        let (count, changed) = answer_owned(&me, &mut sets, port, message, room);
-        self.agent.swap_sets(&mut sets);
+        let mut outbox = Outbox::new(room);
+        let changed = self.agent.answer_here(port, message, &mut outbox);
         Taken {
             verdict: if is_change(message.action()) {
                 Verdict::AnsweredNew
             } else {
                 Verdict::AnsweredUnnumbered
             },
-            count,
+            count: outbox.count(),
             waiting: 0,
             changed,
         }
-    }
-}
-
-/// Carries out a request of the owner in these data sets of this clock. The reply to it is written into the first places of `room`.
-/// Answers how many of them have a message, and which members have another value now. Never inlined: so the stack has its copy of
-/// the data sets only while it runs.
-#[inline(never)]
-#[tactic(auto, using(crate::specs::OutboxLaws::kept_by_none))]
-fn answer_owned(
-    me: &ClockIdentity,
-    sets: &mut DataSets,
-    port: u16,
-    message: &View<'_>,
-    room: &mut [Sent],
-) -> (usize, ChangedMembers)
-    requires action { IsRequestAction (request_of message.now).action }
-    requires port { IsTargetPort (request_of message.now).port sets.old }
-    requires valid { IsValid message.now }
-    requires room { length (reply_to (request_of message.now) all_rights sets.old).answers ≤ length room.old }
-    ensures changed { sets.new ≡ changed_by (request_of message.now) all_rights sets.old }
-    ensures members { result.1 ≡ changed sets.old sets.new }
-    ensures sent { messages_in (take result.0 room.new)
-        ≡ rendered me.now (heard_of message.now) (reply_to (request_of message.now) all_rights sets.old) port }
-    ensures count { result.0 ≤ length room.new }
-    ensures whole { All IsWhole (take result.0 room.new) }
-    ensures places { drop result.0 room.new ≡ drop result.0 room.old }
-    ensures behind { AllZip KeepsBehind room.old room.new }
-{
-    let mut ports = [PortDataSet::default(); PORTS];
-    let before = sets.snapshot(&mut ports);
-    let mut outbox = Outbox::new(room);
-    decide_owned(me, sets, port, message, &mut outbox);
-    (outbox.count(), sets.changed_since(&before))
-}
-
-/// Carries out a request of the owner in these data sets of this clock, and sends the reply to it.
-fn decide_owned<O: Outgoing>(
-    me: &ClockIdentity,
-    sets: &mut DataSets,
-    port: u16,
-    message: &View<'_>,
-    out: &mut O,
-)
-    requires action { IsRequestAction (request_of message.now).action }
-    requires port { IsTargetPort (request_of message.now).port sets.old }
-    requires valid { IsValid message.now }
-    requires empty { O.sent out.old ≡ [] }
-    requires room { length (reply_to (request_of message.now) all_rights sets.old).answers ≤ O.most out.old }
-    ensures changed { sets.new ≡ changed_by (request_of message.now) all_rights sets.old }
-    ensures sent { O.sent out.new
-        ≡ rendered me.now (heard_of message.now) (reply_to (request_of message.now) all_rights sets.old) port }
-    ensures grown { O.grown out.old out.new }
-{
-    let heard = heard_of(message);
-    let request = request_of(message);
-    let mut sender = Sender::new(out);
-    sender.address(me, &heard, &request, port);
-    sets.decide_into(&request, Rights::ALL, &mut sender);
-}
-
-/// What a request asks.
-fn request_of<'a>(message: &View<'a>) -> Request<'a>
-    ensures { result ≡ request_of message.now }
-{
-    Request {
-        action: message.action(),
-        id: message.id(),
-        port: message.target().port,
-        octets: message.octets(),
-    }
-}
-
-/// What a reply takes from the copy that it answers.
-fn heard_of(message: &View<'_>) -> Heard
-    ensures { result ≡ heard_of message.now }
-{
-    Heard {
-        domain: message.domain(),
-        source: message.source(),
-        number: message.number(),
-        starting_hops: message.starting_hops(),
-        hops: message.hops(),
     }
 }
