@@ -62,6 +62,7 @@ pub use port_setting::{PortSetting, SettingRange};
 pub use port_settings::PortSettings;
 pub use port_state::{DelayMechanism, PortState};
 pub use ports::{INLINE_PORTS, PORTS};
+pub use refusals::{permits, unpermitted};
 pub use reply::{PortAnswer, Reply, Value, What};
 pub use request::Request;
 pub use restoring::image_end;

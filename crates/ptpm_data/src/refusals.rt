@@ -39,7 +39,8 @@ pub(crate) fn refusal(
     }
 }
 
-fn permits(actions: Actions, action: Action) -> bool
+/// Whether an id with these actions permits this one.
+pub fn permits(actions: Actions, action: Action) -> bool
     ensures { result ≡ has_action action actions.0 }
 {
     match action {
@@ -50,7 +51,8 @@ fn permits(actions: Actions, action: Action) -> bool
     }
 }
 
-fn unpermitted(action: Action) -> ErrorId
+/// The error of an action that an id does not permit.
+pub fn unpermitted(action: Action) -> ErrorId
     ensures { result ≡ unpermitted action }
 {
     match action {

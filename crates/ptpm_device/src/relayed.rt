@@ -2,13 +2,12 @@
 
 ghost use Rattle.std.specs.Prelude.{◌≡◌, ◌==◌, ◌&&◌, find, is_none, length};
 ghost use Rattle.std.specs.Option.{option_copied};
-ghost use Rattle.ptpm_data.specs.ManagementId.{has_action, row_of};
-ghost use Rattle.ptpm_data.specs.Refusals.{unpermitted};
+ghost use Rattle.ptpm_data.specs.ManagementId.{row_of};
 ghost use Rattle.ptpm_device.specs.Relayed.{is_change, is_relayed_length, refusal_in, relayed, relayed_refusal};
 
 use bitflags::Flags;
 use ptpm_codec::{Action, ErrorId, PortIdentity};
-use ptpm_data::{Actions, Request, Rights, Scope, refusal_of, row};
+use ptpm_data::{Actions, Request, Rights, Scope, permits, refusal_of, row, unpermitted};
 
 /// The most octets of a dataField that the clock keeps as its answer to a manager.
 pub(crate) const MOST_KEPT: usize = 130;
@@ -100,26 +99,6 @@ pub(crate) fn relayed_refusal(
         Some(ErrorId::ResponseTooBig)
     } else {
         None
-    }
-}
-
-fn permits(actions: Actions, action: Action) -> bool
-    ensures { result ≡ has_action action actions.0 }
-{
-    match action {
-        Action::Get => actions.contains(Actions::GET),
-        Action::Set => actions.contains(Actions::SET),
-        Action::Command => actions.contains(Actions::COMMAND),
-        Action::Response | Action::Acknowledge => false,
-    }
-}
-
-fn unpermitted(action: Action) -> ErrorId
-    ensures { result ≡ unpermitted action }
-{
-    match action {
-        Action::Set => ErrorId::NotSetable,
-        _ => ErrorId::NotSupported,
     }
 }
 
