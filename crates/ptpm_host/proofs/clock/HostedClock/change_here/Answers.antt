@@ -4,11 +4,10 @@ use Rattle.ptpm_data.specs.Changes.{changed_by}
 use Rattle.ptpm_data.specs.Members.{DataSetsValue}
 use Rattle.ptpm_data.specs.Rights.{all_rights}
 use Rattle.ptpm_agent.specs.Turn.{State}
-use Rattle.ptpm_host.specs.Changing.{request_here}
 use Rattle.ptpm_host.proofs.clock.HostedClock.change_here.Goals as goal
 
 pub returns-in-Ok-clause-members : goal.returns-in-Ok-clause-members
 returns-in-Ok-clause-members c =
-    let before : c.sets-members.result.now ≡ c.args.self.now.agent.sets = first_of (search rules, cc) in
-    c.changes_of-members.ensures ∙ (λ i. changed (before i) (changed_by (request_here c.args.action c.args.id c.args.port c.args.octets.now) all_rights (before i)))
+    let before : c.sets-2.result.now ≡ c.args.self.now.agent.sets = first_of (search rules, cc) in
+    c.changes_of-members.ensures ∙ (λ i. changed (before i) (changed_by c.else-is_some.request all_rights (before i)))
     ∙ ap (λ (d : DataSetsValue). changed c.args.self.now.agent.sets d) (sym (ap (λ (s : State). s.sets) c.change_here.ensures.changed))
