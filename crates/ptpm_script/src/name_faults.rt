@@ -99,13 +99,14 @@ impl<'a> Faults<'a> {
 fn ports_of(clock: &ClockHead<'_>) -> Option<u16>
     ensures { result ≡ ports_of (clock_value clock.now) }
 {
-    clock
-        .count
-        .filter(|count| 1 <= *count && *count <= CLOCK_PORTS)
+    match clock.count {
+        Some(count) if 1 <= count && count <= CLOCK_PORTS => Some(count),
+        _ => None,
+    }
 }
 
 /// What a port's number may be, if it is none of a clock with this many ports.
-fn other_port(number: Option<u16>, count: u16) -> Option<Wanted<'static>>
+fn other_port<'a>(number: Option<u16>, count: u16) -> Option<Wanted<'a>>
     ensures { is_some result ≡ passes (is_past count) number }
 {
     match number {

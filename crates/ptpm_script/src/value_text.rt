@@ -20,11 +20,12 @@ impl fmt::Display for Quoted<'_> {
                 break;
             }
             shown += 1;
-            if character.is_control() {
-                f.write_str("?")?;
+            let printed = if character.is_control() {
+                '?'
             } else {
-                write!(f, "{character}")?;
-            }
+                character
+            };
+            write!(f, "{printed}")?;
         }
         f.write_str("\"")
     }
