@@ -82,14 +82,22 @@ asks_steps choices.KeepGoing = true
 asks_steps choices.GiveUp = false
 asks_steps choices.Settle = false
 
+-- it was refused, or answered by another value
+abbrev pub HasFailed : RolloutValue → ℕ → Type 0
+HasFailed o step = (slice_get o.journal.marks step ≡ Some marks.Refused) ⊎ (slice_get o.journal.marks step ≡ Some marks.Answered)
+
+-- no step before it was
+abbrev pub IsFirstFailed : RolloutValue → ℕ → Type 0
+IsFirstFailed o step = (earlier : ℕ) → earlier < step → HasFailed o earlier → ⊥
+
 -- Why a run ends a change of itself. Of the first step that was refused, or answered by another value, that is the end, unless it keeps
 -- going. Then another program's change is the end only once all steps are done.
 abbrev pub EndsBy : RolloutValue → Ending → Option ℕ → Type 0
 EndsBy o endings.Complete step = length o.steps ≡ 0
 EndsBy o endings.Refused None = ⊥
-EndsBy o endings.Refused (Some step) = (o.choice ≡ choices.Stop) × (slice_get o.journal.marks step ≡ Some marks.Refused)
+EndsBy o endings.Refused (Some step) = (o.choice ≡ choices.Stop) × (slice_get o.journal.marks step ≡ Some marks.Refused) × IsFirstFailed o step
 EndsBy o endings.Answered None = ⊥
-EndsBy o endings.Answered (Some step) = (o.choice ≡ choices.Stop) × (slice_get o.journal.marks step ≡ Some marks.Answered)
+EndsBy o endings.Answered (Some step) = (o.choice ≡ choices.Stop) × (slice_get o.journal.marks step ≡ Some marks.Answered) × IsFirstFailed o step
 EndsBy o endings.Changed step = (step ≡ None) × (o.is_changed ≡ true) × (asks_steps o.choice ≡ true)
     × (o.choice ≡ choices.KeepGoing → AreDone o.journal)
 EndsBy o endings.GivenUp step = (o.choice ≡ choices.GiveUp) × FirstLetGo o.journal.marks (length o.steps) step
@@ -132,10 +140,6 @@ IsUntouched o lane = BegunIn o lane None × LatestTold o lane None
 abbrev pub HasNoneLeft : RolloutValue → Type 0
 HasNoneLeft o = (lane : ℕ) → o.seen ≤ lane → lane < length o.lanes → IsUntouched o lane
 
--- it was refused, or answered by another value
-abbrev pub HasFailed : RolloutValue → ℕ → Type 0
-HasFailed o step = (slice_get o.journal.marks step ≡ Some marks.Refused) ⊎ (slice_get o.journal.marks step ≡ Some marks.Answered)
-
 -- no step failed, and no other program's request has changed a clock
 pub record IsFaultless (o : RolloutValue) : Type 0 where
   pub unchanged : o.is_changed ≡ false
@@ -150,7 +154,7 @@ MayGoOn o = o.choice ≡ choices.Stop → IsFaultless o
 pub data Going (time : ℕ) (o v : RolloutValue) : Type 0 where
   Looks : (lane : ℕ) → v ≡ at o (stages.Looking lane) → o.seen ≤ lane → lane < length o.lanes
       → (o.choice ≢ choices.Settle → lane ≡ o.seen) → ((earlier : ℕ) → o.seen ≤ earlier → earlier < lane → IsUntouched o earlier)
-      → Going time o v
+      → (o.choice ≡ choices.Settle → IsUntouched o lane → ⊥) → Going time o v
   Checks : (step : ℕ) → v ≡ at o (stages.Checking step) → AreSeen o → IsNext o step → IsElsewhere o step → MayGoOn o
       → asks_steps o.choice ≡ true → IsFirst o step → MayPass o → Going time o v
   Reads : (step : ℕ) → v ≡ at o (stages.Reading step) → AreSeen o → IsNext o step → (IsElsewhere o step → ⊥)

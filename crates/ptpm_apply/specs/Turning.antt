@@ -370,10 +370,16 @@ abbrev pub heard_value : Bool → Heard
 heard_value true = hears.Wanted
 heard_value false = hears.Other
 
+-- the value of a step's member is waited for, and compared with one of the plan
+abbrev pub compares : Stage → Bool
+compares (stages.Settling step domain) = true
+compares (stages.Answering step) = true
+compares s = awaits_value s
+
 -- a value comes, which is compared
-abbrev pub has_value : Event → Bool
-has_value (events.Value octets) = true
-has_value _ = false
+abbrev pub has_value : Stage → Event → Bool
+has_value s (events.Value octets) = compares s
+has_value s _ = false
 
 -- what an event makes of it
 abbrev pub Turned : ℕ → RolloutValue → Event → RolloutValue → Type 0

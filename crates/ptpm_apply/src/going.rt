@@ -104,6 +104,7 @@ impl Rollout {
         ensures later { IfSome result (λ lane. (self.now.seen ≤ lane) × (lane < length self.now.lanes)) }
         ensures next { IfSome result (λ lane. self.now.choice ≢ Choice.Settle → lane ≡ self.now.seen) }
         ensures passed { IfSome result (λ lane. (earlier : ℕ) → self.now.seen ≤ earlier → earlier < lane → IsUntouched self.now earlier) }
+        ensures touched { IfSome result (λ lane. self.now.choice ≡ Choice.Settle → IsUntouched self.now lane → ⊥) }
         ensures none { IfNone result (self.now.choice ≢ Choice.Settle → AreSeen self.now) }
         ensures left { IfNone result (HasNoneLeft self.now) }
     {
@@ -118,7 +119,8 @@ impl Rollout {
     /// Whether a step of it is begun, or has an answer.
     #[tactic(auto, unfolding(crate::specs::Going::IsUntouched))]
     fn is_touched(&self, lane: u16) -> bool
-        ensures { result ≡ false → IsUntouched self.now lane }
+        ensures untouched { result ≡ false → IsUntouched self.now lane }
+        ensures touched { result ≡ true → IsUntouched self.now lane → ⊥ }
     {
         self.begun_in(lane).is_some() || self.latest_told(lane).is_some()
     }

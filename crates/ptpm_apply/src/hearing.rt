@@ -22,7 +22,7 @@ impl Rollout {
     /// Whether a value is the one that is looked for.
     pub(crate) fn is_wanted(&self, event: &Event<'_>) -> Result<bool, AllocError>
         ensures wanted { IfOk result (λ b. b ≡ is_wanted self.now event.now) }
-        ensures memory { OnErr result (has_value event.now ≡ true) }
+        ensures memory { OnErr result (has_value self.now.stage event.now ≡ true) }
     {
         let Event::Value { octets } = event else {
             return Ok(false);

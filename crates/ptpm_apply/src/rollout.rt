@@ -56,7 +56,7 @@ impl Rollout {
         ensures turned { IfOk result (λ a. Turned time self.old event.entry self.new) }
         ensures action { IfOk result (λ a. a ≡ action_of self.new self.new.stage) }
         ensures out_of_turn { result ≡ Err TurnError.OutOfTurn ↔ (answers self.old.stage event.entry ≡ false) }
-        ensures memory { result ≡ Err TurnError.OutOfMemory → has_value event.entry ≡ true }
+        ensures memory { result ≡ Err TurnError.OutOfMemory → has_value self.old.stage event.entry ≡ true }
         ensures unchanged { OnErr result (self.new ≡ self.old) }
         ensures moves { OnOk result (IsMove self.old event.entry self.new) }
     {

@@ -85,7 +85,7 @@ pub extern "C" fn ptpm_rollout_turn(
         → event_of event.now octets.entry ≡ Some e
         → result ≡ out_of_turn ↔ (answers r.stage e ≡ false) }
     ensures memory { (r : RolloutValue) (e : Event) → rollout_held handle.old.keeping ≡ Some r
-        → event_of event.now octets.entry ≡ Some e → result ≡ no_memory → has_value e ≡ true }
+        → event_of event.now octets.entry ≡ Some e → result ≡ no_memory → has_value r.stage e ≡ true }
     ensures no_event { (r : RolloutValue) → rollout_held handle.old.keeping ≡ Some r
         → event_of event.now octets.entry ≡ None → result ≡ out_of_turn }
     ensures unchanged { (r : RolloutValue) → rollout_held handle.old.keeping ≡ Some r → result ≢ 0

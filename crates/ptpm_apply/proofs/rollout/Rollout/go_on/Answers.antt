@@ -7,7 +7,7 @@ use Rattle.ptpm_apply.proofs.rollout.Rollout.go_on.Goals as goal
 
 pub returns-in-Some : goal.returns-in-Some
 returns-in-Some c =
-    let next = c.in-Some.ensures {u = tt} in Looks c.in-Some.lane (search rules) next.later.0 next.later.1 next.next next.passed
+    let next = c.in-Some.ensures {u = tt} in Looks c.in-Some.lane (search rules) next.later.0 next.later.1 next.next next.passed next.touched
 
 pub returns-in-GiveUp : goal.returns-in-GiveUp
 returns-in-GiveUp c =

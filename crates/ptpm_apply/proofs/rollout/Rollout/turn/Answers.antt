@@ -77,7 +77,7 @@ read_all o x e endings.Stopped step like h = tt
 read_all o x e endings.InPart step like h = tt
 
 going_moves : (o x v : RolloutValue) (e : Event) (time : ℕ) → IsAlike o x → Going time x v → IsMove o e v
-going_moves o x v e time like (Looks lane h a b c d) = moved o x v e (stages.Looking lane) h like.journal
+going_moves o x v e time like (Looks lane h a b c d f) = moved o x v e (stages.Looking lane) h like.journal
 going_moves o x v e time like (Checks step h a b c d f g i) = moved o x v e (stages.Checking step) h like.journal
 going_moves o x v e time like (Reads step h a b c d f g i) = moved o x v e (stages.Reading step) h like.journal
 going_moves o x v e time like (Leaves lane h a b c d) = subst (λ (y : RolloutValue). IsMove o e y) (sym h) like.journal
