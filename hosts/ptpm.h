@@ -196,8 +196,8 @@ struct ptpm_observed_clock {
     uint8_t has_time_source;
 };
 
-/* What a host observes of a port. Only a manager's command enters or leaves state 3, DISABLED. Observing that state at an
-   enabled port is refused. A disabled port stays disabled, whatever is observed. A number that is not a portState counts as 3. */
+/* What a host observes of a port. Only a manager's command enters or leaves state 3, DISABLED. Observing that state at an enabled
+   port is refused. A disabled port stays disabled, whatever is observed. A number that is not a portState counts as 3. */
 struct ptpm_observed_port {
     PTPM_AT_EIGHT int64_t peer_delay;   /* in nanoseconds times 2^16 */
     uint8_t state;                      /* portState, PTPM_STATE_INITIALIZING to PTPM_STATE_SLAVE */
@@ -1242,9 +1242,9 @@ enum ptpm_saved ptpm_clock_image(const struct ptpm_clock *clock, uint8_t *octets
 
 /* Writes the copies that a boundary clock forwards of a management message that this library does not read. Such a message is
    refused only for its actionField, its TLV or its displayData: PTPM_BAD_ACTION to PTPM_BAD_TEXT. The rules are those of any other
-   message. It needs sdoId 0, the clock's domain and a hop left, and must not be for exactly this clock. It passes only between ports
-   that may forward. Each copy has octet 45, boundaryHops, decremented. Every other octet is as it came. Nothing is answered, and
-   nothing changes. A host that wants such messages to pass calls ptpm_clock_transit after ptpm_clock_take.
+   message. The message needs sdoId 0, the clock's domain and a hop left, and must not be for exactly this clock. It passes only
+   between ports that may forward. Each copy has octet 45, boundaryHops, decremented. Every other octet is as it came. Nothing is
+   answered, and nothing changes. A host that wants such messages to pass calls ptpm_clock_transit after ptpm_clock_take.
    Takes:   the port it came in at, and the datagram, of size octets; and room places, as many as the clock has ports, or more.
    Returns: how many copies there are: 0 for any other datagram, without a clock, for a port that it lacks, and for fewer places.
    Writes:  that many places of sent, each with its port. */
@@ -1252,10 +1252,10 @@ size_t ptpm_clock_transit(const struct ptpm_clock *clock, uint16_t port, const u
                           size_t room);
 
 /* Has a clock show no change before it is saved. Without this call, a host has to see to that itself, for each message that it
-   sends. A clock that saves takes datagrams by ptpm_clock_take, also during a save. What a manager or the owner asks of this clock,
-   and not of every clock, is carried out at once. If the request changed the clock, or something was unsaved before, the messages
-   that it makes wait in the clock. So do those for a repeat, and for all else that the same manager sends. Anyone else is answered
-   at once, by what was saved last and observed since.
+   sends. A clock that saves takes datagrams by ptpm_clock_take, also during a save. What a manager or the owner asks of this
+   clock, and not of every clock, is carried out at once. If the request changed the clock, or something was unsaved before, the
+   messages that it makes wait in the clock. The messages for a repeat wait too, and those for all else that the same manager
+   sends. Anyone else is answered at once, by what was saved last and observed since.
    A save is: ptpm_clock_image_of, the image stored, and ptpm_clock_saved. Then ptpm_clock_next gives the messages that waited when
    the image was made. Later messages wait for the next image, unless all that came in since changed nothing. After a failed save,
    nothing has to be undone: the next image has all that the lost one had.
@@ -1433,7 +1433,7 @@ uint64_t ptpm_session_issued(const struct ptpm_session *session);
 enum ptpm_reported ptpm_session_report(const struct ptpm_session *session, uint8_t *octets, size_t room, size_t *size,
                                        uint16_t *error);
 
-/* Ends what the handle holds, if it holds anything. The handle then holds nothing, and may be started again. NULL as for
+/* Ends what the handle holds, if it holds anything. The handle then holds nothing, and may be started again. For NULL see
    ptpm_clock_stop. */
 void ptpm_session_stop(struct ptpm_session *session);
 
@@ -1505,7 +1505,7 @@ size_t ptpm_survey_count(const struct ptpm_survey *survey);
 enum ptpm_reported ptpm_survey_answer(const struct ptpm_survey *survey, size_t place, struct ptpm_source *source, uint8_t *octets,
                                       size_t room, size_t *size, uint16_t *error);
 
-/* Ends what the handle holds, if it holds anything. The handle then holds nothing, and may be started again. NULL as for
+/* Ends what the handle holds, if it holds anything. The handle then holds nothing, and may be started again. For NULL see
    ptpm_clock_stop. */
 void ptpm_survey_stop(struct ptpm_survey *survey);
 
@@ -1544,7 +1544,7 @@ static inline enum ptpm_started ptpm_asker_start_sized(struct ptpm_asker *handle
 enum ptpm_asker_restored ptpm_asker_restore(struct ptpm_asker *asker, const struct ptpm_asker_settings *settings,
                                             const uint8_t drawn[26], const uint8_t *image, size_t size);
 
-/* Asks a request.
+/* Begins a request to the clock.
    Takes:   the time, and a number by which the host names the request. Then PTPM_GET, PTPM_SET or PTPM_COMMAND, the id, and a
             port of the managed clock, or 0. Then the dataField, of size octets, and the domain. If a port is given, the request
             names it, for an id of the clock too.
@@ -1568,7 +1568,7 @@ enum ptpm_asked ptpm_asker_settle(struct ptpm_asker *asker, uint64_t now, uint64
    Caller:  notes that it gives the request up, before it saves. */
 enum ptpm_asked ptpm_asker_let_go(struct ptpm_asker *asker, struct ptpm_handed *handed);
 
-/* Hands in a datagram that came in. A host hands in what has come before it wakes the asker.
+/* Hands in a datagram that came in. Before a host wakes the asker, it hands in all datagrams that have come.
    Takes:   size octets.
    Returns: PTPM_ASKED; or PTPM_NO_MEMORY, and then nothing changes.
    Writes:  all of *handed: PTPM_NOTHING if the datagram answers nothing.
@@ -1627,7 +1627,7 @@ uint32_t ptpm_asker_earlier(const struct ptpm_asker *asker, uint8_t domain, uint
             *error: the managementErrorId after PTPM_REFUSED, and 0 after every other answer. */
 enum ptpm_reported ptpm_asker_report(const struct ptpm_asker *asker, uint8_t *octets, size_t room, size_t *size, uint16_t *error);
 
-/* Ends what the handle holds, if it holds anything. The handle then holds nothing, and may be started again. NULL as for
+/* Ends what the handle holds, if it holds anything. The handle then holds nothing, and may be started again. For NULL see
    ptpm_clock_stop. */
 void ptpm_asker_stop(struct ptpm_asker *asker);
 
@@ -1668,7 +1668,7 @@ enum ptpm_journaled ptpm_journal_next(struct ptpm_journal *journal, const uint8_
 /* Returns: what the journal says of a step, one of PTPM_MARK_UNTOUCHED to PTPM_MARK_NONE. */
 uint32_t ptpm_journal_mark(const struct ptpm_journal *journal, uint16_t step);
 
-/* Ends what the handle holds, if it holds anything. The handle then holds nothing, and may be started again. NULL as for
+/* Ends what the handle holds, if it holds anything. The handle then holds nothing, and may be started again. For NULL see
    ptpm_clock_stop. */
 void ptpm_journal_stop(struct ptpm_journal *journal);
 
@@ -1701,7 +1701,7 @@ enum ptpm_rolled ptpm_rollout_turn(struct ptpm_rollout *rollout, const struct pt
    Writes:  *size, and as many octets from octets on. *size is 0 if it is refused, and no octet is written. */
 enum ptpm_rolled ptpm_rollout_record(const struct ptpm_rollout *rollout, uint8_t *octets, size_t room, size_t *size);
 
-/* Ends what the handle holds, if it holds anything. The handle then holds nothing, and may be started again. NULL as for
+/* Ends what the handle holds, if it holds anything. The handle then holds nothing, and may be started again. For NULL see
    ptpm_clock_stop. */
 void ptpm_rollout_stop(struct ptpm_rollout *rollout);
 
