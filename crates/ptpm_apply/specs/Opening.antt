@@ -1,5 +1,5 @@
 -- A change begins, or goes on, with the journal of a file.
-use Rattle.std.specs.Prelude.{◌≡◌, ◌+◌, nat_lt, ℕ, false, true, List, [], ◌∷◌, ◌++◌, drop, length, slice_set, take, Option, None, Some, if◌then◌else◌}
+use Rattle.std.specs.Prelude.{◌≡◌, ◌+◌, ◌⊎◌, nat_lt, ℕ, false, true, List, [], ◌∷◌, ◌++◌, drop, length, slice_set, take, Option, None, Some, if◌then◌else◌}
 use Rattle.ptpm_journal.specs.declared.error.NextError.{NextError}
 use Rattle.ptpm_journal.specs.declared.error.NextError.TheVariants as nexts
 use Rattle.ptpm_journal.specs.declared.reading.Found.{Found}
@@ -9,8 +9,8 @@ use Rattle.ptpm_journal.specs.declared.record.Note.TheVariants as notes
 use Rattle.ptpm_journal.specs.declared.record.Record.{Record}
 use Rattle.ptpm_journal.specs.declared.record.Record.TheVariants as records
 use Rattle.ptpm_journal.specs.declared.record.Step.{Step}
-use Rattle.ptpm_journal.specs.Journal.{State}
-use Rattle.ptpm_journal.specs.Turns.{IsRead, IsStuck}
+use Rattle.ptpm_journal.specs.Journal.{State, goes_on}
+use Rattle.ptpm_journal.specs.Turns.{IsAtEnd, IsAtStep, IsRead, IsStuck}
 use Rattle.ptpm_apply.specs.declared.choice.Choice.{Choice}
 use Rattle.ptpm_apply.specs.declared.choice.Choice.TheVariants as choices
 use Rattle.ptpm_apply.specs.declared.choice.OpenError.{OpenError}
@@ -89,11 +89,21 @@ pub record HasEnd (octets : List ℕ) : Type 0 where
   pub are_read : AreRead octets place journal crc steps numbers
   pub is_ended : journal.is_ended ≡ true
 
+-- records were read up to a step, or all of them, and the change goes on
+pub record MayLackMemory (octets : List ℕ) : Type 0 where
+  pub place : ℕ
+  pub crc : ℕ
+  pub journal : State
+  pub steps : List Planned
+  pub numbers : List ℕ
+  pub are_read : AreRead octets place journal crc steps numbers
+  pub comes : IsAtStep journal crc (drop place octets) ⊎ (IsAtEnd journal crc (drop place octets) × (goes_on journal ≡ true))
+
 abbrev pub IsRefusedBy : List ℕ → OpenError → Type 0
 IsRefusedBy octets opens.OtherVersion = IsUnreadable octets
 IsRefusedBy octets opens.Damaged = IsUnreadable octets
 IsRefusedBy octets opens.Ended = HasEnd octets
-IsRefusedBy octets opens.OutOfMemory = Unit {0}
+IsRefusedBy octets opens.OutOfMemory = MayLackMemory octets
 
 abbrev pub refusal_of : NextError → OpenError
 refusal_of nexts.OtherVersion = opens.OtherVersion

@@ -1,6 +1,7 @@
 //! How a change begins, or goes on: with what its journal has.
 
-ghost use Rattle.std.specs.Prelude.{◌≡◌, ◌≤◌, ◌+◌, drop, length, take, IfErr, IfOk, OnOk};
+ghost use Rattle.std.specs.Prelude.{◌≡◌, ◌≤◌, ◌+◌, drop, length, take, true, IfErr, IfOk, OnErr, OnOk};
+ghost use Rattle.ptpm_journal.specs.Journal.{is_step};
 ghost use Rattle.ptpm_journal.specs.State.{state_of};
 ghost use Rattle.ptpm_journal.specs.Turns.{IsAtEnd};
 ghost use Rattle.ptpm_apply.specs.Opening.{AreRead, IsPlanned, IsRefusedBy, Takes, chosen, noted_number, refusal_of};
@@ -137,8 +138,9 @@ fn take(
 ) -> Result<(), AllocError>
     requires first { next.found.first + next.found.first_size ≤ length body.now }
     requires second { next.found.second + next.found.second_size ≤ length body.now }
-    ensures { OnOk result
+    ensures takes { OnOk result
         (Takes next.found body.now steps.old.items steps.new.items numbers.old.items numbers.new.items) }
+    ensures memory { OnErr result (is_step next.found.entry ≡ true) }
 {
     let found = next.found;
     match found.entry {

@@ -1,10 +1,16 @@
-use Rattle.std.proofs.Common.{◌≡◌, ℕ, ◌+◌, ◌∙◌, List, [], ◌∷◌, ap, arith, drop, length, length-append, refl, subst, sym}
-use Rattle.ptpm_journal.specs.Journal.{State, placed, taken}
+use Rattle.std.proofs.Common.{◌≡◌, ℕ, ◌+◌, ◌∙◌, Err, IfErr, IsErrAnd, List, Ok, Option, Result, [], ◌∷◌, ap, arith, drop, inl, length, length-append, refl, subst, sym, true}
+use Rattle.std.specs.Prelude.{IsSomeAnd}
+use Rattle.ptpm_journal.specs.Journal.{MayTake, State, is_step, placed, taken}
 use Rattle.ptpm_journal.specs.State.{state_of}
-use Rattle.ptpm_journal.specs.Turns.{IsRead}
+use Rattle.ptpm_journal.specs.Turns.{IsAtStep, IsRead}
+use Rattle.ptpm_journal.specs.declared.reading.Found.{Found}
+use Rattle.ptpm_journal.specs.declared.reading.Next.{Next}
 use Rattle.ptpm_journal.specs.declared.record.Record.{Record}
 use Rattle.ptpm_journal.specs.declared.record.Record.TheVariants as records
-use Rattle.ptpm_apply.specs.Opening.{AreRead, None_read, One_more, StepsAfter, Takes, no_record}
+use Rattle.ptpm_apply.specs.Opening.{AreRead, IsRefusedBy, MayLackMemory, None_read, One_more, StepsAfter, Takes, no_record}
+use Rattle.ptpm_apply.specs.declared.choice.OpenError.{OpenError}
+use Rattle.ptpm_apply.specs.declared.choice.OpenError.TheVariants as opens
+use Rattle.ptpm_apply.specs.declared.opening.Reading.{Reading}
 use Rattle.ptpm_apply.specs.declared.planned.Planned.{Planned}
 use Rattle.ptpm_apply.proofs.opening.read.Goals as goal
 
@@ -48,8 +54,44 @@ records-preserved c =
           (state_of c.next.new.self) c.next.new.self.crc) c.split_at.ensures.back known.read)
           (subst (λ (xs : List ℕ). Takes c.in-Ok-Some.next.found xs c.records.steps.items c.take.new.steps.items
           c.records.numbers.items c.take.new.numbers.items)
-          (c.split_at-in-records.ensures.back ∙ ap (drop (c.in-Ok-Some.next.lead + 2)) c.split_at.ensures.back) c.in_ok-take.ensures),
+          (c.split_at-in-records.ensures.back ∙ ap (drop (c.in-Ok-Some.next.lead + 2)) c.split_at.ensures.back) c.in_ok-take.ensures.takes),
     )
+
+-- ---- memory is refused at a step alone
+
+at_step : (s t : State) (crc later : ℕ) (octets : List ℕ) (n : Next) → IsRead s crc octets n t later → is_step n.found.entry ≡ true
+    → IsAtStep s crc octets
+at_step s t crc later octets n read step = record {
+  lead = n.lead;
+  size = n.size;
+  is_lead = read.lead;
+  frame = read.frame;
+  step = subst (λ (o : Option Found). IsSomeAnd o (λ f. MayTake s f.entry × (is_step f.entry ≡ true))) (sym read.found) (read.may, step);
+}
+
+refused_memory : (octets : List ℕ) (r : Result Reading OpenError) → IsErrAnd r (λ e. e ≡ opens.OutOfMemory) → MayLackMemory octets
+    → IfErr r (IsRefusedBy octets)
+refused_memory octets (Ok reading) is may = tt
+refused_memory octets (Err refusal) is may = subst (IsRefusedBy octets) (sym is) may
+
+pub returns-in_err-take-clause-refused : goal.returns-in_err-take-clause-refused
+returns-in_err-take-clause-refused c =
+    let known = rw c.in-Ok-Some.field-0-is at (c.in-Ok-Some.ensures {u = tt}) in
+    let octets = c.args.octets.now in
+    let before = state_of c.records.journal in
+    refused_memory octets c.from_residual.result c.from_residual.ensures.1 (record {
+      place = c.records.whole;
+      crc = c.records.journal.crc;
+      journal = before;
+      steps = c.records.steps.items;
+      numbers = c.records.numbers.items;
+      are_read = c.records.invariant.1;
+      comes = inl (at_step before (state_of c.next.new.self) c.records.journal.crc c.next.new.self.crc (drop c.records.whole octets)
+          c.in-Ok-Some.next
+          (subst (λ (xs : List ℕ). IsRead before c.records.journal.crc xs c.in-Ok-Some.next (state_of c.next.new.self) c.next.new.self.crc)
+          c.split_at.ensures.back known.read)
+          c.in_err-take.ensures.memory);
+    })
 
 pub returns-clause-few : goal.returns-clause-few
 returns-clause-few c =

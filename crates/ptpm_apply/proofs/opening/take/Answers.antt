@@ -3,8 +3,8 @@ use Rattle.ptpm_journal.specs.declared.record.Record.{Record}
 use Rattle.ptpm_apply.specs.Opening.{StepsAfter, numbers_after}
 use Rattle.ptpm_apply.proofs.opening.take.Goals as goal
 
-pub returns-in_ok-push-in-Step-2 : goal.returns-in_ok-push-in-Step-2
-returns-in_ok-push-in-Step-2 c =
+pub returns-in_ok-push-in-Step-2-clause-takes : goal.returns-in_ok-push-in-Step-2-clause-takes
+returns-in_ok-push-in-Step-2-clause-takes c =
     let found = c.args.next.found in
     let body = c.args.body.now in
     record {
