@@ -14,23 +14,23 @@ pub record OctetsValue : Type 0 where
   pub most : ℕ
 
 abbrev pub sizes_in : Places → List ℕ
-sizes_in (places.Few sizes octets) = sizes.items
+sizes_in (places.Few sizes inline) = sizes.items
 sizes_in (places.Many sizes octets used) = sizes.items
 
 abbrev pub octets_in : Places → List ℕ
-octets_in (places.Few sizes octets) = octets.items
+octets_in (places.Few sizes inline) = take inline.used inline.room
 octets_in (places.Many sizes octets used) = take used octets.items
 
 abbrev pub most_in : Places → ℕ
-most_in (places.Few sizes octets) = INLINE_PORTS
+most_in (places.Few sizes inline) = INLINE_PORTS
 most_in (places.Many sizes octets used) = vec_capacity sizes
 
 abbrev pub room_in : Places → ℕ
-room_in (places.Few sizes octets) = INLINE_OCTETS
+room_in (places.Few sizes inline) = INLINE_OCTETS
 room_in (places.Many sizes octets used) = length octets.items
 
 abbrev pub used_in : Places → ℕ
-used_in (places.Few sizes octets) = 0
+used_in (places.Few sizes inline) = inline.used
 used_in (places.Many sizes octets used) = used
 
 abbrev pub octets_value : Inside → OctetsValue

@@ -5,7 +5,7 @@ ghost use Rattle.ptpm_codec.specs.Canonical.{canonical, tlv_octets};
 ghost use Rattle.ptpm_codec.specs.Message.{Fits, IsValid};
 
 use arrayvec::ArrayVec;
-use ptpm_codec::{Draft, OutOfMemory, copy_message, encode_behind, overwrite_message, put_message};
+use ptpm_codec::{Draft, OutOfMemory, copy_message, encode_behind};
 use ptpm_data::INLINE_PORTS;
 use std::alloc::Global;
 use std::marker::Model;
@@ -19,11 +19,18 @@ pub(crate) const PORT_MESSAGE_OCTETS: usize = 80;
 /// For how many octets of messages there is room in the value.
 const INLINE_OCTETS: usize = PORT_MESSAGE_OCTETS * INLINE_PORTS;
 
-/// The size of each message, and the messages one after the other: in the value, or in two blocks of memory. Of the second block the
-/// last number says how many octets are used.
+/// Octets one after the other, in the value. So many of them are used.
+#[derive(Drop)]
+struct InlineOctets {
+    room: [u8; INLINE_OCTETS],
+    used: usize,
+}
+
+/// The size of each message, and the messages one after the other: in the value, or in two blocks of memory. Of the second
+/// block the last number says how many octets are used.
 #[derive(Drop)]
 enum Places {
-    Few(ArrayVec<u8, INLINE_PORTS>, ArrayVec<u8, INLINE_OCTETS>),
+    Few(ArrayVec<u8, INLINE_PORTS>, InlineOctets),
     Many(Vec<u8>, Vec<u8>, usize),
 }
 
@@ -51,7 +58,13 @@ impl KeptOctets {
         ensures { result ≡ record { sizes = []; octets = []; most = INLINE_PORTS } }
     {
         KeptOctets {
-            places: Places::Few(ArrayVec::new(), ArrayVec::new()),
+            places: Places::Few(
+                ArrayVec::new(),
+                InlineOctets {
+                    room: [0; INLINE_OCTETS],
+                    used: 0,
+                },
+            ),
         }
     }
 
@@ -90,7 +103,7 @@ impl KeptOctets {
         ensures value { result.now ≡ self.now.octets }
     {
         match &self.places {
-            Places::Few(_, octets) => octets.as_slice(),
+            Places::Few(_, inline) => &inline.room[..inline.used],
             Places::Many(_, octets, used) => &octets.as_slice()[..*used],
         }
     }
@@ -101,9 +114,9 @@ impl KeptOctets {
         ensures { self.new ≡ record { sizes = []; octets = []; most = self.old.most } }
     {
         match &mut self.places {
-            Places::Few(sizes, octets) => {
-                sizes.clear();
-                octets.clear();
+            Places::Few(sizes, inline) => {
+                *sizes = ArrayVec::new();
+                inline.used = 0;
             }
             Places::Many(sizes, _, used) => {
                 sizes.clear();
@@ -125,9 +138,10 @@ impl KeptOctets {
         } }
     {
         match &mut self.places {
-            Places::Few(sizes, octets) => {
+            Places::Few(sizes, inline) => {
                 sizes.push(message.len() as u8);
-                put_message(octets, message);
+                put_behind(&mut inline.room, inline.used, message);
+                inline.used += message.len();
             }
             Places::Many(sizes, octets, used) => {
                 sizes.push_reserved(message.len() as u8);
@@ -144,10 +158,11 @@ impl KeptOctets {
         ensures { self.new ≡ record { sizes = length message.now ∷ []; octets = message.now; most = self.old.most } }
     {
         match &mut self.places {
-            Places::Few(sizes, octets) => {
+            Places::Few(sizes, inline) => {
                 *sizes = ArrayVec::new();
                 sizes.push(message.len() as u8);
-                overwrite_message(octets, message);
+                put_behind(&mut inline.room, 0, message);
+                inline.used = message.len();
             }
             Places::Many(sizes, octets, used) => {
                 sizes.clear();
@@ -174,9 +189,10 @@ impl KeptOctets {
         ensures fits { Fits draft.now }
     {
         match &mut self.places {
-            Places::Few(sizes, octets) => {
-                let size = encode_behind(draft, octets);
+            Places::Few(sizes, inline) => {
+                let size = encode_at(draft, &mut inline.room, inline.used);
                 sizes.push(size as u8);
+                inline.used += size;
             }
             Places::Many(sizes, octets, used) => {
                 let size = encode_at(draft, octets.as_mut_slice(), *used);
@@ -198,7 +214,7 @@ fn put_behind(block: &mut [u8], used: usize, message: &[u8])
 }
 
 /// Writes the canonical spelling of a draft into a block, after the octets that are used; how many it has. Never inlined: so the stack
-/// has room for the message only if blocks are used.
+/// has room for the message only while it runs.
 #[inline(never)]
 #[tactic(auto, using(crate::proofs::KeptMessageLaws::canonical_length))]
 fn encode_at(draft: &Draft<'_>, block: &mut [u8], used: usize) -> usize
