@@ -19,35 +19,6 @@ pub fn put<const N: usize>(buffer: &mut ArrayVec<u8, N>, octets: &[u8])
     let _ = buffer.try_extend_from_slice(octets);
 }
 
-/// What `put` does, for a message. Most messages have one of a few sizes, at which LLVM makes a few moves of the copy.
-#[inline(always)]
-pub fn put_message<const N: usize>(buffer: &mut ArrayVec<u8, N>, message: &[u8])
-    requires { array_vec_len buffer.old + length message.now ≤ N }
-    ensures items { buffer.new.items ≡ buffer.old.items ++ message.now }
-    ensures len { array_vec_len buffer.new ≡ array_vec_len buffer.old + length message.now }
-{
-    match message.len() {
-        54 => put_array::<54, N>(buffer, message),
-        56 => put_array::<56, N>(buffer, message),
-        80 => put_array::<80, N>(buffer, message),
-        _ => put(buffer, message),
-    }
-}
-
-/// What `put` does, for a size given as a constant.
-#[inline(always)]
-fn put_array<const M: usize, const N: usize>(buffer: &mut ArrayVec<u8, N>, message: &[u8])
-    requires size { length message.now ≡ M }
-    requires room { array_vec_len buffer.old + M ≤ N }
-    ensures items { buffer.new.items ≡ buffer.old.items ++ message.now }
-    ensures len { array_vec_len buffer.new ≡ array_vec_len buffer.old + M }
-{
-    let Some(octets) = message.as_array::<M>() else {
-        unreachable!()
-    };
-    put(buffer, octets);
-}
-
 /// Appends a number as two octets, the most significant first. The buffer has room for two more.
 pub fn put_u16<const N: usize>(buffer: &mut ArrayVec<u8, N>, number: u16)
     requires { array_vec_len buffer.old + 2 ≤ N }

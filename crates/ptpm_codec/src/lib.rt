@@ -17,7 +17,7 @@ mod ptp_text;
 mod tlv;
 mod viewing;
 
-pub use buffers::{copy_message, overwrite, overwrite_message, put, put_message, put_u16};
+pub use buffers::{copy_message, overwrite, overwrite_message, put, put_u16};
 pub use decoding::{decode, view};
 pub use draft::{DATA_FIELD_OCTETS, Draft, DraftBody, is_data_field};
 pub use encoding::{Buffer, MESSAGE_OCTETS, encode, encode_behind};
