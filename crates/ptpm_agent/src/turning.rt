@@ -31,7 +31,7 @@ ghost use Rattle.ptpm_agent.specs.Turn.{carried_out, is_accepted_repeat, judged,
 
 use crate::agent::Agent;
 use crate::verdict::Verdict;
-use ptpm_codec::{ClockIdentity, ErrorId, Octets, OutOfMemory, PortIdentity, View, view};
+use ptpm_codec::{Action, ClockIdentity, ErrorId, Octets, OutOfMemory, PortIdentity, View, view};
 use ptpm_data::{
     ChangedMembers, ClockObservation, DataSets, INLINE_PORTS, ObservationError, PortAnswer,
     PortObservation, PortsLeftDisabled, Reply, Request, Rights, data_sets_law,
@@ -682,17 +682,20 @@ impl<T: SureTable + Drop> Agent<T> {
         members
     }
 
-    /// Which members a request with these rights would change, if the caller `ASKS`.
+    /// Which members a request with these rights would change, if the caller `ASKS`. A GET changes none, and pays for no call.
     #[inline(always)]
     fn members_asked<const ASKS: bool>(&self, message: &View<'_>, rights: Rights) -> ChangedMembers
         requires { IsTargetPort (request_of message.now).port self.now.sets }
         ensures { ASKS ≡ true → result ≡ changed self.now.sets
             (changed_by (request_of message.now) rights self.now.sets) }
     {
-        if ASKS {
-            return self.sets.changes_of(&request_of(message), rights);
+        if !ASKS {
+            return ChangedMembers::NONE;
         }
-        ChangedMembers::NONE
+        match message.action() {
+            Action::Get => ChangedMembers::NONE,
+            _ => self.sets.changes_of(&request_of(message), rights),
+        }
     }
 
     /// Carries out a new request, keeps it with its reply, and sends the messages of the reply.
