@@ -1,4 +1,3 @@
-#include "apply.h"
 #include "apply_report.h"
 #include "exchange.h"
 #include "journals.h"
@@ -9,6 +8,7 @@
 #include "rollout.h"
 #include "stopping.h"
 #include "transport.h"
+#include "verbs.h"
 #include <errno.h>
 #include <string.h>
 #include <unistd.h>

@@ -1,4 +1,3 @@
-#include "asking.h"
 #include "answer.h"
 #include "exchange.h"
 #include "message_places.h"
@@ -8,6 +7,7 @@
 #include "stopping.h"
 #include "transport.h"
 #include "unanswered.h"
+#include "verbs.h"
 #include "words.h"
 #include <stdbool.h>
 #include <stdio.h>
