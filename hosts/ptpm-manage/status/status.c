@@ -1,18 +1,20 @@
-#include "status.h"
 #include "collect.h"
 #include "heard.h"
+#include "kept_file.h"
 #include "lines.h"
 #include "monitor.h"
 #include "monotonic.h"
 #include "notices.h"
-#include "output.h"
 #include "program.h"
 #include "ptpm_program.h"
 #include "seen.h"
 #include "stopping.h"
 #include "text.h"
 #include "transport.h"
+#include "verbs.h"
 #include "words.h"
+#include <errno.h>
+#include <fcntl.h>
 #include <libgen.h>
 #include <limits.h>
 #include <malloc.h>
@@ -20,19 +22,68 @@
 #include <stdbool.h>
 #include <stdlib.h>
 #include <string.h>
+#include <sys/stat.h>
 #include <time.h>
 #include <unistd.h>
 
 /* The socket of a ptp4l whose configuration names no other. */
 #define OWN_CLOCK "/var/run/ptp4l"
 
-enum { TIME_TEXT = 32 };
+enum { TIME_TEXT = 32, READABLE_BY_ALL = 0644 };
 
 /* Memory of this many octets or more goes back to the system at once: a look takes megabytes again and again. */
 enum { RETURNED = 131072 };
 
+/* A file that is replaced by what is printed, or by the lines of a look; and the option that names it. */
+struct output_file { const char *option, *path; };
+
 static struct output_file printed_file, lines_file;
 static bool has_lost_lines;
+
+/* ---- files */
+
+/* What a symbolic link leads to; any other path stays as it is. The kernel follows it, and not realpath: it may refuse to follow one that
+   somebody else left in a folder such as /tmp. */
+static const char *end_of_link(const char *option, const char *at) {
+    char opened_at[32], end[PATH_MAX];
+    struct stat found;
+    if (lstat(at, &found) || !S_ISLNK(found.st_mode)) return at;
+    int opened = open(at, O_PATH | O_CLOEXEC);
+    snprintf(opened_at, sizeof opened_at, "/proc/self/fd/%d", opened);
+    ssize_t size = opened < 0 ? -1 : readlink(opened_at, end, sizeof end);
+    const char *path = size < 0 ? NULL : strndup(end, (size_t)size);
+    if (path == NULL) refuse("%s %s: it is a link: %s", option, at, strerror(errno));
+    close(opened);
+    return path;
+}
+
+/* Finds the folder of the path that an option names, or of what it leads to as a symbolic link. */
+static void find_output_file(struct output_file *file, const char *option, const char *path) {
+    struct stat found;
+    struct kept_file kept;
+    if (stat(path, &found) == 0 && !S_ISREG(found.st_mode)) refuse("%s %s: not a regular file; refusing to replace it", option, path);
+    *file = (struct output_file){ option, end_of_link(option, path) };
+    umask(022);
+    if (!open_kept_folder(&kept, file->path)) refuse("%s %s: %s", option, file->path, strerror(errno));
+    close(kept.folder);
+}
+
+/* Replaces the file by one with this text, of its owner and mode; whether that was done, and otherwise why not is said. Its folder may have
+   been moved since the time before, and another made in its place. */
+static bool write_output_file(const struct output_file *file, const char *text, size_t size) {
+    struct kept_file kept = { .folder = -1, .mode = READABLE_BY_ALL };
+    bool is_opened = open_kept_folder(&kept, file->path), is_written = false;
+    if (is_opened) {
+        bool is_there = fstatat(kept.folder, kept.name, &kept.before, AT_SYMLINK_NOFOLLOW) == 0 && S_ISREG(kept.before.st_mode);
+        if (!is_there) kept.before = (struct stat){ 0 };
+        is_written = replace_kept(&kept, (const uint8_t *)text, size) != NOT_REPLACED;
+    }
+    if (!is_written) complain("%s %s%s: %s", file->option, file->path, is_opened ? kept_fault() : "", strerror(errno));
+    close_quietly(kept.folder);
+    return is_written;
+}
+
+/* ---- a look */
 
 /* Whether a socket may be made beside it. */
 static bool may_write_beside(const char *path) {
