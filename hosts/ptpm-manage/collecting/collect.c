@@ -8,7 +8,7 @@
 #include "stopping.h"
 #include "transport.h"
 #include "unanswered.h"
-#include "untaken.h"
+#include "verbs.h"
 #include "words.h"
 #include <stdbool.h>
 #include <stdlib.h>
