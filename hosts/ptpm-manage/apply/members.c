@@ -59,12 +59,21 @@ static void say_needless(const struct step *step, const struct answer *answer) {
 
 /* ---- reads */
 
+struct task task_of_step(const struct task *task, const struct step *step) {
+    struct task asked = *task;
+    memcpy(asked.settings.target, step->clock, 8);
+    asked.settings.domain = step->domain;
+    asked.port = step->port;
+    asked.action = PTPM_SET;
+    asked.id = step->id;
+    asked.size = step->after.size;
+    memcpy(asked.octets, step->after.octets, step->after.size);
+    return asked;
+}
+
 static bool is_read(const struct task *task, const struct step *step, uint8_t domain, struct answer *answer) {
-    static struct task reading;
-    reading = *task;
-    memcpy(reading.settings.target, step->clock, 8);
+    struct task reading = task_of_step(task, step);
     reading.settings.domain = domain;
-    reading.port = step->port;
     return read_by_nobody(&reading, step->id, task->settings.attempts, answer);
 }
 

@@ -348,13 +348,8 @@ static void add_refusal(struct plan *plan, const struct task *task, const char *
 /* What a clock is asked, and the session for it. */
 struct probe { struct task request; struct run *run; size_t number; };
 
-static void take_probe(struct probe *probe, const struct task *task, const struct step *step, uint16_t id, uint16_t port) {
-    probe->request = *task;
-    probe->request.action = PTPM_SET;
-    probe->request.id = id;
-    probe->request.port = port;
-    probe->request.settings.domain = step->domain;
-    memcpy(probe->request.settings.target, step->clock, 8);
+static void take_probe(struct probe *probe, const struct task *task, const struct step *asked) {
+    probe->request = task_of_step(task, asked);
     probe->run = take_run(&probe->request, take_answer);
 }
 
@@ -379,7 +374,11 @@ int probe_clocks(struct plan *plan, const struct task *task) {
     struct probe *probes = needed(calloc(plan->count + 1, sizeof *probes), "the probes");
     if (plan->count > 0) state_folder();
     for (const struct step *first = NULL; (first = next_clock(plan->steps, plan->count, first)) != NULL;) {
-        take_probe(&probes[count++], task, first, PTPM_ID_NULL_PTP_MANAGEMENT, port_of(plan, first));
+        struct step nothing = *first;
+        nothing.id = PTPM_ID_NULL_PTP_MANAGEMENT;
+        nothing.port = port_of(plan, first);
+        nothing.after.size = 0;
+        take_probe(&probes[count++], task, &nothing);
     }
     for (size_t i = 0; i < count && status == ANSWERED; i++) status = end_probe(plan, &probes[i], task);
     free(probes);
@@ -393,10 +392,9 @@ int probe_clocks(struct plan *plan, const struct task *task) {
 
 /* The SET of the value that the member of a step has. */
 static void take_standing(struct probe *probe, const struct task *task, const struct step *step) {
-    struct task valued = *task;
-    valued.size = step->before.size;
-    memcpy(valued.octets, step->before.octets, step->before.size);
-    take_probe(probe, &valued, step, step->id, step->port);
+    struct step standing = *step;
+    standing.after = step->before;
+    take_probe(probe, task, &standing);
 }
 
 static void say_refusal(const struct task *task, const struct step *step) {
