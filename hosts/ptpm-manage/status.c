@@ -1,8 +1,10 @@
+/* A site at a glance. The process `ptpm monitor` decides when it is looked at, judged and printed. It writes what is to be done, a line each, and
+   reads what came of it (docs/architecture.md, "A poll loop, line by line"). */
+#include "clock_names.h"
 #include "collect.h"
 #include "heard.h"
 #include "kept_file.h"
 #include "lines.h"
-#include "monitor.h"
 #include "monotonic.h"
 #include "notices.h"
 #include "program.h"
@@ -81,6 +83,136 @@ static bool write_output_file(const struct output_file *file, const char *text, 
     if (!is_written) complain("%s %s%s: %s", file->option, file->path, is_opened ? kept_fault() : "", strerror(errno));
     close_quietly(kept.folder);
     return is_written;
+}
+
+/* ---- the process `ptpm monitor` */
+
+/* The words of its command line, without those of names; and room for a number. */
+enum { MOST_ARGUMENTS = 40, NUMBER = 24 };
+
+/* The version of the lines between the two. */
+static const char greeting[] = "monitor 1";
+
+static struct running monitor;
+
+/* What it wrote: from `first` on it is not read yet. */
+static struct printed monitor_said;
+static size_t first;
+
+static size_t add_option(char **arguments, size_t count, const char *name, const char *value) {
+    if (value == NULL) return count;
+    arguments[count] = (char *)name;
+    arguments[count + 1] = (char *)value;
+    return count + 2;
+}
+
+/* In milliseconds; none if it is 0. */
+static size_t add_time(char **arguments, size_t count, const char *name, char value[NUMBER], int64_t time) {
+    snprintf(value, NUMBER, "%lld", (long long)time);
+    return add_option(arguments, count, name, time == 0 ? NULL : value);
+}
+
+/* Whether colour is wanted: on a terminal, unless the environment says that it is not. */
+static bool is_coloured(const struct site_options *options) {
+    const char *without = getenv("NO_COLOR"), *terminal = getenv("TERM");
+    if (options->output != NULL || (without != NULL && *without != '\0')) return false;
+    return isatty(STDOUT_FILENO) && terminal != NULL && strcmp(terminal, "dumb") != 0;
+}
+
+/* How a look is judged and shown. Who is not seen may be a clock that is not asked. */
+static size_t add_judging(char **arguments, size_t count, const struct task *task) {
+    static const char *const forms[] = { NULL, "--json", "--draw", "--html", "--openmetrics", "--nagios" };
+    const struct site_options *options = &task->site;
+    const struct { const char *name, *value; } given[] = {
+        { "--max-offset", options->max_offset }, { "--max-delay", options->max_delay }, { "--tai-utc", options->tai_utc },
+        { "--settle", options->settle }, { "--profile", options->profile }, { "--expect", options->inventory },
+        { "--ignore", options->ignored }, { "--ignore", asks_one_address() ? "grandmaster_not_seen,parent_not_seen" : NULL },
+    };
+    const char *form = forms[task->is_json ? AS_JSON : options->form];
+    if (form != NULL) arguments[count++] = (char *)form;
+    for (size_t i = 0; i < sizeof given / sizeof *given; i++) count = add_option(arguments, count, given[i].name, given[i].value);
+    if (options->is_all) arguments[count++] = (char *)"--all";
+    for (size_t i = 0; i < clock_name_count(); i++) count = add_option(arguments, count, "--name", clock_name(i));
+    return count;
+}
+
+/* How often is looked, and how far. */
+static void add_looking(char **arguments, size_t count, const struct task *task) {
+    static char hops[NUMBER], watch[NUMBER], duration[NUMBER], forget[NUMBER];
+    const struct site_options *options = &task->site;
+    snprintf(hops, NUMBER, "%d", task->settings.hops);
+    count = add_option(arguments, count, "--hops", hops);
+    count = add_time(arguments, count, "--watch", watch, options->watch);
+    count = add_time(arguments, count, "--for", duration, options->duration);
+    count = add_time(arguments, count, "--forget", forget, options->forget);
+    if (options->is_once) arguments[count++] = (char *)"--once";
+    if (options->is_as_far_as_named) arguments[count++] = (char *)"--as-far-as-named";
+    if (is_coloured(options)) arguments[count++] = (char *)"--colour";
+    if (options->output != NULL) arguments[count++] = (char *)"--replace";
+    arguments[count] = NULL;
+}
+
+/* Waits until it has written more; whether it has. */
+static bool read_more(void) {
+    if (first > 0) memmove(monitor_said.text, monitor_said.text + first, monitor_said.size - first);
+    monitor_said.size -= first;
+    first = 0;
+    return read_printed(monitor.from, &monitor_said);
+}
+
+/* The next line, without its end. NULL if there is none, or a signal asks this program to end. It is there until the next call. */
+static char *read_from_monitor(void) {
+    char *end = NULL;
+    while (monitor_said.size == first || (end = memchr(monitor_said.text + first, '\n', monitor_said.size - first)) == NULL) {
+        if (!read_more()) return NULL;
+    }
+    char *line = monitor_said.text + first;
+    *end = '\0';
+    first = (size_t)(end + 1 - monitor_said.text);
+    return line;
+}
+
+/* So many octets after a line, as above. */
+static const char *read_octets_from_monitor(size_t count) {
+    while (monitor_said.size - first < count) {
+        if (!read_more()) return NULL;
+    }
+    const char *octets = monitor_said.text + first;
+    first += count;
+    return octets;
+}
+
+/* Hands it octets; whether it takes them all. */
+static bool tell_monitor(const char *octets, size_t count) {
+    for (size_t done = 0; done < count && !stopped;) {
+        ssize_t written = write_until_signal(monitor.to, octets + done, count - done);
+        if (written < 0 && errno != EINTR) return false;
+        if (written > 0) done += (size_t)written;
+    }
+    return !stopped;
+}
+
+/* The inventory is read at each look: of a pipe a later one would have nothing, and find nothing. */
+static void judge_inventory(const char *inventory) {
+    struct stat found;
+    if (inventory == NULL || stat(inventory, &found) != 0 || S_ISREG(found.st_mode)) return;
+    refuse("--expect %s: it is read at each poll, so it has to be a file, not a pipe", inventory);
+}
+
+/* Starts it. Ends the program if it refuses its options. */
+static void start_monitor(const struct task *task) {
+    char **arguments = needed(calloc(MOST_ARGUMENTS + 2 * clock_name_count(), sizeof *arguments), "the names");
+    judge_inventory(task->site.inventory);
+    arguments[1] = (char *)"monitor";
+    add_looking(arguments, add_judging(arguments, 2, task), task);
+    if (!start_ptpm_program(arguments, &monitor)) refuse("nothing was asked: ptpm monitor: %s", strerror(errno));
+    free(arguments);
+    const char *line = read_from_monitor();
+    if (line != NULL && strcmp(line, greeting) == 0) return;
+    if (stopped) return;
+    if (line != NULL) refuse("nothing was asked: ptpm monitor is of another version");
+    end_ptpm_program(&monitor);
+    refuse("nothing was asked: ptpm monitor refuses these options");
 }
 
 /* ---- a look */
@@ -252,7 +384,7 @@ int show_status(const struct task *task) {
     find_domains(&domains, task);
     if (!stopped) answer_time("host");
     while (!stopped && (line = read_from_monitor()) != NULL && carry_out(line, task, &domains)) continue;
-    int status = end_monitor();
+    int status = end_ptpm_program(&monitor);
     if (has_lost_lines) status = NOT_WRITTEN;
     return stopped ? BY_SIGNAL + stopped : status;
 }
