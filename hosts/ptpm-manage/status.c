@@ -1,5 +1,5 @@
-/* A site at a glance. The process `ptpm monitor` decides when it is looked at, judged and printed. It writes what is to be done, a line each, and
-   reads what came of it (docs/architecture.md, "A poll loop, line by line"). */
+/* A site at a glance. The process `ptpm monitor` decides when it is looked at, judged and printed. It writes what is to be done, a line
+   each, and reads what came of it (docs/architecture.md, "A poll loop, line by line"). */
 #include "clock_names.h"
 #include "collect.h"
 #include "heard.h"
