@@ -226,13 +226,9 @@ static bool may_write_beside(const char *path) {
 
 /* Writes what is known of a look beside its lines: when it ended, what was left out, the ways, and the clocks that answered. */
 static void write_known(FILE *to, int status, int64_t step) {
-    char time_text[TIME_TEXT];
-    time_t now = time(NULL);
-    struct tm parts;
     bool is_answered;
     const char *way;
-    strftime(time_text, sizeof time_text, "%FT%TZ", gmtime_r(&now, &parts));
-    fprintf(to, "looked %d %lld %lld %s %lu", status, (long long)milliseconds(), (long long)step, time_text, unseen_answers());
+    fprintf(to, "looked %d %lld %lld %s %lu", status, (long long)milliseconds(), (long long)step, utc_text("%FT%TZ", time(NULL)), unseen_answers());
     for (int type = ANNOUNCES; type < HEARD_TYPES; type++) fprintf(to, " %lu", unheard((enum heard_type)type));
     fputc('\n', to);
     for (size_t i = 0; (way = named_way(i, &is_answered)) != NULL; i++) {

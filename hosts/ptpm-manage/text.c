@@ -4,6 +4,13 @@
 #include <stdbool.h>
 #include <string.h>
 
+const char *utc_text(const char *format, time_t time) {
+    static char text[sizeof "2026-01-01T00:00:00Z"];
+    struct tm parts;
+    bool is_time = gmtime_r(&time, &parts) != NULL && strftime(text, sizeof text, format, &parts) > 0;
+    return is_time ? text : "";
+}
+
 /* How many octets the character at the head has, and its number; 0 if there is no well-formed one (RFC 3629). */
 static size_t character(const uint8_t *octets, size_t size, uint32_t *number) {
     static const uint32_t least[] = { 0, 0, 0x80, 0x800, 0x10000 };

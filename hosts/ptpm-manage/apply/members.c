@@ -5,6 +5,7 @@
 #include "notices.h"
 #include "program.h"
 #include "stopping.h"
+#include "text.h"
 #include "transport.h"
 #include "words.h"
 #include <stdlib.h>
@@ -31,11 +32,8 @@ static char *describe_member(const struct step *step, const struct answer *answe
 }
 
 void show_step(const char *what, long place, size_t count, const struct step *step) {
-    char *member = describe_member(step, NULL, NULL), since[16];
-    time_t now = time(NULL);
-    struct tm parts;
-    strftime(since, sizeof since, "%H:%M:%S", gmtime_r(&now, &parts));
-    head_progress("%s %ld of %zu, %s, since %s UTC", what, place + 1, count, member, since);
+    char *member = describe_member(step, NULL, NULL);
+    head_progress("%s %ld of %zu, %s, since %s UTC", what, place + 1, count, member, utc_text("%T", time(NULL)));
     free(member);
 }
 

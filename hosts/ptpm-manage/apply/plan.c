@@ -188,19 +188,12 @@ static void take_json(struct plan *plan, const struct task *task, const struct p
     if (strcmp(id, plan->id) != 0) refuse("nothing was sent: %s has changed meanwhile", task->plan.word);
 }
 
-static bool has_clock(struct domain domain) {
-    for (size_t i = 0; i < seen_count(); i++) {
-        if (is_same_domain(seen_clock(i)->domain, domain) && seen_clock(i)->answered != 0) return true;
-    }
-    return false;
-}
-
 /* A table of every clock is of those that answer. If none does, the plan has nothing of it. Whether one does in each domain. */
 static bool name_silent_domains(const struct domains *domains) {
     struct domain domain;
     bool is_answered = true;
     for (size_t place = 0; next_domain(domains, &place, &domain);) {
-        if (has_clock(domain)) continue;
+        if (answered_in(domain) > 0) continue;
         complain("no clock answered in domain %u", domain.number);
         is_answered = false;
     }

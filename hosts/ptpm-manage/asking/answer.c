@@ -143,14 +143,13 @@ void print_members_as_json(FILE *to, const char *name, uint16_t id, const uint8_
     fputs(structure > 0 ? "}}" : "}", to);
 }
 
-/* Who answers what: the head of the object. */
-static void print_source_as_json(FILE *to, const struct task *task, const struct ptpm_source *source) {
-    const char *id = read_id_name(task->id);
-    fprintf(to, "{\"domainNumber\":%u,\"clockIdentity\":\"%s\",\"portNumber\":", task->settings.domain, identity_text(source->clock));
+void print_source_as_json(FILE *to, unsigned domain, const struct ptpm_source *source, uint16_t id) {
+    const char *named = read_id_name(id);
+    fprintf(to, "\"domainNumber\":%u,\"clockIdentity\":\"%s\",\"portNumber\":", domain, identity_text(source->clock));
     if (source->port == 0) fputs("null", to);
     else fprintf(to, "%u", source->port);
-    if (id != NULL) fprintf(to, ",\"managementId\":\"%s\"", id);
-    else fprintf(to, ",\"managementId\":\"%04x\"", task->id);
+    if (named != NULL) fprintf(to, ",\"managementId\":\"%s\"", named);
+    else fprintf(to, ",\"managementId\":\"%04x\"", id);
 }
 
 static void print_field_as_json(FILE *to, const struct task *task, const struct answer *answer) {
@@ -165,7 +164,8 @@ void print_answer_as_json(FILE *to, const struct task *task, const struct ptpm_s
         complain("nothing is reported: %s", answer_name(answer->outcome));
         return;
     }
-    print_source_as_json(to, task, source);
+    putc('{', to);
+    print_source_as_json(to, task->settings.domain, source, task->id);
     if (answer->outcome == PTPM_DONE) fputs(",\"status\":\"done\"", to);
     else if (answer->outcome == PTPM_REFUSED) fprintf(to, ",\"status\":\"refused\",\"managementErrorId\":\"%s\"", error_text(answer->error));
     else print_field_as_json(to, task, answer);

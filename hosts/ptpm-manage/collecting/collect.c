@@ -121,12 +121,6 @@ static void stop_requests(size_t first) {
     while (request_count > first) ptpm_survey_stop(&requests[--request_count].survey);
 }
 
-/* FNV-1a. */
-static uint64_t sum_of(uint64_t sum, const void *octets, size_t size) {
-    for (size_t i = 0; i < size; i++) sum = (sum ^ ((const uint8_t *)octets)[i]) * 0x100000001b3;
-    return sum;
-}
-
 /* The sum of what copies of an answer have in common: who sent it, the interface, the action and the TLV. */
 static uint64_t sum_of_answer(const uint8_t *message, size_t size) {
     const char *sender = sender_text(), *interface = came_in_at() == NULL ? "" : came_in_at();
@@ -419,19 +413,10 @@ struct rounds {
 /* When the latest round may end. */
 static int64_t least_end(const struct rounds *rounds) { return rounds->begun + (rounds->round + 1) * (is_site() ? ROUND : ROUND_OF_PLAN); }
 
-/* How many clocks of a domain have answered more than a census. */
-static size_t found_in(struct domain domain) {
-    size_t found = 0;
-    for (size_t place = 0; place < seen_count(); place++) {
-        found += is_same_domain(seen_clock(place)->domain, domain) && seen_clock(place)->answered != 0;
-    }
-    return found;
-}
-
 /* Whether fewer clocks have answered in one of these domains than the file says. */
 static bool is_short(const struct rounds *rounds) {
     for (size_t i = 0; i < rounds->count; i++) {
-        if (found_in(rounds->domains[i]) < collected->clocks[rounds->domains[i].number]) return true;
+        if (answered_in(rounds->domains[i]) < collected->clocks[rounds->domains[i].number]) return true;
     }
     return false;
 }
@@ -440,7 +425,7 @@ static bool is_short(const struct rounds *rounds) {
    brought no other clock. */
 static bool is_counted(const struct rounds *rounds) {
     for (size_t i = 0; i < rounds->count; i++) {
-        size_t found = found_in(rounds->domains[i]);
+        size_t found = answered_in(rounds->domains[i]);
         if (found == 0 || found != collected->clocks[rounds->domains[i].number]) return false;
     }
     return is_whole();

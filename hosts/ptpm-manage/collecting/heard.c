@@ -91,16 +91,10 @@ static bool is_like(const uint8_t *one, const uint8_t *other) {
            && memcmp(one + SOURCE_AT, other + SOURCE_AT, source_size(one)) == 0;
 }
 
-/* FNV-1a, from the seed on. */
-static uint64_t add_octets(uint64_t sum, const uint8_t *octets, size_t size) {
-    for (size_t i = 0; i < size; i++) sum = (sum ^ octets[i]) * 0x100000001b3;
-    return sum;
-}
-
 /* The place that a message has, or may take. */
 static size_t place_of(const uint8_t *message) {
     uint8_t head[] = { message[TYPE_AT], message[DOMAIN_AT], message[SDO_AT] };
-    uint64_t sum = add_octets(add_octets(seed, head, sizeof head), message + SOURCE_AT, source_size(message));
+    uint64_t sum = sum_of(sum_of(seed, head, sizeof head), message + SOURCE_AT, source_size(message));
     size_t place = (sum ^ sum >> 32) % PLACES;
     while (places[place] != 0 && !is_like(all[places[place] - 1].message, message)) place = (place + 1) % PLACES;
     return place;
