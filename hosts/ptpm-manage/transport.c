@@ -313,16 +313,17 @@ void open_transport(const struct task *task) {
 }
 
 static void widen(int socket) {
+    if (socket < 0) return;
     if (!set_number(socket, SOL_SOCKET, SO_RCVBUFFORCE, ROOM_FOR_MANY)) set_number(socket, SOL_SOCKET, SO_RCVBUF, ROOM_FOR_MANY);
 }
 
 void widen_transport(void) {
     for (size_t i = 0; i < end_count; i++) {
         widen(ends[i].socket);
-        if (ends[i].asking >= 0) widen(ends[i].asking);
+        widen(ends[i].asking);
     }
-    if (copies >= 0) widen(copies);
-    if (packets >= 0) widen(packets);
+    widen(copies);
+    widen(packets);
 }
 
 /* The latest sender of a copy that another neighbour sent. */
