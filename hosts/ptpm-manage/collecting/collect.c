@@ -1,4 +1,5 @@
 #include "collect.h"
+#include "exchange.h"
 #include "heard.h"
 #include "message_places.h"
 #include "monotonic.h"
@@ -92,22 +93,15 @@ static bool is_of_port(unsigned id) {
 /* Starts a request; whether the library would ask it. If not, that is said. */
 static bool start_request(const struct task *task, struct domain domain, unsigned id, bool is_census) {
     struct request *request = &requests[request_count];
-    struct ptpm_survey_settings settings = {
-        .port = task->settings.port, .number = next_number(), .id = is_census ? PTPM_ID_DEFAULT_DATA_SET : collected->ids[id],
-        .domain = domain.number, .hops = task->settings.hops,
-    };
-    memcpy(settings.clock, task->settings.clock, sizeof settings.clock);
-    uint32_t refusal = ptpm_survey_start(&request->survey, &settings);
-    if (refusal == PTPM_STARTED) {
-        refusal = ptpm_survey_send(&request->survey, request->message, sizeof request->message, &request->size);
-    }
+    uint16_t what = is_census ? PTPM_ID_DEFAULT_DATA_SET : collected->ids[id];
+    request->number = next_number();
+    uint32_t refusal = start_survey(&request->survey, task, request->number, what, domain.number, request->message, &request->size);
     if (refusal != PTPM_SENT) {
         complain("nothing was asked: %s", answer_name(refusal));
         return false;
     }
     write_sdo(request->message, domain.sdo);
     ask_as(request->message + SOURCE_AT);
-    request->number = settings.number;
     request->domain = domain;
     request->asked_at = milliseconds();
     request->is_census = is_census;
