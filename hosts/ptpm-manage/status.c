@@ -228,7 +228,8 @@ static bool may_write_beside(const char *path) {
 static void write_known(FILE *to, int status, int64_t step) {
     bool is_answered;
     const char *way;
-    fprintf(to, "looked %d %lld %lld %s %lu", status, (long long)milliseconds(), (long long)step, utc_text("%FT%TZ", time(NULL)), unseen_answers());
+    fprintf(to, "looked %d %lld %lld %s %lu", status, (long long)milliseconds(), (long long)step, utc_text("%FT%TZ", time(NULL)),
+            unseen_answers());
     for (int type = ANNOUNCES; type < HEARD_TYPES; type++) fprintf(to, " %lu", unheard((enum heard_type)type));
     fputc('\n', to);
     for (size_t i = 0; (way = named_way(i, &is_answered)) != NULL; i++) {

@@ -1,5 +1,5 @@
-/* What comes in while a site is asked, or between two times, beside answers that are taken. Strangers may send without end. So there is room for
-   a number of messages of each type, which no other type takes, and what comes after that is counted.
+/* What comes in while a site is asked, or between two times, beside answers that are taken. Strangers may send without end. So there is
+   room for a number of messages of each type, which no other type takes, and what comes after that is counted.
    Clocks send by themselves: of that the latest Announce, Sync and Follow_Up of each port are kept, and the latest Delay_Req of each
    clock. So a clock shows itself that answers no management message. */
 #pragma once
@@ -39,8 +39,8 @@ enum untaken { OFF_LINK, LATE, UNREADABLE };
 /* From now on this sourcePortIdentity asks. */
 void ask_as(const uint8_t source[10]);
 
-/* Notes the datagram that came in last, if it is an answer to that one by a clock that is not seen. Of each clock the latest of each kind is
-   kept. */
+/* Notes the datagram that came in last, if it is an answer to that one by a clock that is not seen. Of each clock the latest of each kind
+   is kept. */
 void note_untaken(enum untaken why, const uint8_t *datagram, size_t size);
 
 /* Says once that a clock answers late, if it is not seen. */

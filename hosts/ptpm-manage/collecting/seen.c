@@ -155,7 +155,9 @@ const struct seen_clock *seen_clock(size_t place) { return &clocks[place]; }
 
 size_t answered_in(struct domain domain) {
     size_t count = 0;
-    for (size_t place = 0; place < clock_count; place++) count += is_same_domain(clocks[place].domain, domain) && clocks[place].answered != 0;
+    for (const struct seen_clock *clock = clocks; clock < clocks + clock_count; clock++) {
+        count += is_same_domain(clock->domain, domain) && clock->answered != 0;
+    }
     return count;
 }
 
