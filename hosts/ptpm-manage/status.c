@@ -243,11 +243,6 @@ static void write_known(FILE *to, int status, int64_t step) {
     }
 }
 
-/* Replaces the file of --lines by those of a look. */
-static void keep_lines(const struct task *task, const char *lines, size_t size) {
-    has_lost_lines = task->site.lines != NULL && !write_output_file(&lines_file, lines, size);
-}
-
 /* Collects the lines of a look and hands them on. */
 static bool look(const struct task *task, const struct domains *domains, unsigned long hops) {
     struct task as_far = *task;
@@ -259,7 +254,7 @@ static bool look(const struct task *task, const struct domains *domains, unsigne
     as_far.settings.hops = (uint8_t)hops;
     int status = collect_answers(&as_far, &of_site, domains, to);
     if (fflush(to) != 0) give_up("the answers");
-    keep_lines(task, lines, size);
+    has_lost_lines = task->site.lines != NULL && !write_output_file(&lines_file, lines, size);
     fputs("end\n", to);
     write_known(about, status, step);
     if (fclose(to) != 0 || fclose(about) != 0 || lines == NULL || known == NULL) give_up("the answers");

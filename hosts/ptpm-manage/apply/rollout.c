@@ -125,12 +125,6 @@ static struct event take_answer(struct desk *desk) {
     return event_of(&answer);
 }
 
-static struct event take_begun(const struct desk *desk) {
-    struct event event = plain_event(PTPM_EVENT_BEGINS);
-    event.said.number = desk->driver.handed.number;
-    return event;
-}
-
 static struct event not_saved(const struct desk *desk, struct journal *journal) {
     const char *why = strerror(errno);
     if (desk->is_begun_now && desk->driver.sent == 0) journal->told[desk->step].is_unsent = true;
@@ -173,7 +167,7 @@ static struct event end_unanswered(struct desk *desk, const struct journal *jour
 static struct event drive_on(struct desk *desk, struct journal *journal) {
     for (;;) {
         switch (drive(&desk->driver)) {
-        case PTPM_NOTE_BEGUN: return take_begun(desk);
+        case PTPM_NOTE_BEGUN: return (struct event){ .said = { .what = PTPM_EVENT_BEGINS, .number = desk->driver.handed.number } };
         case PTPM_NOTE_ANSWER: return take_answer(desk);
         case PTPM_SAVE_IT:
             if (!save_session(&desk->session)) return not_saved(desk, journal);

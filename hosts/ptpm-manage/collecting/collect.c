@@ -441,22 +441,13 @@ static void hear_rest(const struct rounds *rounds) {
     while (!stopped && milliseconds() < end && (waits || !is_whole())) hear_until(milliseconds() + STEP < end ? milliseconds() + STEP : end);
 }
 
-/* Starts the requests of this many censuses; whether the library would ask them. */
-static bool start_censuses(const struct task *task, const struct rounds *rounds, unsigned censuses) {
-    for (unsigned census = 0; census < censuses; census++) {
-        for (size_t i = 0; i < rounds->count; i++) {
-            if (!start_request(task, rounds->domains[i], census, true)) return false;
-        }
-    }
-    return true;
-}
-
 /* Asks every clock whether it is there; in how many censuses. Without memory it is none, and no other round has one. */
 static unsigned take_census(const struct task *task, struct rounds *rounds) {
     size_t first = request_count;
     unsigned censuses = lost_share() > 0 ? CENSUSES_OF_LOSSY : 1;
     int64_t next = milliseconds();
-    if (!start_censuses(task, rounds, censuses)) {
+    for (size_t i = 0; i < censuses * rounds->count; i++) {
+        if (start_request(task, rounds->domains[i % rounds->count], (unsigned)(i / rounds->count), true)) continue;
         rounds->round = MOST_ROUNDS;
         return 0;
     }
