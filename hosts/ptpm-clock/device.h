@@ -64,8 +64,3 @@ void hear_program(void);
 /* Takes the change that is decided, with what the device says; that is NULL if it was not asked. Its octets stay until another change
    waits. NULL if none is decided. */
 struct heard *take_change(const struct ptpm_say **say);
-
-/* How often the program agreed; how often it or the limits objected; how often it said nothing; what was dropped meanwhile. */
-struct device_counts { unsigned long long agreed, objected, silent, passed_over; };
-
-const struct device_counts *device_counts_so_far(void);

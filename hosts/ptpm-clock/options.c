@@ -151,10 +151,6 @@ static bool find_user(struct privileges *privileges, const char *name) {
     return true;
 }
 
-static void take_user(struct privileges *privileges) {
-    if (!find_user(privileges, optarg)) refuse_command_line("--user %s: there is no such user", optarg);
-}
-
 /* Root stays root only if it is named. The Unix socket stays in root's group, so that what root asks there can be answered. */
 static void leave_root(void) {
     struct privileges *privileges = &given.privileges;
@@ -280,7 +276,9 @@ static void take_limit(int option) {
     case TRANSIT: given.limits.is_passed_on_unread = true; break;
     case ANY_SOURCE: given.limits.is_any_source = true; break;
     case TTL_SECURITY: given.limits.is_near = true; break;
-    case USER: take_user(&given.privileges); break;
+    case USER:
+        if (!find_user(&given.privileges, optarg)) refuse_command_line("--user %s: there is no such user", optarg);
+        break;
     case UNIX_GROUP: given.meeting.group = group_named(); break;
     case UNIX_MODE: given.meeting.mode = mode(); break;
     case OWNER: given.owner = socket_path("--owner"); break;
