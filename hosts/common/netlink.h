@@ -1,5 +1,5 @@
-/* What the kernel reports of this host's interfaces (rtnetlink): that one went, came or has another MTU, which addresses are on its link,
-   and which neighbour has one. */
+/* What the kernel reports of this host's interfaces (rtnetlink): that one went, came or has another MTU. And what it answers: which
+   addresses are on a link, and which neighbour has one. */
 #pragma once
 
 #include "ethernet.h"
@@ -32,8 +32,8 @@ bool has_networks(void);
 bool has_address(unsigned index, sa_family_t family);
 
 /* Whether an address of IPv4 or IPv6 belongs to a network at the interface. That is one of its own addresses', or one to which a
-   route that is not a default route leads there without a gateway. With IPv6 it may also be an address of the link. For routes the kernel is asked
-   a hundred times a second at most; beyond that the answer is no. */
+   route that is not a default route leads there without a gateway. With IPv6 it may also be an address of the link. For routes the
+   kernel is asked a hundred times a second at most; beyond that the answer is no. */
 bool is_on_link(unsigned index, const struct sockaddr *address);
 
 /* For a program that does not read what the kernel reports: the addresses of interfaces may have changed. */

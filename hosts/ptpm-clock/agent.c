@@ -9,7 +9,6 @@
 #include "output.h"
 #include "peers.h"
 #include "ptp4l.h"
-#include "ptp4l_values.h"
 #include "saving.h"
 #include "values.h"
 #include "words.h"
@@ -170,7 +169,7 @@ static unsigned long hand_on(const struct heard *heard, enum ptpm_handled answer
 
 /* The library asks no device about what the owner asks. A GET that the device answers is judged like that of a stranger. */
 static bool is_judged_as_owner(const struct heard *heard, const struct ptpm_say *say) {
-    bool is_given = say != NULL && say->kind == PTPM_GIVES && !is_of_manager(heard, options->settings.identity);
+    bool is_given = say != NULL && say->kind == PTPM_GIVES && !is_of_manager(heard);
     return heard->is_of_owner && !is_given;
 }
 
@@ -233,7 +232,7 @@ static unsigned long take_request(struct heard *held) {
 /* A manager's request is not taken without a place to wait for a save. Nor is a copy of one that waits: one answer does for both. */
 static unsigned long take_datagram(struct heard *heard) {
     if (!admit_datagram(heard)) return 0;
-    if (!heard->is_of_owner && !is_of_manager(heard, options->settings.identity)) return take_turn(heard, NULL);
+    if (!heard->is_of_owner && !is_of_manager(heard)) return take_turn(heard, NULL);
     if (!admit_manager(heard)) return 0;
     bool has_place = heard->port == NULL ? peers_asking() < PEERS_A_SAVE : port_messages() < MOST_OF_PORTS;
     if (has_place && !is_asking(heard)) return take_request(heard);
@@ -256,13 +255,9 @@ size_t room_for_peers(void) {
     return left < most ? left : most;
 }
 
-void take_round(const struct port *port, int socket) {
-    take_all(hear_round(port, socket, port != NULL ? ROUND : room_for_peers(), heard_now));
-}
-
-void take_owner_round(int socket) {
-    size_t count = hear_round(NULL, socket, room_for_peers(), heard_now);
-    for (size_t i = 0; i < count; i++) heard_now[i].is_of_owner = true;
+void take_round(const struct port *port, int socket, bool is_of_owner) {
+    size_t count = hear_round(port, socket, port != NULL ? ROUND : room_for_peers(), heard_now);
+    for (size_t i = 0; i < count; i++) heard_now[i].is_of_owner = is_of_owner;
     take_all(count);
 }
 

@@ -8,7 +8,6 @@
 #include "agent.h"
 #include "counts.h"
 #include "device.h"
-#include "device_program.h"
 #include "monotonic.h"
 #include "netlink.h"
 #include "network_limits.h"
@@ -19,7 +18,6 @@
 #include "privileges.h"
 #include "program.h"
 #include "ptp4l.h"
-#include "ptp4l_socket.h"
 #include "saving.h"
 #include "service.h"
 #include "source.h"
@@ -139,8 +137,8 @@ static void wait_at_ports(void) {
 /* What has come in there; whether the program goes on. */
 static bool take_event(uint32_t what) {
     switch (what) {
-    case UNIX_SOCKET: take_round(NULL, unix_socket); break;
-    case OWNER_SOCKET: take_owner_round(owner_socket); break;
+    case UNIX_SOCKET: take_round(NULL, unix_socket, false); break;
+    case OWNER_SOCKET: take_round(NULL, owner_socket, true); break;
     case UNICAST: take_unicast_round(); break;
     case SOURCE:
         observe_all();
@@ -154,7 +152,7 @@ static bool take_event(uint32_t what) {
     case RUNS: hear_program(); break;
     case PTP4L: take_answers(); break;
     default:
-        if (ports[what].socket >= 0) take_round(&ports[what], ports[what].socket);
+        if (ports[what].socket >= 0) take_round(&ports[what], ports[what].socket, false);
     }
     return true;
 }
@@ -165,7 +163,7 @@ static void look_around(int64_t now) {
     static int64_t next;
     if (now < next) return;
     next = now + SECOND;
-    for (size_t i = 0; unix_socket >= 0 && i < WAYS_BACK; i++) take_round(NULL, way_back_socket(i));
+    for (size_t i = 0; unix_socket >= 0 && i < WAYS_BACK; i++) take_round(NULL, way_back_socket(i), false);
     if (source >= 0 && follow_source(&observations)) observe_all();
     follow_limits();
     renew_unicast();
@@ -180,7 +178,7 @@ static void run(int64_t end) {
     wait_at_all();
     say_started();
     say_deaf_ports();
-    report_ready();
+    report_state("READY=1");
     while (is_going_on) {
         int64_t now = milliseconds();
         if (end != 0 && now >= end) return;
@@ -227,7 +225,7 @@ static void say_user(const char *what, const char *why) {
 }
 
 static void end_in_order(void) {
-    report_stopping();
+    report_state("STOPPING=1");
     close_device_program();
     stop_clock();
     close_ports();

@@ -1,12 +1,10 @@
 #include "device.h"
 #include "counts.h"
-#include "device_limits.h"
-#include "device_program.h"
 #include "ethernet.h"
 #include "message_places.h"
 #include "names.h"
 #include "output.h"
-#include "ptp4l_change.h"
+#include "ptp4l.h"
 #include "source.h"
 #include <stdlib.h>
 #include <string.h>
@@ -35,7 +33,7 @@ static enum file_says take_limits(void) {
     read_source(&source);
     bool is_empty = is_empty_file(&source), has_text = next_text(&source, &text);
     if (!has_text && !is_empty) return SAYS_NOTHING;
-    if (!read_device_limits(other, clock_ports(), source.path, text)) return IS_WRONG;
+    if (!read_device_limits(other, source.path, text)) return IS_WRONG;
     limits = other;
     return SAYS_LIMITS;
 }

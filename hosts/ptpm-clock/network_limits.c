@@ -109,8 +109,9 @@ void lower_hops(struct heard *heard) {
     heard->octets[STARTING_HOPS_AT] = starting > less ? (uint8_t)(starting - less) : 0;
 }
 
-bool is_of_manager(const struct heard *heard, const uint8_t own[8]) {
-    if (heard->size < LEAST_MESSAGE || memcmp(heard->octets + TARGET_AT, own, 8) != 0) return false;
+bool is_of_manager(const struct heard *heard) {
+    const uint8_t *own = options->settings.identity;
+    if (heard->size < LEAST_MESSAGE || memcmp(heard->octets + TARGET_AT, own, CLOCK_IDENTITY) != 0) return false;
     const uint8_t *source = heard->octets + SOURCE_AT;
     uint16_t port = number_at(heard->octets + SOURCE_PORT_AT);
     for (size_t i = 0; i < options->manager_count; i++) {
@@ -143,8 +144,8 @@ static bool admit_answer(const struct heard *heard, uint32_t answer, uint64_t no
     return false;
 }
 
-bool admit_answer_ahead(struct heard *heard, const uint8_t own[8]) {
-    if (heard->port == NULL || is_of_manager(heard, own)) return true;
+bool admit_answer_ahead(struct heard *heard) {
+    if (heard->port == NULL || is_of_manager(heard)) return true;
     bool is_admitted = take_share(&answers[ingress_of(heard) - 1], heard, time_now());
     if (heard->share != HAS_SHARE) heard->share = is_admitted ? HAS_SHARE : OVER_RATE;
     return is_admitted;

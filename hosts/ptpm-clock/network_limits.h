@@ -28,13 +28,13 @@ bool admit_datagram(const struct heard *heard);
 
 /* Whether it is from a manager and only for this clock, so that it may be answered as a numbered request, and be saved. Nobody can
    know who sent it. */
-bool is_of_manager(const struct heard *heard, const uint8_t own[8]);
+bool is_of_manager(const struct heard *heard);
 
 /* Whether such a datagram is taken: its sender has not sent too many, or is a program of this host. One that is not is counted. */
 bool admit_manager(const struct heard *heard);
 
 /* Whether the answer to a GET is within the rate, before its value is read. Then it is not asked again. */
-bool admit_answer_ahead(struct heard *heard, const uint8_t own[8]);
+bool admit_answer_ahead(struct heard *heard);
 
 /* Lowers boundaryHops (octet 45) to the limit, and startingBoundaryHops (octet 44) by the same amount. So an answer has as many
    hops as it would have otherwise (15.4.1), and what is forwarded has fewer. */

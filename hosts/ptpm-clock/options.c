@@ -3,7 +3,7 @@
 #include "monotonic.h"
 #include "names.h"
 #include "output.h"
-#include "ptp4l_mute.h"
+#include "ptp4l.h"
 #include "udp.h"
 #include "words.h"
 #include <getopt.h>
@@ -104,11 +104,6 @@ static const char help_end[] =
     "\n"
     "SIGTERM ends it; at its end, and at SIGUSR1, it prints how often each answer was given.\n"
     "Exit status: 0 it ended cleanly; 1 the clock does not start; 2 a wrong option, or a socket or file can't be opened.\n";
-
-_Noreturn static void usage(void) {
-    fputs("ptpm-clock: see ptpm-clock --help\n", stderr);
-    exit(2);
-}
 
 __attribute__((format(printf, 1, 2))) _Noreturn static void refuse_command_line(const char *format, ...) {
     va_list values;
@@ -290,7 +285,9 @@ static void take_limit(int option) {
     case DIVERTED: given.diverted_port = port_diverted_to(); break;
     case PTP4L_RULES: given.is_asked_for_rules = true; break;
     case ASK_TIME: given.device_seconds = number("--ask-time", 1, MOST_ASK_TIME); break;
-    default: usage();
+    default:
+        fputs("ptpm-clock: see ptpm-clock --help\n", stderr);
+        exit(2);
     }
 }
 

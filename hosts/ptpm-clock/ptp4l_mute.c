@@ -1,9 +1,7 @@
-#include "ptp4l_mute.h"
+#include "ptp4l.h"
 #include "message_places.h"
 #include "monotonic.h"
 #include "output.h"
-#include "ptp4l.h"
-#include "ptp4l_socket.h"
 #include "socket_option.h"
 #include "udp.h"
 #include <stdio.h>

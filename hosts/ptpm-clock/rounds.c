@@ -336,7 +336,9 @@ static void open_diverted_port(void) {
     char what[40];
     general = open_diverted(is_six(), diverted_port);
     snprintf(what, sizeof what, "UDP port %u", diverted_port);
-    if (general < 0 && errno == EADDRINUSE) end_program(what, "another program has it, perhaps a second agent: --diverted names another port, and rules for it");
+    if (general < 0 && errno == EADDRINUSE) {
+        end_program(what, "another program has it, perhaps a second agent: --diverted names another port, and rules for it");
+    }
     if (general < 0) give_up(what);
 }
 

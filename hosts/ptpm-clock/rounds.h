@@ -1,6 +1,5 @@
 /* Datagrams in rounds: what has come in at a socket by now, up to 64 at once, and what goes out after a round. Nothing waits for a
-   round to be full. Beside the ports they come in by unicast, to UDP port 320 of this host at the interfaces of the ports, or to the
-   port to which all is diverted. */
+   round to be full. They come in at the ports, and by unicast at UDP port 320 of this host, or at the port to which all is diverted. */
 #pragma once
 
 #include "ports.h"

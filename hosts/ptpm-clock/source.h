@@ -30,8 +30,8 @@ struct source {
    they can't read. */
 int open_to_read(const char *path, struct stat *found);
 
-/* Opens it, and returns what is to be polled: changes of a file that can be read, or a pipe, if it may be one. Ends the program with status 2
-   if it is neither. */
+/* Opens it, and returns what is to be polled: changes of a file that can be read, or a pipe, if it may be one. Ends the program with
+   status 2 if it is neither. */
 int open_source(struct source *source, const char *path, bool may_be_pipe);
 
 /* Watches what leads to it by now: a folder may have been made again, and a link may lead elsewhere. Whether it is another file than

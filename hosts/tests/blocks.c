@@ -200,7 +200,7 @@ static void left_clocks(void) {
     stop_all();
 }
 
-/* The same of the others, which are started again with a request and with answers. What an asker can't be restored from leaves it. */
+/* The others are started again while they have a request or answers. A restore that is refused leaves the asker as it was. */
 static void left_managers(void) {
     struct ptpm_survey_settings of_every = of_survey();
     struct ptpm_asker_settings settings = of_asker();

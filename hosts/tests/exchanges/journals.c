@@ -1,4 +1,5 @@
-/* Commands of a journal, whose records are said by their members, as they are given; and of the seal of an image, and the newest of several. */
+/* Commands of a journal, whose records are said by their members, as they are given. And commands of the seal of an image, and of the
+   newest of several images. */
 #include "commands.h"
 #include <string.h>
 
