@@ -2,10 +2,6 @@
 #include "message_places.h"
 #include "monotonic.h"
 #include "output.h"
-#include "ptp4l_change.h"
-#include "ptp4l_mute.h"
-#include "ptp4l_socket.h"
-#include "ptp4l_values.h"
 #include "words.h"
 #include <errno.h>
 #include <stdlib.h>

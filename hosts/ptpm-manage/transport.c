@@ -8,7 +8,6 @@
 #include "netlink.h"
 #include "notices.h"
 #include "program.h"
-#include "route.h"
 #include "socket_option.h"
 #include "stopping.h"
 #include "udp.h"
