@@ -363,6 +363,7 @@ class Clocks(unittest.TestCase):
         with self.assertRaises(ptpm.Error) as caught:
             call()
         self.assertEqual(caught.exception.name, name)
+        self.assertRegex(str(caught.exception), f"^{name}: .")
 
 
 class Managers(unittest.TestCase):
