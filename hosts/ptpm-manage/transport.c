@@ -248,11 +248,18 @@ static void tell_bridge(const char *interface) {
     complain("%s is a part of %s, which takes what comes in there: --interface %s asks there", interface, bridge, bridge);
 }
 
+static bool is_running(int socket, const char *interface) {
+    struct ifreq request = { 0 };
+    snprintf(request.ifr_name, sizeof request.ifr_name, "%s", interface);
+    return ioctl(socket, SIOCGIFFLAGS, &request) || request.ifr_flags & IFF_RUNNING;
+}
+
 void tell_unfit_interfaces(void) {
     forget_networks();
     for (size_t i = 0; i < end_count; i++) {
         const char *interface = ends[i].interface;
         if (interface != NULL) tell_bridge(interface);
+        if (interface != NULL && !is_running(ends[i].socket, interface)) complain("%s has no carrier: nothing comes in there", interface);
         if (interface == NULL || is_ethernet) continue;
         unsigned index = index_of(ends[i].socket, interface);
         if (index == 0) complain("%s is gone", interface);

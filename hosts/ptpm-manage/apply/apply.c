@@ -76,6 +76,7 @@ static int carry_out(const struct task *task, struct journal *journal) {
     if (status == ANSWERED && journal->skipped != NULL) status = IN_PART;
     if (status == ANSWERED && find_rolled_back(&back_of, journal)) status = judge_left_out(task, &back_of);
     print_apply(journal, &back_of, status == LEFT_OPEN, task->is_json);
+    if (journal->ending == IS_OPEN) complain("it is open: ptpm-manage resume goes on with it, and resume --give-up ends it");
     leave_journal(&back_of);
     leave_sessions();
     return status;

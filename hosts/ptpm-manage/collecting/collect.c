@@ -534,7 +534,8 @@ static void advise_on_sdo(const struct domains *domains, const char *verb) {
 /* In what else clocks may be. A plan names its domains itself: there these are options of another verb. */
 static void advise_on_domains(const struct task *task, const struct domains *domains) {
     const char *verb = task->plan.verb == NO_PLAN ? "" : "status ";
-    if (!task->site.is_every_domain) complain("%s--domain all asks in each domain in which a clock is heard", verb);
+    if (task->path != NULL) complain("a clock in another domain or sdoId was not asked: %s--domain 0-127 and --sdo 0x100 ask there", verb);
+    else if (!task->site.is_every_domain) complain("%s--domain all asks in each domain in which a clock is heard", verb);
     if (!task->site.is_every_sdo) advise_on_sdo(domains, verb);
 }
 
