@@ -634,7 +634,7 @@ enum { PTPM_MOST_ANSWERS = 16384, PTPM_SURVEY_PORT = 65534 };
 #define PTPM_BAD_TEXT 23                /* the displayData of its error status is not a PTPText */
 
 /* Why nothing changed. */
-#define PTPM_NO_CLOCK 32                /* the handle holds none */
+#define PTPM_NO_CLOCK 32                /* the handle holds none; or the call is only for clocks that save, or that do not (ptpm_clock_saving) */
 #define PTPM_NO_PORT 33                 /* the clock lacks the port */
 #define PTPM_NO_ROOM 34                 /* the host gives too few places, or too few octets */
 #define PTPM_NO_MEMORY 35

@@ -5,9 +5,9 @@ struct v16u8 { u8 e[16]; };
 struct v64u8 { u8 e[64]; };
 struct s1 { u8 m0; u8 m1; };
 struct s2 { u8 m0; u64 m1; };
-struct s3 { u8 m0; address m1; };
-struct s4 { u8 m0; u16 m1; };
-struct s5 { address m0; u64 m1; };
+struct s3 { u8 m0; u16 m1; };
+struct s4 { address m0; u64 m1; };
+struct s5 { u8 m0; address m1; };
 
 struct pair portable_rattle_alloc(u64, u64);
 void portable_rattle_dealloc(address);
@@ -972,154 +972,151 @@ static void f18(address a0);
 static void f19(address a0, address a1, address a2, u64 a3, u16 a4, u8 a5);
 static void f20(address a0, address a1, u16 a2, address a3, u64 a4);
 static void f21(address a0, address a1);
-static void f22(address a0, address a1, u16 a2, address a3, u64 a4, address a5, u64 a6);
-static void f23(address a0, address a1, u16 a2, address a3, address a4, u64 a5);
-static void f24(address a0);
-static void f25(address a0, address a1, address a2, u64 a3);
-static void f26(address a0, address a1, address a2, u64 a3);
-static void f27(address a0, address a1, u64 a2);
-static u64 f28(address a0, u64 a1, u64 a2);
-static void f29(address a0, address a1);
-static void f30(address a0, u64 a1);
-static void f31(address a0, address a1, address a2, u16 a3, address a4, address a5, u64 a6);
-static void f32(address a0, address a1, address a2);
-static void f33(address a0, address a1, u8 a2, address a3);
-static void f34(address a0, u16 a1, u16 a2, u16 a3, address a4);
-static u8 f35(address a0, address a1, u64 a2);
-static void f36(address a0, u8 a1, u8 a2, address a3);
-static void f37(address a0, u16 a1, address a2);
-static void f38(address a0, u8 a1, address a2);
-static void f39(address a0, u8 a1, address a2);
-static void f40(address a0, address a1, address a2, u8 a3, u8 a4, address a5);
-static void f41(address a0, address a1, address a2);
-static u8 f42(address a0, u64 a1);
-static u8 f43(address a0, u64 a1, address a2, u64 a3);
-static void f44(address a0, address a1, u16 a2, address a3, u64 a4, address a5, u64 a6);
-static u8 f45(address a0, address a1);
-static u8 f46(address a0, address a1);
-static struct s1 f47(address a0, address a1, u16 a2, address a3);
-static void f48(address a0, address a1, u16 a2, address a3, u8 a4, address a5);
-static void f49(address a0, u16 a1, address a2, u8 a3, address a4);
-static void f50(address a0, address a1, u64 a2);
-static void f51(address a0, address a1, u64 a2);
-static void f52(address a0, address a1, u64 a2);
-static void f53(address a0, address a1);
-static void f54(address a0, u64 a1, address a2, address a3, u16 a4, address a5);
-static void f55(address a0, u8 a1, u16 a2, address a3, address a4, address a5);
-static void f56(address a0, u16 a1, address a2, address a3);
-static void f57(address a0, address a1, address a2);
+static void f22(address a0, address a1, u16 a2, address a3, u64 a4, address a5, u64 a6, address a7);
+static void f23(address a0, address a1, address a2, u8 a3);
+static u8 f24(address a0, address a1, u64 a2);
+static void f25(address a0, address a1, u64 a2);
+static u64 f26(address a0, u64 a1, u64 a2);
+static u8 f27(address a0, u64 a1);
+static u8 f28(address a0, u64 a1, address a2, u64 a3);
+static void f29(address a0, address a1, u16 a2, address a3);
+static void f30(address a0, address a1, u8 a2, address a3);
+static void f31(address a0, u16 a1, u16 a2, u16 a3, address a4);
+static void f32(address a0, u8 a1, u8 a2, address a3);
+static void f33(address a0, u64 a1);
+static void f34(address a0, u16 a1, address a2);
+static void f35(address a0, u8 a1, address a2);
+static void f36(address a0, u8 a1, address a2);
+static void f37(address a0, address a1, address a2, u8 a3, u8 a4, address a5);
+static void f38(address a0, address a1, u16 a2, address a3, u64 a4, address a5, u64 a6, address a7);
+static u8 f39(address a0, address a1);
+static u8 f40(address a0, address a1);
+static struct s1 f41(address a0, address a1, u16 a2, address a3);
+static void f42(address a0, u16 a1, address a2, u8 a3, address a4);
+static void f43(address a0, address a1, u64 a2);
+static void f44(address a0, address a1, u64 a2);
+static void f45(address a0, address a1, u64 a2);
+static void f46(address a0, address a1);
+static void f47(address a0, u64 a1, address a2, address a3, u16 a4, address a5);
+static void f48(address a0, u8 a1, u16 a2, address a3, address a4, address a5);
+static void f49(address a0, u16 a1, address a2, address a3);
+static void f50(address a0, address a1, address a2);
+static u8 f51(address a0, address a1, u64 a2, address a3);
+static void f52(address a0, address a1, u64 a2, address a3);
+static struct s1 f53(address a0, address a1);
+static void f54(address a0, address a1, u8 a2, u8 a3, address a4);
+static void f55(address a0, address a1, u16 a2, address a3, address a4, u64 a5);
+static u64 f56(address a0, address a1, u64 a2);
+static void f57(address a0, address a1, u16 a2, address a3, u64 a4, u8 a5, address a6, u64 a7, address a8);
 static u8 f58(address a0, address a1, u64 a2, address a3);
-static void f59(address a0, address a1, u64 a2, address a3);
-static struct s1 f60(address a0, address a1);
-static void f61(address a0, address a1, u8 a2, u8 a3, address a4);
-static void f62(address a0, address a1, u16 a2, address a3, address a4, u64 a5);
-static u64 f63(address a0, address a1, u64 a2);
-static void f64(address a0, address a1, u16 a2, address a3, u64 a4, u8 a5, address a6, u64 a7);
-static u8 f65(address a0, address a1, u64 a2, address a3);
-static void f66(address a0, address a1, address a2);
-static void f67(address a0, u8 a1, address a2);
-static void f68(address a0, address a1, address a2, u8 a3, address a4);
-static void f69(address a0, address a1, u16 a2, address a3, u64 a4, address a5, u64 a6, address a7, u64 a8);
-static u8 f70(address a0);
-static u8 f71(address a0, address a1);
-static void f72(address a0, address a1, address a2, u64 a3);
-static void f73(address a0, address a1, u64 a2);
-static void f74(address a0, address a1, u8 a2, address a3);
-static void f75(address a0, u8 a1, address a2);
-static void f76(address a0, address a1, address a2, u8 a3, u8 a4, address a5);
+static void f59(address a0, address a1, address a2);
+static void f60(address a0, u8 a1, address a2);
+static void f61(address a0, address a1, address a2, u8 a3, address a4);
+static void f62(address a0, address a1, u16 a2, address a3, u64 a4, address a5, u64 a6, address a7, u64 a8, address a9);
+static u8 f63(address a0);
+static u8 f64(address a0, address a1);
+static void f65(address a0, address a1, address a2, u64 a3);
+static void f66(address a0, address a1, u64 a2);
+static void f67(address a0, address a1, u8 a2, address a3);
+static void f68(address a0, u8 a1, address a2);
+static void f69(address a0, address a1, address a2, u8 a3, u8 a4, address a5);
+static void f70(address a0, address a1);
+static void f71(address a0, u64 a1, address a2, address a3, u16 a4, address a5);
+static void f72(address a0, address a1, address a2);
+static struct s2 f73(address a0, address a1, u64 a2);
+static struct s2 f74(address a0, address a1, u64 a2);
+static void f75(address a0, address a1);
+static void f76(address a0, address a1);
 static void f77(address a0, address a1);
-static void f78(address a0, u64 a1, address a2, address a3, u16 a4, address a5);
-static void f79(address a0, address a1, address a2);
-static struct s2 f80(address a0, address a1, u64 a2);
-static struct s2 f81(address a0, address a1, u64 a2);
-static void f82(address a0, address a1);
-static void f83(address a0, address a1);
-static void f84(address a0, address a1);
-static u32 f85(address a0, u16 a1, address a2, u64 a3, address a4, u8 a5, address a6, u64 a7, address a8);
-static u8 f86(address a0, address a1, u64 a2);
-static void f87(address a0, address a1, address a2, u64 a3, address a4, u64 a5);
-static u64 f88(u8 a0, u8 a1);
-static void f89(address a0, address a1, address a2, u64 a3, address a4);
-static struct s4 f90(u16 a0, address a1, u64 a2);
-static struct s1 f91(address a0, u64 a1);
-static void f92(address a0, u8 a1, u8 a2);
-static struct s1 f93(address a0, u64 a1);
-static struct s5 f94(address a0);
-static struct s5 f95(u8 a0, u8 a1);
-static u64 f96(u16 a0, address a1);
-static void f97(u8 a0, u8 a1, address a2);
-static struct s5 f98(u16 a0, address a1, u64 a2);
-static struct s5 f99(address a0, u64 a1);
-static void f100(address a0, u8 a1, u8 a2, address a3, u64 a4);
-static void f101(u64 a0, address a1);
-static struct s5 f102(address a0, u64 a1);
-static struct s4 f103(address a0, u64 a1);
-static struct s4 f104(address a0, u64 a1);
-static void f105(address a0, address a1, u64 a2);
-static u32 f106(address a0, u64 a1, address a2, u64 a3);
-static void f107(address a0, address a1, u64 a2);
-static void f108(address a0, address a1, address a2, address a3, u64 a4, address a5, u64 a6, address a7, u64 a8);
-static u8 f109(address a0, address a1);
-static u8 f110(address a0, address a1);
-static u8 f111(address a0);
-static u8 f112(address a0);
-static void f113(address a0, address a1, address a2, u64 a3);
-static void f114(address a0, address a1);
-static u8 f115(address a0, u64 a1, address a2);
-static void f116(address a0, address a1, u64 a2);
-static void f117(address a0, address a1, u64 a2);
-static u8 f118(u64 a0, address a1, u64 a2, address a3, u64 a4, u64 a5);
-static void f119(address a0, u32 a1, address a2, u64 a3);
-static u64 f120(address a0, u64 a1, u64 a2);
-static void f121(address a0, u16 a1, address a2, u64 a3);
-static void f122(address a0, u64 a1, address a2);
-static void f123(u8 a0, address a1);
-static u8 f124(address a0, address a1, u64 a2);
-static u8 f125(address a0, u64 a1);
-static u8 f126(address a0, address a1, u64 a2);
-static void f127(u64 a0, address a1);
-static void f128(address a0, u64 a1);
-static void f129(address a0, u64 a1);
-static void f130(address a0, address a1, u64 a2);
-static void f131(address a0, u16 a1, u8 a2);
-static void f132(address a0, u64 a1, u8 a2, u16 a3, address a4, u64 a5);
-static void f133(address a0, u64 a1, u16 a2, u8 a3);
-static u8 f134(address a0);
-static u8 f135(address a0);
-static u8 f136(address a0, u64 a1);
-static void f137(address a0, address a1, u64 a2, address a3, address a4, u16 a5, u16 a6);
-static struct s1 f138(address a0, u64 a1);
-static void f139(address a0, address a1, u64 a2, address a3, u64 a4, address a5, u64 a6);
-static void f140(address a0, address a1, u64 a2, address a3, u64 a4, address a5, u64 a6);
-static struct s1 f141(address a0, u64 a1, address a2);
-static struct s1 f142(address a0, u64 a1, address a2);
-static struct s1 f143(address a0, address a1, u64 a2);
+static u32 f78(address a0, u16 a1, address a2, u64 a3, address a4, u8 a5, address a6, u64 a7, address a8);
+static u8 f79(address a0, address a1, u64 a2);
+static void f80(address a0, address a1, address a2, u64 a3, address a4, u64 a5);
+static u64 f81(u8 a0, u8 a1);
+static void f82(address a0, address a1, address a2, u64 a3, address a4);
+static struct s3 f83(u16 a0, address a1, u64 a2);
+static struct s1 f84(address a0, u64 a1);
+static void f85(address a0, u8 a1, u8 a2);
+static struct s1 f86(address a0, u64 a1);
+static struct s4 f87(address a0);
+static struct s4 f88(u8 a0, u8 a1);
+static u64 f89(u16 a0, address a1);
+static void f90(u8 a0, u8 a1, address a2);
+static struct s4 f91(u16 a0, address a1, u64 a2);
+static struct s4 f92(address a0, u64 a1);
+static void f93(address a0, u8 a1, u8 a2, address a3, u64 a4);
+static void f94(u64 a0, address a1);
+static struct s4 f95(address a0, u64 a1);
+static struct s3 f96(address a0, u64 a1);
+static struct s3 f97(address a0, u64 a1);
+static void f98(address a0, address a1, u64 a2);
+static u32 f99(address a0, u64 a1, address a2, u64 a3);
+static void f100(address a0, address a1, u64 a2);
+static void f101(address a0, address a1, address a2, address a3, u64 a4, address a5, u64 a6, address a7, u64 a8);
+static u8 f102(address a0, address a1);
+static u8 f103(address a0, address a1);
+static u8 f104(address a0);
+static u8 f105(address a0);
+static void f106(address a0, address a1, address a2, u64 a3);
+static void f107(address a0, address a1);
+static u8 f108(address a0, u64 a1, address a2);
+static void f109(address a0, address a1, u64 a2);
+static void f110(address a0, address a1, u64 a2);
+static u8 f111(u64 a0, address a1, u64 a2, address a3, u64 a4, u64 a5);
+static void f112(address a0, u32 a1, address a2, u64 a3);
+static u64 f113(address a0, u64 a1, u64 a2);
+static void f114(address a0, u16 a1, address a2, u64 a3);
+static void f115(address a0, u64 a1, address a2);
+static void f116(u8 a0, address a1);
+static u8 f117(address a0, address a1, u64 a2);
+static u8 f118(address a0, u64 a1);
+static u8 f119(address a0, address a1, u64 a2);
+static void f120(u64 a0, address a1);
+static void f121(address a0, u64 a1);
+static void f122(address a0, u64 a1);
+static void f123(address a0, address a1, u64 a2);
+static void f124(address a0, u16 a1, u8 a2);
+static void f125(address a0, u64 a1, u8 a2, u16 a3, address a4, u64 a5);
+static void f126(address a0, u64 a1, u16 a2, u8 a3);
+static u8 f127(address a0);
+static u8 f128(address a0);
+static u8 f129(address a0, u64 a1);
+static void f130(address a0, address a1, u64 a2, address a3, address a4, u16 a5, u16 a6);
+static struct s1 f131(address a0, u64 a1);
+static void f132(address a0, address a1, u64 a2, address a3, u64 a4, address a5, u64 a6);
+static void f133(address a0, address a1, u64 a2, address a3, u64 a4, address a5, u64 a6);
+static void f134(address a0);
+static void f135(address a0, address a1, address a2, u64 a3);
+static void f136(address a0, address a1, address a2, u64 a3);
+static void f137(address a0, address a1);
+static struct s1 f138(address a0, u64 a1, address a2);
+static struct s1 f139(address a0, u64 a1, address a2);
+static struct s1 f140(address a0, address a1, u64 a2);
+static void f141(address a0, address a1, address a2, u64 a3);
+static u8 f142(address a0, address a1, address a2, u64 a3);
+static struct s1 f143(address a0, address a1, address a2, u64 a3);
 static void f144(address a0, address a1, address a2, u64 a3);
-static u8 f145(address a0, address a1, address a2, u64 a3);
-static struct s1 f146(address a0, address a1, address a2, u64 a3);
-static void f147(address a0, address a1, address a2, u64 a3);
-static u8 f148(address a0, address a1, u64 a2);
-static struct s1 f149(address a0, u16 a1);
-static u8 f150(address a0, address a1);
-static void f151(address a0, address a1, u64 a2, address a3);
-static u8 f152(u8 a0, u8 a1, address a2, u64 a3);
-static void f153(address a0, address a1, u16 a2, address a3, u64 a4);
-static struct s3 f154(address a0, address a1);
-static struct s1 f155(address a0, u64 a1, address a2);
-static u8 f156(address a0, address a1, address a2);
-static void f157(address a0, address a1, address a2, u64 a3, address a4, u64 a5);
-static u8 f158(address a0);
-static u8 f159(address a0);
-static u8 f160(address a0);
-static u32 f161(address a0, address a1);
-static void f162(address a0, address a1, address a2, address a3, u64 a4);
-static void f163(address a0, address a1);
-static void f164(address a0, address a1, address a2, address a3, u64 a4);
-static void f165(address a0, address a1, address a2, address a3);
-static void f166(address a0, address a1, address a2, address a3, u64 a4);
-static void f167(address a0, address a1, u8 a2, u16 a3, u16 a4, address a5, u64 a6);
-static void f168(address a0, address a1, u16 a2, address a3, u64 a4);
-static void f169(address a0, address a1, u16 a2, address a3, u64 a4);
+static u8 f145(address a0, address a1, u64 a2);
+static struct s1 f146(address a0, u16 a1);
+static u8 f147(address a0, address a1);
+static void f148(address a0, address a1, u64 a2, address a3);
+static u8 f149(u8 a0, u8 a1, address a2, u64 a3);
+static void f150(address a0, address a1, u16 a2, address a3, u64 a4);
+static struct s5 f151(address a0, address a1);
+static struct s1 f152(address a0, u64 a1, address a2);
+static u8 f153(address a0, address a1, address a2);
+static void f154(address a0, address a1, address a2, u64 a3, address a4, u64 a5);
+static u8 f155(address a0);
+static u8 f156(address a0);
+static u8 f157(address a0);
+static u32 f158(address a0, address a1);
+static void f159(address a0, address a1, address a2, address a3, u64 a4);
+static void f160(address a0, address a1);
+static void f161(address a0, address a1, address a2, address a3, u64 a4);
+static void f162(address a0, address a1, address a2, address a3);
+static void f163(address a0, address a1, address a2, address a3, u64 a4);
+static void f164(address a0, address a1, u8 a2, u16 a3, u16 a4, address a5, u64 a6);
+static void f165(address a0, address a1, u16 a2, address a3, u64 a4);
+static void f166(address a0, address a1, u16 a2, address a3, u64 a4);
 u64 portable_ptpm_answer_name(u32 a0, address a1, u64 a2);
 u32 portable_ptpm_asker_ask(address a0, u64 a1, u64 a2, u8 a3, u16 a4, u16 a5, address a6, u64 a7, u8 a8, address a9);
 u32 portable_ptpm_asker_earlier(address a0, u8 a1, address a2);
@@ -4099,180 +4096,184 @@ L13:;
     return;
 }
 
-static void f22(address a0, address a1, u16 a2, address a3, u64 a4, address a5, u64 a6) {
-    u8 v7, v8, v9, v10, v11, v12, v16, v17, v18, v19, v21, v22, v23, v25, v27, v33;
-    u8 v35, v36, v38, v40, v45, v47, v48, v50, v54, v58, v60, v61, v62, v63, v64, v65;
-    u8 v67, v69, v71, v73, v74, v85, v87, v88, v89, v91, v93, v94, v97, v101, v103, v108;
-    u8 v109, v110, v112, v113, v118, v121;
-    address v13, v14, v15, v20, v24, v26, v37, v39, v46, v49, v53, v66, v68, v70, v72, v79;
-    address v80, v81, v82, v83, v86, v90, v92, v95, v98, v100, v102, v111, v115, v119, v122, v123;
-    u16 v28, v29, v30, v31, v34, v41, v42, v43, v44, v104, v105, v106, v107, v117;
-    u64 v32, v51, v52, v55, v56, v57, v59, v75, v76, v77, v78, v84, v96, v99, v114, v116;
-    u64 v120;
-    u64 block0[1];
-    u64 block1[12];
-    u64 block2[3];
-    v13 = ADDRESS(block0);
-    v14 = ADDRESS(block1);
-    v15 = ADDRESS(block2);
-    memory_set(v14, 0u, 96u);
-    memory_set(v13, 0u, 3u);
-    v16 = a4 < 54u;
-    if (v16) { goto L6; }
+static void f22(address a0, address a1, u16 a2, address a3, u64 a4, address a5, u64 a6, address a7) {
+    u8 v8, v9, v10, v11, v12, v13, v20, v21, v22, v23, v25, v26, v27, v29, v31, v37;
+    u8 v39, v40, v42, v44, v49, v51, v52, v54, v58, v62, v64, v65, v66, v67, v68, v69;
+    u8 v71, v73, v74, v76, v78, v79, v86, v88, v89, v90, v92, v94, v95, v98, v102, v104;
+    u8 v109, v110, v111, v113, v114, v119, v120, v123, v130, v132, v134, v136, v138, v140, v144, v146;
+    u8 v173, v175, v197, v198, v199, v205, v208, v210;
+    address v14, v15, v16, v17, v18, v19, v24, v28, v30, v41, v43, v50, v53, v57, v70, v72;
+    address v75, v77, v84, v87, v91, v93, v96, v99, v101, v103, v112, v116, v121, v122, v124, v125;
+    address v127, v128, v129, v131, v133, v135, v137, v139, v143, v145, v147, v149, v163, v164, v165, v166;
+    address v167, v168, v169, v170, v171, v176, v177, v178, v180, v182, v184, v185, v186, v188, v189, v194;
+    address v196, v201, v202, v203, v206, v207, v209, v211, v212;
+    u16 v32, v33, v34, v35, v38, v45, v46, v47, v48, v105, v106, v107, v108, v118, v151, v152;
+    u16 v153, v154, v155, v156, v157, v158, v159, v160, v161, v162, v179, v181, v183, v187, v195;
+    u64 v36, v55, v56, v59, v60, v61, v63, v80, v81, v82, v83, v85, v97, v100, v115, v117;
+    u64 v126, v141, v142, v148, v150, v172, v200, v204, v213;
+    u32 v174, v190, v191, v192, v193;
+    u64 block0[3];
+    u64 block1[9];
+    u64 block2[9];
+    u64 block3[3];
+    u64 block4[1];
+    u64 block5[2];
+    v14 = ADDRESS(block0);
+    v15 = ADDRESS(block1);
+    v16 = ADDRESS(block2);
+    v17 = ADDRESS(block3);
+    v18 = ADDRESS(block4);
+    v19 = ADDRESS(block5);
+    memory_set(v19, 0u, 16u);
+    memory_set(v18, 0u, 3u);
+    v20 = a4 < 54u;
+    if (v20) { goto L6; }
     else { goto L1; }
 L1:;
-    v17 = load8(a3);
-    v18 = (u8)((u32)v17 & (u32)15u);
-    v19 = v18 == 13u;
-    if (v19) { goto L2; }
+    v21 = load8(a3);
+    v22 = (u8)((u32)v21 & (u32)15u);
+    v23 = v22 == 13u;
+    if (v23) { goto L2; }
     else { goto L6; }
 L2:;
-    v20 = a3 + 1u * 1u;
-    v21 = load8(v20);
-    v22 = (u8)((u32)v21 & (u32)15u);
-    v23 = v22 == 2u;
-    if (v23) { goto L3; }
+    v24 = a3 + 1u * 1u;
+    v25 = load8(v24);
+    v26 = (u8)((u32)v25 & (u32)15u);
+    v27 = v26 == 2u;
+    if (v27) { goto L3; }
     else { goto L6; }
 L3:;
-    v24 = a3 + 2u * 1u;
-    v25 = load8(v24);
-    v26 = a3 + 3u * 1u;
-    v27 = load8(v26);
-    v28 = (u16)v25;
-    v29 = (u16)((u32)v28 << (8u & 15u));
-    v30 = (u16)v27;
-    v31 = (u16)((u32)v29 | (u32)v30);
-    v32 = (u64)v31;
-    v33 = a4 < v32;
-    v34 = (u16)((u32)v31 + (u32)64063u);
-    v35 = v34 < 64117u;
-    v36 = (u8)(((u32)v35 | (u32)v33) & UINT64_C(1));
-    if (v36) { goto L6; }
+    v28 = a3 + 2u * 1u;
+    v29 = load8(v28);
+    v30 = a3 + 3u * 1u;
+    v31 = load8(v30);
+    v32 = (u16)v29;
+    v33 = (u16)((u32)v32 << (8u & 15u));
+    v34 = (u16)v31;
+    v35 = (u16)((u32)v33 | (u32)v34);
+    v36 = (u64)v35;
+    v37 = a4 < v36;
+    v38 = (u16)((u32)v35 + (u32)64063u);
+    v39 = v38 < 64117u;
+    v40 = (u8)(((u32)v39 | (u32)v37) & UINT64_C(1));
+    if (v40) { goto L6; }
     else { goto L4; }
 L4:;
-    v37 = a3 + 48u * 1u;
-    v38 = load8(v37);
-    v39 = a3 + 49u * 1u;
-    v40 = load8(v39);
-    v41 = (u16)v38;
-    v42 = (u16)((u32)v41 << (8u & 15u));
-    v43 = (u16)v40;
-    v44 = (u16)((u32)v42 | (u32)v43);
-    v45 = v44 == 1u;
-    if (v45) { goto L5; }
+    v41 = a3 + 48u * 1u;
+    v42 = load8(v41);
+    v43 = a3 + 49u * 1u;
+    v44 = load8(v43);
+    v45 = (u16)v42;
+    v46 = (u16)((u32)v45 << (8u & 15u));
+    v47 = (u16)v44;
+    v48 = (u16)((u32)v46 | (u32)v47);
+    v49 = v48 == 1u;
+    if (v49) { goto L5; }
     else { goto L6; }
 L5:;
-    v46 = a3 + 46u * 1u;
-    v47 = load8(v46);
-    v48 = (u8)((u32)v47 & (u32)15u);
-    v49 = a3 + 50u * 1u;
-    v50 = load8(v49);
-    v51 = (u64)v50;
-    v52 = (u64)((u64)v51 << (8u & 63u));
-    v53 = a3 + 51u * 1u;
+    v50 = a3 + 46u * 1u;
+    v51 = load8(v50);
+    v52 = (u8)((u32)v51 & (u32)15u);
+    v53 = a3 + 50u * 1u;
     v54 = load8(v53);
     v55 = (u64)v54;
-    v56 = (u64)((u64)v52 | (u64)v55);
-    v57 = (u64)((u64)v56 + (u64)52u);
-    v58 = v57 == v32;
-    v59 = (u64)((u64)v32 & (u64)1u);
-    v60 = v59 == 0u;
-    v61 = (u8)(((u32)v60 & (u32)v58) & UINT64_C(1));
-    v62 = v48 < 5u;
-    v63 = v61 ? v62 : 0u;
-    if (v63) { v7 = v17; v8 = v27; v9 = v25; v10 = v48; v11 = 0u; goto L8; }
+    v56 = (u64)((u64)v55 << (8u & 63u));
+    v57 = a3 + 51u * 1u;
+    v58 = load8(v57);
+    v59 = (u64)v58;
+    v60 = (u64)((u64)v56 | (u64)v59);
+    v61 = (u64)((u64)v60 + (u64)52u);
+    v62 = v61 == v36;
+    v63 = (u64)((u64)v36 & (u64)1u);
+    v64 = v63 == 0u;
+    v65 = (u8)(((u32)v64 & (u32)v62) & UINT64_C(1));
+    v66 = v52 < 5u;
+    v67 = v65 ? v66 : 0u;
+    if (v67) { v8 = v21; v9 = v31; v10 = v29; v11 = v52; v12 = 1u; goto L8; }
     else { goto L6; }
 L6:;
-    f8(v13, a3, a4);
-    v64 = load8(v13);
-    v65 = v64 == 0u;
-    if (v65) { goto L7; }
+    f8(v18, a3, a4);
+    v68 = load8(v18);
+    v69 = v68 == 0u;
+    if (v69) { goto L7; }
     else { goto L18; }
 L7:;
-    v66 = v13 + 1u * 1u;
-    v67 = load8(v66);
-    v68 = v13 + 2u * 1u;
-    v69 = load8(v68);
-    v70 = a3 + 2u * 1u;
+    v70 = v18 + 1u * 1u;
     v71 = load8(v70);
-    v72 = a3 + 3u * 1u;
+    v72 = v18 + 2u * 1u;
     v73 = load8(v72);
-    v74 = load8(a3);
-    v7 = v74; v8 = v73; v9 = v71; v10 = v67; v11 = v69; goto L8;
+    v74 = v73 == 0u;
+    v75 = a3 + 2u * 1u;
+    v76 = load8(v75);
+    v77 = a3 + 3u * 1u;
+    v78 = load8(v77);
+    v79 = load8(a3);
+    v8 = v79; v9 = v78; v10 = v76; v11 = v71; v12 = v74; goto L8;
 L8:;
-    v75 = (u64)v9;
-    v76 = (u64)((u64)v75 << (8u & 63u));
-    v77 = (u64)v8;
-    v78 = (u64)((u64)v76 | (u64)v77);
-    store_address(v15, a3);
-    v79 = v15 + 8u * 1u;
-    store64(v79, v78);
-    v80 = v15 + 16u * 1u;
-    store8(v80, v10);
-    v81 = v15 + 17u * 1u;
-    store8(v81, v11);
-    v82 = v15 + 18u * 1u;
-    memory_set(v82, 0u, 6u);
-    v83 = a1 + 384u * 1u;
-    v84 = load64(v83);
-    v85 = (u8)((u32)v7 >> (4u & 7u));
-    v86 = a3 + 5u * 1u;
-    v87 = load8(v86);
-    v88 = (u8)((u32)v85 | (u32)v87);
-    v89 = v88 == 0u;
-    if (v89) { goto L9; }
-    else { v12 = 1u; goto L20; }
+    v80 = (u64)v10;
+    v81 = (u64)((u64)v80 << (8u & 63u));
+    v82 = (u64)v9;
+    v83 = (u64)((u64)v81 | (u64)v82);
+    v84 = a1 + 384u * 1u;
+    v85 = load64(v84);
+    v86 = (u8)((u32)v8 >> (4u & 7u));
+    v87 = a3 + 5u * 1u;
+    v88 = load8(v87);
+    v89 = (u8)((u32)v86 | (u32)v88);
+    v90 = v89 == 0u;
+    if (v90) { goto L9; }
+    else { v13 = 1u; goto L20; }
 L9:;
-    v90 = a3 + 4u * 1u;
-    v91 = load8(v90);
-    v92 = a1 + 8u * 1u;
-    v93 = load8(v92);
-    v94 = v91 == v93;
-    if (v94) { goto L10; }
-    else { v12 = 1u; goto L20; }
+    v91 = a3 + 4u * 1u;
+    v92 = load8(v91);
+    v93 = a1 + 8u * 1u;
+    v94 = load8(v93);
+    v95 = v92 == v94;
+    if (v95) { goto L10; }
+    else { v13 = 1u; goto L20; }
 L10:;
-    v95 = a3 + 20u * 1u;
-    v96 = load64(v95);
-    v97 = v96 == v84;
-    if (v97) { v12 = 2u; goto L20; }
+    v96 = a3 + 20u * 1u;
+    v97 = load64(v96);
+    v98 = v97 == v85;
+    if (v98) { v13 = 2u; goto L20; }
     else { goto L11; }
 L11:;
-    v98 = a3 + 34u * 1u;
-    v99 = load64(v98);
-    v100 = a3 + 42u * 1u;
-    v101 = load8(v100);
-    v102 = a3 + 43u * 1u;
-    v103 = load8(v102);
-    v104 = (u16)v101;
-    v105 = (u16)((u32)v104 << (8u & 15u));
-    v106 = (u16)v103;
-    v107 = (u16)((u32)v105 | (u32)v106);
-    v108 = v99 == v84;
-    v109 = v99 == UINT64_C(18446744073709551615);
-    v110 = (u8)(((u32)v109 | (u32)v108) & UINT64_C(1));
-    if (v110) { goto L12; }
-    else { v12 = 3u; goto L20; }
+    v99 = a3 + 34u * 1u;
+    v100 = load64(v99);
+    v101 = a3 + 42u * 1u;
+    v102 = load8(v101);
+    v103 = a3 + 43u * 1u;
+    v104 = load8(v103);
+    v105 = (u16)v102;
+    v106 = (u16)((u32)v105 << (8u & 15u));
+    v107 = (u16)v104;
+    v108 = (u16)((u32)v106 | (u32)v107);
+    v109 = v100 == v85;
+    v110 = v100 == UINT64_C(18446744073709551615);
+    v111 = (u8)(((u32)v110 | (u32)v109) & UINT64_C(1));
+    if (v111) { goto L12; }
+    else { v13 = 3u; goto L20; }
 L12:;
-    switch (v107) {
+    switch (v108) {
     case 65535u: goto L14;
-    case 0u: v12 = 3u; goto L20;
+    case 0u: v13 = 3u; goto L20;
     default: goto L13;
     }
 L13:;
-    v111 = a1 + 240u * 1u;
-    v112 = load8(v111);
-    v113 = v112 == 0u;
-    v114 = v113 ? 376u : 256u;
-    v115 = a1 + v114 * 1u;
-    v116 = load64(v115);
-    v117 = (u16)(v116);
-    v118 = v107 > v117;
-    if (v118) { v12 = 3u; goto L20; }
+    v112 = a1 + 240u * 1u;
+    v113 = load8(v112);
+    v114 = v113 == 0u;
+    v115 = v114 ? 376u : 256u;
+    v116 = a1 + v115 * 1u;
+    v117 = load64(v116);
+    v118 = (u16)(v117);
+    v119 = v108 > v118;
+    if (v119) { v13 = 3u; goto L20; }
     else { goto L14; }
 L14:;
-    switch (v10) {
-    case 2u: v12 = 4u; goto L20;
-    case 4u: v12 = 4u; goto L20;
+    switch (v11) {
+    case 2u: v13 = 4u; goto L20;
+    case 4u: v13 = 4u; goto L20;
     case 0u: goto L16;
     case 1u: goto L16;
     case 3u: goto L16;
@@ -4281,864 +4282,806 @@ L14:;
 L15:;
     UNREACHABLE;
 L16:;
-    if (v108) { goto L19; }
-    else { v12 = 9u; goto L20; }
+    if (v109) { goto L19; }
+    else { v13 = 9u; goto L20; }
 L17:;
-    memory_cpy(a0, v14, 96u);
     return;
 L18:;
-    f44(v14, a1, a2, a3, a4, a5, a6);
+    f38(v19, a1, a2, a3, a4, a5, a6, a7);
+    v120 = load8(v19);
+    store8(a0, v120);
+    v121 = a0 + 1u * 1u;
+    v122 = v19 + 1u * 1u;
+    v123 = load8(v122);
+    store8(v121, v123);
+    v124 = a0 + 8u * 1u;
+    v125 = v19 + 8u * 1u;
+    v126 = load64(v125);
+    store64(v124, v126);
     goto L17;
 L19:;
-    f23(v14, a1, a2, v15, a5, a6);
+    store_address(v17, a5);
+    v127 = v17 + 8u * 1u;
+    store64(v127, a6);
+    v128 = v17 + 16u * 1u;
+    store64(v128, 0u);
+    memory_set(v15, 0u, 68u);
+    v129 = a3 + 28u * 1u;
+    v130 = load8(v129);
+    v131 = a3 + 29u * 1u;
+    v132 = load8(v131);
+    v133 = a3 + 30u * 1u;
+    v134 = load8(v133);
+    v135 = a3 + 31u * 1u;
+    v136 = load8(v135);
+    v137 = a3 + 44u * 1u;
+    v138 = load8(v137);
+    v139 = a3 + 45u * 1u;
+    v140 = load8(v139);
+    v141 = v12 ? 52u : 54u;
+    v142 = v12 ? 53u : 55u;
+    v143 = a3 + v141 * 1u;
+    v144 = load8(v143);
+    v145 = a3 + v142 * 1u;
+    v146 = load8(v145);
+    v147 = a3 + 54u * 1u;
+    v148 = (u64)((u64)v83 + (u64)UINT64_C(18446744073709551562));
+    v149 = v12 ? v147 : ADDRESS(c155);
+    v150 = v12 ? v148 : 0u;
+    v151 = (u16)v134;
+    v152 = (u16)((u32)v151 << (8u & 15u));
+    v153 = (u16)v136;
+    v154 = (u16)((u32)v152 | (u32)v153);
+    v155 = (u16)v130;
+    v156 = (u16)((u32)v155 << (8u & 15u));
+    v157 = (u16)v132;
+    v158 = (u16)((u32)v156 | (u32)v157);
+    v159 = (u16)v144;
+    v160 = (u16)((u32)v159 << (8u & 15u));
+    v161 = (u16)v146;
+    v162 = (u16)((u32)v160 | (u32)v161);
+    store8(v14, v11);
+    v163 = v14 + 1u * 1u;
+    store8(v163, 0u);
+    v164 = v14 + 2u * 1u;
+    store16(v164, v162);
+    v165 = v14 + 4u * 1u;
+    store16(v165, v108);
+    v166 = v14 + 6u * 1u;
+    store16(v166, 0u);
+    v167 = v14 + 8u * 1u;
+    store_address(v167, v149);
+    v168 = v14 + 16u * 1u;
+    store64(v168, v150);
+    f23(v15, a1, v14, 7u);
+    v169 = v16 + 54u * 1u;
+    v170 = v16 + 56u * 1u;
+    v171 = v16 + 64u * 1u;
+    memory_set(v16, 0u, 64u);
+    store_address(v171, v17);
+    v172 = load64(v84);
+    v173 = v11 > 2u;
+    v174 = v173 ? UINT32_C(262144) : UINT32_C(131072);
+    v175 = v138 > v140 ? (u8)((u32)v138 - (u32)v140) : 0u;
+    store16(v169, v162);
+    store16(v170, a2);
+    v176 = v16 + 48u * 1u;
+    store16(v16, 4621u);
+    v177 = v16 + 2u * 1u;
+    store16(v177, 13824u);
+    v178 = v16 + 4u * 1u;
+    v179 = (u16)v92;
+    store16(v178, v179);
+    v180 = v16 + 20u * 1u;
+    store64(v180, v172);
+    v181 = swap16(a2);
+    v182 = v16 + 28u * 1u;
+    store16(v182, v181);
+    v183 = swap16(v154);
+    v184 = v16 + 30u * 1u;
+    store16(v184, v183);
+    v185 = v16 + 32u * 1u;
+    store16(v185, 32516u);
+    v186 = v16 + 34u * 1u;
+    store64(v186, v97);
+    v187 = swap16(v158);
+    v188 = v16 + 42u * 1u;
+    store16(v188, v187);
+    v189 = v16 + 44u * 1u;
+    v190 = (u32)v175;
+    v191 = (u32)((u32)v190 << (8u & 31u));
+    v192 = (u32)((u32)v191 | (u32)v174);
+    v193 = (u32)((u32)v192 | (u32)v190);
+    store32(v189, v193);
+    store16(v176, 256u);
+    v194 = v16 + 50u * 1u;
+    store16(v194, 512u);
+    v195 = swap16(v162);
+    v196 = v16 + 52u * 1u;
+    store16(v196, v195);
+    f30(a1, v14, 7u, v16);
+    memory_cpy(a7, v15, 68u);
+    v197 = (u8)((u32)v11 & (u32)253u);
+    v198 = v197 == 1u;
+    v199 = v198 ? 5u : 9u;
+    v200 = load64(v128);
+    store8(a0, v199);
+    v201 = a0 + 1u * 1u;
+    store8(v201, 0u);
+    v202 = a0 + 8u * 1u;
+    store64(v202, v200);
     goto L17;
 L20:;
-    v119 = a3 + 34u * 1u;
-    v120 = load64(v119);
-    v121 = v120 == v84;
-    if (v121) { goto L21; }
+    v203 = a3 + 34u * 1u;
+    v204 = load64(v203);
+    v205 = v204 == v85;
+    v206 = a0 + 1u * 1u;
+    if (v205) { goto L21; }
     else { goto L22; }
 L21:;
-    store8(v14, v12);
-    v122 = v14 + 1u * 1u;
-    store8(v122, 0u);
-    v123 = v14 + 8u * 1u;
-    memory_set(v123, 0u, 84u);
+    memory_set(a7, 0u, 68u);
+    store8(a0, v13);
+    store8(v206, 0u);
+    v207 = a0 + 8u * 1u;
+    store64(v207, 0u);
     goto L17;
 L22:;
-    f44(v14, a1, a2, a3, a4, a5, a6);
+    f38(v19, a1, a2, a3, a4, a5, a6, a7);
+    v208 = load8(v19);
+    store8(a0, v208);
+    v209 = v19 + 1u * 1u;
+    v210 = load8(v209);
+    store8(v206, v210);
+    v211 = a0 + 8u * 1u;
+    v212 = v19 + 8u * 1u;
+    v213 = load64(v212);
+    store64(v211, v213);
     goto L17;
 }
 
-static void f23(address a0, address a1, u16 a2, address a3, address a4, u64 a5) {
-    address v6, v7, v8, v9, v10, v11, v14, v16, v18, v23, v24, v25, v29, v30, v31, v32;
-    address v33;
-    u64 v12, v13, v19;
-    u8 v15, v17, v20, v21, v22, v26, v27, v28;
-    u64 block0[48];
+static void f23(address a0, address a1, address a2, u8 a3) {
+    u8 v4, v5, v6, v7, v8, v9, v10, v11, v12, v13, v14, v32, v33, v36, v37, v42;
+    u8 v43, v44, v49, v50, v51, v52, v53, v56, v57, v60, v61, v64, v68, v69, v74, v76;
+    u8 v80, v83, v86, v88, v89, v90, v91, v92, v93, v96, v97, v98, v99, v102, v103, v104;
+    u8 v105, v108, v109, v110, v111, v112, v115, v116, v117, v119, v120, v121, v123, v127, v130, v131;
+    u8 v134, v138, v141, v142, v145, v149, v152, v153, v156, v158, v159, v164, v165, v167, v172, v173;
+    u8 v174, v175, v176, v178, v180, v181, v183, v184, v186, v187, v198;
+    address v15, v20, v24, v25, v26, v27, v28, v29, v30, v31, v34, v38, v39, v40, v65, v66;
+    address v67, v70, v72, v75, v78, v81, v84, v85, v94, v95, v100, v101, v106, v107, v113, v114;
+    address v122, v124, v128, v133, v135, v140, v144, v146, v151, v155, v157, v161, v162, v163, v166, v179;
+    address v182, v185, v197, v199, v200, v202, v203, v205, v206, v208, v209;
+    u64 v16, v17, v41, v45, v46, v47, v48, v54, v55, v58, v59, v62, v63, v73, v77, v79;
+    u64 v82, v87, v118, v125, v126, v136, v137, v147, v148;
+    u32 v18, v19, v21, v22, v23, v129, v132, v139, v143, v150, v154, v160, v188, v189, v190, v191;
+    u32 v192, v193, v194, v195, v196, v201, v207;
+    u16 v35, v71, v168, v169, v170, v171, v177, v204;
+    u64 block0[9];
     u64 block1[1];
-    u64 block2[48];
-    u64 block3[48];
-    u64 block4[10];
-    v6 = ADDRESS(block0);
-    v7 = ADDRESS(block1);
-    v8 = ADDRESS(block2);
-    v9 = ADDRESS(block3);
-    v10 = ADDRESS(block4);
-    memory_set(v9, 0u, 384u);
-    memory_set(v10, 0u, 80u);
-    v11 = a1 + 384u * 1u;
-    v12 = load64(v11);
-    store64(v7, v12);
-    f24(v9);
-    memory_cpy(v8, a1, 384u);
-    memory_cpy(a1, v9, 384u);
-    f31(v10, v7, v8, a2, a3, a4, a5);
-    v13 = load64(v10);
-    memory_cpy(v6, a1, 384u);
-    memory_cpy(a1, v8, 384u);
-    memory_cpy(v8, v6, 384u);
-    v14 = a3 + 16u * 1u;
-    v15 = load8(v14);
-    v16 = v8 + 240u * 1u;
-    v17 = load8(v16);
-    v18 = v8 + 264u * 1u;
-    v19 = load64(v18);
-    v20 = v17 != 1u;
-    v21 = v19 == 0u;
-    v22 = v20 ? 1u : v21;
-    if (v22) { goto L2; }
-    else { goto L1; }
+    u64 block2[1];
+    u64 block3[9];
+    u64 block4[1];
+    u64 block5[8];
+    u64 block6[1];
+    u64 block7[8];
+    v24 = ADDRESS(block0);
+    v25 = ADDRESS(block1);
+    v26 = ADDRESS(block2);
+    v27 = ADDRESS(block3);
+    v28 = ADDRESS(block4);
+    v29 = ADDRESS(block5);
+    v30 = ADDRESS(block6);
+    v31 = ADDRESS(block7);
+    v32 = load8(a2);
+    v33 = v32 == 0u;
+    if (v33) { goto L1; }
+    else { goto L2; }
 L1:;
-    v23 = v8 + 248u * 1u;
-    v24 = load_address(v23);
-    portable_rattle_dealloc(v24);
-    goto L2;
+    memory_set(v31, 0u, 64u);
+    v23 = 0u; goto L79;
 L2:;
-    v25 = v10 + 8u * 1u;
-    v26 = (u8)((u32)v15 & (u32)253u);
-    v27 = v26 == 1u;
-    v28 = v27 ? 5u : 9u;
-    store8(a0, v28);
-    v29 = a0 + 1u * 1u;
-    v30 = a0 + 8u * 1u;
-    memory_set(v29, 0u, 7u);
-    store64(v30, v13);
-    v31 = a0 + 16u * 1u;
-    store64(v31, 0u);
-    v32 = a0 + 24u * 1u;
-    memory_cpy(v32, v25, 68u);
-    v33 = a0 + 92u * 1u;
-    store32(v33, 0u);
+    v34 = a2 + 2u * 1u;
+    v35 = load16(v34);
+    switch (v35) {
+    case 0u: v4 = 0u; v5 = 2u; v6 = 0u; v7 = 0u; v8 = 0u; v9 = 0u; goto L24;
+    case 2u: goto L3;
+    case 8192u: goto L4;
+    case 8193u: goto L5;
+    case 8194u: goto L6;
+    case 8195u: goto L7;
+    case 8196u: goto L8;
+    case 8197u: goto L9;
+    case 8198u: goto L10;
+    case 8199u: goto L11;
+    case 8200u: goto L12;
+    case 8201u: goto L13;
+    case 8202u: goto L14;
+    case 8203u: goto L15;
+    case 8204u: goto L16;
+    case 8205u: goto L17;
+    case 8206u: goto L18;
+    case 8208u: goto L19;
+    case 8209u: goto L20;
+    case 24576u: goto L21;
+    case 24577u: goto L22;
+    default: goto L23;
+    }
+L3:;
+    v4 = 0u; v5 = 1u; v6 = 1u; v7 = 0u; v8 = 1u; v9 = 0u; goto L24;
+L4:;
+    v4 = 0u; v5 = 1u; v6 = 1u; v7 = 1u; v8 = 2u; v9 = 0u; goto L24;
+L5:;
+    v4 = 0u; v5 = 1u; v6 = 1u; v7 = 1u; v8 = 3u; v9 = 0u; goto L24;
+L6:;
+    v4 = 0u; v5 = 1u; v6 = 1u; v7 = 1u; v8 = 4u; v9 = 0u; goto L24;
+L7:;
+    v4 = 0u; v5 = 1u; v6 = 1u; v7 = 1u; v8 = 5u; v9 = 0u; goto L24;
+L8:;
+    v4 = 4u; v5 = 2u; v6 = 1u; v7 = 1u; v8 = 6u; v9 = 0u; goto L24;
+L9:;
+    v4 = 0u; v5 = 1u; v6 = 1u; v7 = 0u; v8 = 7u; v9 = 0u; goto L24;
+L10:;
+    v4 = 0u; v5 = 1u; v6 = 1u; v7 = 0u; v8 = 8u; v9 = 0u; goto L24;
+L11:;
+    v4 = 0u; v5 = 1u; v6 = 1u; v7 = 0u; v8 = 9u; v9 = 0u; goto L24;
+L12:;
+    v4 = 0u; v5 = 1u; v6 = 1u; v7 = 1u; v8 = 10u; v9 = 0u; goto L24;
+L13:;
+    v4 = 4u; v5 = 2u; v6 = 1u; v7 = 0u; v8 = 11u; v9 = 0u; goto L24;
+L14:;
+    v4 = 4u; v5 = 2u; v6 = 1u; v7 = 0u; v8 = 11u; v9 = 1u; goto L24;
+L15:;
+    v4 = 4u; v5 = 2u; v6 = 1u; v7 = 0u; v8 = 11u; v9 = 2u; goto L24;
+L16:;
+    v4 = 4u; v5 = 2u; v6 = 1u; v7 = 1u; v8 = 12u; v9 = 0u; goto L24;
+L17:;
+    v4 = 4u; v5 = 2u; v6 = 0u; v7 = 1u; v8 = 13u; v9 = 0u; goto L24;
+L18:;
+    v4 = 4u; v5 = 2u; v6 = 0u; v7 = 1u; v8 = 14u; v9 = 0u; goto L24;
+L19:;
+    v4 = 0u; v5 = 1u; v6 = 1u; v7 = 0u; v8 = 15u; v9 = 0u; goto L24;
+L20:;
+    v4 = 0u; v5 = 1u; v6 = 1u; v7 = 0u; v8 = 16u; v9 = 0u; goto L24;
+L21:;
+    v4 = 4u; v5 = 2u; v6 = 1u; v7 = 0u; v8 = 11u; v9 = 3u; goto L24;
+L22:;
+    v4 = 4u; v5 = 2u; v6 = 1u; v7 = 0u; v8 = 11u; v9 = 4u; goto L24;
+L23:;
+    memory_set(v31, 0u, 64u);
+    v23 = 0u; goto L79;
+L24:;
+    switch (v32) {
+    case 4u: goto L47;
+    case 1u: goto L27;
+    case 3u: goto L25;
+    case 2u: goto L47;
+    default: goto L26;
+    }
+L25:;
+    if (v6) { goto L47; }
+    else { v10 = v4; goto L28; }
+L26:;
+    UNREACHABLE;
+L27:;
+    if (v7) { goto L47; }
+    else { v10 = v5; goto L28; }
+L28:;
+    v36 = (u8)((u32)v10 & (u32)a3);
+    v37 = v36 == v10;
+    if (v37) { goto L29; }
+    else { goto L47; }
+L29:;
+    v38 = a2 + 8u * 1u;
+    v39 = load_address(v38);
+    v40 = a2 + 16u * 1u;
+    v41 = load64(v40);
+    switch (v32) {
+    case 1u: goto L30;
+    case 3u: goto L38;
+    case 2u: goto L76;
+    default: goto L37;
+    }
+L30:;
+    switch (v8) {
+    case 0u: goto L32;
+    case 1u: goto L33;
+    case 7u: goto L36;
+    case 8u: goto L36;
+    case 9u: goto L36;
+    case 11u: goto L36;
+    case 15u: goto L36;
+    case 16u: goto L35;
+    case 2u: goto L47;
+    case 3u: goto L47;
+    case 4u: goto L47;
+    case 5u: goto L47;
+    case 6u: goto L47;
+    case 10u: goto L47;
+    case 12u: goto L47;
+    case 13u: goto L47;
+    case 14u: goto L47;
+    default: goto L31;
+    }
+L31:;
+    UNREACHABLE;
+L32:;
+    v42 = v41 == 0u;
+    if (v42) { goto L39; }
+    else { goto L47; }
+L33:;
+    v43 = v41 == 0u;
+    if (v43) { goto L47; }
+    else { goto L34; }
+L34:;
+    v44 = load8(v39);
+    v45 = (u64)v44;
+    v46 = (u64)((u64)v45 + (u64)1u);
+    v47 = (u64)((u64)v46 & (u64)1u);
+    v48 = (u64)((u64)v47 + (u64)v46);
+    v49 = v41 == v48;
+    if (v49) { goto L39; }
+    else { goto L47; }
+L35:;
+    v50 = v41 == 4u;
+    if (v50) { goto L39; }
+    else { goto L47; }
+L36:;
+    v51 = v41 == 2u;
+    if (v51) { goto L39; }
+    else { goto L47; }
+L37:;
+    UNREACHABLE;
+L38:;
+    v52 = v41 == 0u;
+    if (v52) { goto L71; }
+    else { goto L47; }
+L39:;
+    switch (v8) {
+    case 0u: v11 = 1u; v12 = v8; v13 = v8; v14 = v8; goto L46;
+    case 1u: goto L40;
+    case 7u: goto L41;
+    case 8u: goto L41;
+    case 9u: goto L41;
+    case 11u: goto L45;
+    case 15u: goto L42;
+    case 16u: goto L43;
+    case 2u: goto L44;
+    case 3u: goto L44;
+    case 4u: goto L44;
+    case 5u: goto L44;
+    case 6u: goto L44;
+    case 10u: goto L44;
+    case 12u: goto L44;
+    case 13u: goto L44;
+    case 14u: goto L44;
+    default: goto L31;
+    }
+L40:;
+    v11 = 2u; v12 = 128u; v13 = 0u; v14 = 0u; goto L46;
+L41:;
+    v11 = 3u; v12 = 0u; v13 = 0u; v14 = 0u; goto L46;
+L42:;
+    v11 = 5u; v12 = 23u; v13 = 49u; v14 = 254u; goto L46;
+L43:;
+    v11 = 8u; v12 = 0u; v13 = 0u; v14 = 0u; goto L46;
+L44:;
+    v11 = 0u; v12 = 0u; v13 = 0u; v14 = 0u; goto L46;
+L45:;
+    v53 = (u8)((u32)v9 << (3u & 7u));
+    v54 = (u64)v53;
+    v55 = (u64)(((u64)UINT64_C(30165894151) >> (v54 & 63u)) & UINT64_C(1099511627775));
+    v56 = (u8)(v55);
+    v57 = (u8)((u32)v9 << (3u & 7u));
+    v58 = (u64)v57;
+    v59 = (u64)(((u64)UINT64_C(34360263172) >> (v58 & 63u)) & UINT64_C(1099511627775));
+    v60 = (u8)(v59);
+    v61 = (u8)((u32)v9 << (3u & 7u));
+    v62 = (u64)v61;
+    v63 = (u64)(((u64)UINT64_C(21474904580) >> (v62 & 63u)) & UINT64_C(1099511627775));
+    v64 = (u8)(v63);
+    v11 = v56; v12 = v60; v13 = v64; v14 = 0u; goto L46;
+L46:;
+    store8(v30, v11);
+    v65 = v30 + 1u * 1u;
+    store8(v65, v12);
+    v66 = v30 + 2u * 1u;
+    store8(v66, v13);
+    v67 = v30 + 3u * 1u;
+    store8(v67, v14);
+    v68 = f24(v30, v39, v41);
+    if (v68) { goto L48; }
+    else { goto L47; }
+L47:;
+    memory_set(v29, 0u, 64u);
+    v22 = 0u; goto L78;
+L48:;
+    v69 = load8(a2);
+    switch (v69) {
+    case 1u: goto L49;
+    case 3u: goto L71;
+    case 0u: goto L76;
+    case 2u: goto L76;
+    case 4u: goto L76;
+    default: goto L77;
+    }
+L49:;
+    v70 = a2 + 4u * 1u;
+    v71 = load16(v70);
+    v72 = load_address(v38);
+    v73 = load64(v40);
+    memory_set(v27, 0u, 68u);
+    switch (v8) {
+    case 1u: goto L50;
+    case 7u: goto L64;
+    case 8u: goto L65;
+    case 15u: goto L66;
+    case 9u: goto L67;
+    case 16u: goto L68;
+    case 11u: goto L69;
+    case 0u: v19 = 0u; goto L70;
+    case 2u: v19 = 0u; goto L70;
+    case 3u: v19 = 0u; goto L70;
+    case 4u: v19 = 0u; goto L70;
+    case 5u: v19 = 0u; goto L70;
+    case 6u: v19 = 0u; goto L70;
+    case 10u: v19 = 0u; goto L70;
+    case 12u: v19 = 0u; goto L70;
+    case 13u: v19 = 0u; goto L70;
+    case 14u: v19 = 0u; goto L70;
+    default: goto L31;
+    }
+L50:;
+    v74 = v73 == 0u;
+    if (v74) { goto L52; }
+    else { goto L51; }
+L51:;
+    v75 = v72 + 1u * 1u;
+    v76 = load8(v72);
+    v77 = (u64)v76;
+    v78 = a1 + 160u * 1u;
+    v79 = load64(v78);
+    v80 = v79 == 0u;
+    if (v80) { goto L54; }
+    else { v15 = v75; v16 = v77; goto L53; }
+L52:;
+    v81 = a1 + 160u * 1u;
+    v82 = load64(v81);
+    v83 = v82 == 0u;
+    if (v83) { goto L62; }
+    else { v15 = v72; v16 = 0u; goto L53; }
+L53:;
+    v84 = a1 + 24u * 1u;
+    v85 = a1 + 25u * 1u;
+    v86 = load8(v84);
+    v87 = (u64)v86;
+    v88 = v16 == v87;
+    if (v88) { goto L55; }
+    else { v18 = 4u; goto L63; }
+L54:;
+    v89 = v76 == 0u;
+    if (v89) { goto L62; }
+    else { v18 = 4u; goto L63; }
+L55:;
+    v90 = v86 < 4u;
+    if (v90) { goto L57; }
+    else { goto L56; }
+L56:;
+    v91 = load8(v85);
+    v92 = load8(v15);
+    v93 = v91 != v92;
+    v94 = a1 + 26u * 1u;
+    v95 = v15 + 1u * 1u;
+    v96 = load8(v94);
+    v97 = load8(v95);
+    v98 = v96 != v97;
+    v99 = (u8)(((u32)v93 | (u32)v98) & UINT64_C(1));
+    v100 = a1 + 27u * 1u;
+    v101 = v15 + 2u * 1u;
+    v102 = load8(v100);
+    v103 = load8(v101);
+    v104 = v102 != v103;
+    v105 = (u8)(((u32)v99 | (u32)v104) & UINT64_C(1));
+    v106 = a1 + 28u * 1u;
+    v107 = v15 + 3u * 1u;
+    v108 = load8(v106);
+    v109 = load8(v107);
+    v110 = v108 != v109;
+    v111 = (u8)(((u32)v105 | (u32)v110) & UINT64_C(1));
+    if (v111) { v18 = 4u; goto L63; }
+    else { goto L61; }
+L57:;
+    v112 = v86 == 0u;
+    if (v112) { goto L62; }
+    else { v17 = 0u; goto L58; }
+L58:;
+    v113 = v85 + v17 * 1u;
+    v114 = v15 + v17 * 1u;
+    v115 = load8(v113);
+    v116 = load8(v114);
+    v117 = v115 == v116;
+    if (v117) { goto L59; }
+    else { goto L60; }
+L59:;
+    v118 = (u64)((u64)v17 + (u64)1u);
+    v119 = v118 == v16;
+    if (v119) { goto L62; }
+    else { v17 = v118; goto L58; }
+L60:;
+    v120 = v17 < v16;
+    if (v120) { v18 = 4u; goto L63; }
+    else { goto L62; }
+L61:;
+    v121 = f28(v85, v16, v15, v16);
+    if (v121) { goto L62; }
+    else { v18 = 4u; goto L63; }
+L62:;
+    v18 = 0u; goto L63;
+L63:;
+    v122 = v27 + 4u * 1u;
+    memory_set(v122, 0u, 64u);
+    v19 = v18; goto L70;
+L64:;
+    v123 = load8(v72);
+    v124 = a1 + 212u * 1u;
+    v125 = load64(v124);
+    v126 = load64(a1);
+    v127 = v125 == v126;
+    v128 = a1 + 10u * 1u;
+    v129 = v127 ? UINT32_C(65552) : 16u;
+    v130 = load8(v128);
+    v131 = v130 == v123;
+    v132 = v131 ? 0u : v129;
+    v133 = v27 + 4u * 1u;
+    memory_set(v133, 0u, 64u);
+    v19 = v132; goto L70;
+L65:;
+    v134 = load8(v72);
+    v135 = a1 + 212u * 1u;
+    v136 = load64(v135);
+    v137 = load64(a1);
+    v138 = v136 == v137;
+    v139 = v138 ? UINT32_C(1048832) : 256u;
+    v140 = a1 + 16u * 1u;
+    v141 = load8(v140);
+    v142 = v141 == v134;
+    v143 = v142 ? 0u : v139;
+    v144 = v27 + 4u * 1u;
+    memory_set(v144, 0u, 64u);
+    v19 = v143; goto L70;
+L66:;
+    v145 = load8(v72);
+    v146 = a1 + 212u * 1u;
+    v147 = load64(v146);
+    v148 = load64(a1);
+    v149 = v147 == v148;
+    v150 = v149 ? UINT32_C(262208) : 64u;
+    v151 = a1 + 12u * 1u;
+    v152 = load8(v151);
+    v153 = v152 == v145;
+    v154 = v153 ? 0u : v150;
+    v155 = v27 + 4u * 1u;
+    memory_set(v155, 0u, 64u);
+    v19 = v154; goto L70;
+L67:;
+    v156 = load8(v72);
+    v157 = a1 + 8u * 1u;
+    v158 = load8(v157);
+    v159 = v158 == v156;
+    v160 = v159 ? 0u : 2u;
+    v161 = v27 + 4u * 1u;
+    memory_set(v161, 0u, 64u);
+    v19 = v160; goto L70;
+L68:;
+    v162 = a1 + 228u * 1u;
+    v163 = v72 + 2u * 1u;
+    v164 = load8(v163);
+    v165 = load8(v72);
+    v166 = v72 + 1u * 1u;
+    v167 = load8(v166);
+    v168 = (u16)v165;
+    v169 = (u16)((u32)v168 << (8u & 15u));
+    v170 = (u16)v167;
+    v171 = (u16)((u32)v169 | (u32)v170);
+    v172 = (u8)((u32)v164 & (u32)1u);
+    v173 = (u8)((u32)v164 >> (1u & 7u));
+    v174 = (u8)((u32)v173 & (u32)1u);
+    v175 = (u8)((u32)v164 >> (2u & 7u));
+    v176 = (u8)((u32)v175 & (u32)1u);
+    v177 = load16(v162);
+    v178 = v177 != v171;
+    v179 = a1 + 230u * 1u;
+    v180 = load8(v179);
+    v181 = v180 == v172;
+    v182 = a1 + 231u * 1u;
+    v183 = load8(v182);
+    v184 = v183 != v174;
+    v185 = a1 + 232u * 1u;
+    v186 = load8(v185);
+    v187 = v186 == v176;
+    v188 = v187 ? 0u : 2u;
+    v189 = (u32)v184;
+    v190 = (u32)((u32)v188 | (u32)v189);
+    v191 = (u32)((u32)v190 << (2u & 31u));
+    v192 = v181 ? 0u : 2u;
+    v193 = (u32)((u32)v191 | (u32)v192);
+    v194 = (u32)v178;
+    v195 = (u32)((u32)v193 | (u32)v194);
+    v196 = (u32)((u32)v195 << (22u & 31u));
+    v197 = v27 + 4u * 1u;
+    memory_set(v197, 0u, 64u);
+    v19 = v196; goto L70;
+L69:;
+    v198 = load8(v72);
+    store8(v28, 0u);
+    v199 = v28 + 1u * 1u;
+    store8(v199, v9);
+    v200 = v28 + 2u * 1u;
+    store8(v200, v198);
+    f29(v27, a1, v71, v28);
+    v201 = load32(v27);
+    v19 = v201; goto L70;
+L70:;
+    v202 = v27 + 4u * 1u;
+    memory_cpy(v29, v202, 64u);
+    v22 = v19; goto L78;
+L71:;
+    v203 = a2 + 4u * 1u;
+    v204 = load16(v203);
+    memory_set(v24, 0u, 68u);
+    v205 = v25 + 1u * 1u;
+    store16(v205, 0u);
+    v206 = v26 + 1u * 1u;
+    store16(v206, 0u);
+    switch (v8) {
+    case 13u: goto L72;
+    case 14u: goto L73;
+    case 0u: v21 = 0u; goto L75;
+    case 1u: v21 = 0u; goto L75;
+    case 2u: v21 = 0u; goto L75;
+    case 3u: v21 = 0u; goto L75;
+    case 4u: v21 = 0u; goto L75;
+    case 5u: v21 = 0u; goto L75;
+    case 6u: v21 = 0u; goto L75;
+    case 7u: v21 = 0u; goto L75;
+    case 8u: v21 = 0u; goto L75;
+    case 9u: v21 = 0u; goto L75;
+    case 10u: v21 = 0u; goto L75;
+    case 11u: v21 = 0u; goto L75;
+    case 12u: v21 = 0u; goto L75;
+    case 15u: v21 = 0u; goto L75;
+    case 16u: v21 = 0u; goto L75;
+    default: goto L31;
+    }
+L72:;
+    store8(v25, 1u);
+    v20 = v25; goto L74;
+L73:;
+    store8(v26, 2u);
+    v20 = v26; goto L74;
+L74:;
+    f29(v24, a1, v204, v20);
+    v207 = load32(v24);
+    v21 = v207; goto L75;
+L75:;
+    v208 = v24 + 4u * 1u;
+    memory_cpy(v29, v208, 64u);
+    v22 = v21; goto L78;
+L76:;
+    memory_set(v29, 0u, 64u);
+    v22 = 0u; goto L78;
+L77:;
+    UNREACHABLE;
+L78:;
+    memory_cpy(v31, v29, 64u);
+    v23 = v22; goto L79;
+L79:;
+    store32(a0, v23);
+    v209 = a0 + 4u * 1u;
+    memory_cpy(v209, v31, 64u);
     return;
 }
 
-static void f24(address a0) {
-    address v1, v2, v3, v4, v5, v6, v7, v8, v9, v10, v11, v12, v13, v14, v15, v16;
-    address v17, v18, v19, v20, v21, v22, v23, v24, v25, v28;
-    u8 v26, v27;
-    u64 block0[31];
-    u64 block1[49];
-    u64 block2[3];
-    v1 = ADDRESS(block0);
-    v2 = ADDRESS(block1);
-    v3 = ADDRESS(block2);
-    memory_set(v2, 0u, 392u);
-    v4 = v1 + 9u * 1u;
-    memory_set(v4, 0u, 151u);
-    store64(v1, 0u);
-    v5 = v1 + 8u * 1u;
-    store8(v5, 0u);
-    v6 = v1 + 160u * 1u;
-    store8(v6, 1u);
-    v7 = v1 + 161u * 1u;
-    store8(v7, 128u);
-    v8 = v1 + 162u * 1u;
-    store8(v8, 248u);
-    v9 = v1 + 163u * 1u;
-    store8(v9, 254u);
-    v10 = v1 + 164u * 1u;
-    store16(v10, 65535u);
-    v11 = v1 + 166u * 1u;
-    store8(v11, 128u);
-    v12 = v1 + 167u * 1u;
-    memory_set(v12, 0u, 39u);
-    v13 = v1 + 206u * 1u;
-    store16(v13, 65535u);
-    v14 = v1 + 208u * 1u;
-    store32(v14, UINT32_C(2147483647));
-    v15 = v1 + 212u * 1u;
-    memory_set(v15, 0u, 22u);
-    v16 = v1 + 234u * 1u;
-    store16(v16, 37u);
-    v17 = v1 + 236u * 1u;
-    memory_set(v17, 0u, 6u);
-    v18 = v1 + 242u * 1u;
-    store8(v18, 160u);
-    v19 = v1 + 243u * 1u;
-    memory_set(v19, 0u, 5u);
-    store8(v3, 6u);
-    v20 = v3 + 1u * 1u;
-    memory_set(v20, 0u, 15u);
-    v21 = v3 + 16u * 1u;
-    store8(v21, 1u);
-    v22 = v3 + 17u * 1u;
-    store8(v22, 3u);
-    v23 = v3 + 18u * 1u;
-    store8(v23, 0u);
-    v24 = v3 + 19u * 1u;
-    store8(v24, 1u);
-    v25 = v3 + 20u * 1u;
-    store32(v25, 0u);
-    f25(v2, v1, v3, 1u);
-    v26 = load8(v2);
-    v27 = v26 == 0u;
-    if (v27) { goto L1; }
-    else { goto L2; }
+static u8 f24(address a0, address a1, u64 a2) {
+    address v3, v6, v8, v10, v12, v15, v29;
+    u64 v4, v17;
+    u8 v5, v7, v9, v11, v13, v14, v16, v18, v19, v20, v21, v25, v27, v28, v30, v31;
+    u8 v32, v33, v34, v35, v36, v37, v38, v39, v40, v41, v42, v43, v44, v45, v46;
+    u16 v22, v23, v24, v26;
+    u64 block0[3];
+    v6 = ADDRESS(block0);
+    v7 = load8(a0);
+    v8 = a0 + 1u * 1u;
+    v9 = load8(v8);
+    v10 = a0 + 2u * 1u;
+    v11 = load8(v10);
+    v12 = a0 + 3u * 1u;
+    v13 = load8(v12);
+    switch (v7) {
+    case 0u: v5 = 0u; goto L13;
+    case 1u: goto L1;
+    case 2u: goto L2;
+    case 7u: goto L5;
+    case 8u: goto L6;
+    case 3u: goto L7;
+    case 4u: goto L7;
+    case 5u: goto L7;
+    case 6u: goto L7;
+    default: goto L14;
+    }
 L1:;
-    v28 = v2 + 8u * 1u;
-    memory_cpy(a0, v28, 384u);
-    return;
+    v5 = 1u; goto L13;
 L2:;
-    TRAP;
+    v14 = a2 == 0u;
+    if (v14) { v3 = a1; v4 = 0u; goto L4; }
+    else { goto L3; }
+L3:;
+    v15 = a1 + 1u * 1u;
+    v16 = load8(a1);
+    v17 = (u64)v16;
+    v18 = v16 > v9;
+    if (v18) { v5 = 0u; goto L13; }
+    else { v3 = v15; v4 = v17; goto L4; }
+L4:;
+    memory_set(v6, 0u, 24u);
+    f25(v6, v3, v4);
+    v19 = load8(v6);
+    v20 = v19 == 0u;
+    v5 = v20; goto L13;
+L5:;
+    v21 = load8(a1);
+    v22 = (u16)v9;
+    v23 = (u16)((u32)0u - (u32)v22);
+    v24 = (u16)((i16)(i8)v21);
+    v25 = (i16)v23 <= (i16)v24;
+    v26 = (u16)v11;
+    v27 = (i16)v24 <= (i16)v26;
+    v28 = v25 ? v27 : 0u;
+    v5 = v28; goto L13;
+L6:;
+    v29 = a1 + 2u * 1u;
+    v30 = load8(v29);
+    v31 = (u8)((u32)v30 & (u32)3u);
+    v32 = v31 != 3u;
+    v5 = v32; goto L13;
+L7:;
+    v33 = load8(a1);
+    switch (v7) {
+    case 3u: v5 = 1u; goto L13;
+    case 4u: goto L8;
+    case 5u: goto L9;
+    case 6u: goto L10;
+    default: goto L11;
+    }
+L8:;
+    v34 = v9 <= v33;
+    v35 = v33 <= v11;
+    v36 = v34 ? v35 : 0u;
+    v5 = v36; goto L13;
+L9:;
+    v37 = v9 <= v33;
+    v38 = v33 <= v11;
+    v39 = v37 ? v38 : 0u;
+    v40 = v33 == v13;
+    v41 = v39 ? 1u : v40;
+    v5 = v41; goto L13;
+L10:;
+    v42 = (u8)((u32)v33 + (u32)2u);
+    v43 = v42 < 5u;
+    if (v43) { goto L12; }
+    else { v5 = 0u; goto L13; }
+L11:;
+    UNREACHABLE;
+L12:;
+    v44 = (u8)((v42) & UINT64_C(31));
+    v45 = (u8)(((u32)25u >> (v44 & 7u)) & UINT64_C(31));
+    v46 = (u8)((v45) & UINT64_C(1));
+    v5 = v46; goto L13;
+L13:;
+    return v5;
+L14:;
     UNREACHABLE;
 }
 
-static void f25(address a0, address a1, address a2, u64 a3) {
-    u64 v4, v15, v32, v33, v34, v35, v38, v41, v42, v45, v51, v53, v70, v72;
-    address v5, v6, v7, v8, v9, v10, v11, v14, v16, v18, v20, v22, v24, v26, v28, v30;
-    address v31, v37, v39, v40, v47, v48, v50, v52, v54, v56, v57, v58, v60, v61, v63, v65;
-    address v67, v69, v73, v75, v79, v81, v85, v87, v91, v93, v97, v99, v103, v105, v107, v109;
-    address v111, v113, v115, v117, v119, v120, v121, v122, v123, v124, v125, v126, v127, v128, v129, v130;
-    address v131, v132, v133, v134, v135, v136, v137, v138, v139, v140, v141, v142, v143, v144, v145, v146;
-    address v147, v148, v149, v150, v151, v152, v153, v154, v155, v156, v157, v158, v159, v160, v161, v163;
-    address v165, v167, v168, v169, v170;
-    u8 v12, v13, v17, v19, v21, v23, v25, v29, v36, v43, v44, v46, v55, v59, v62, v68;
-    u8 v71, v74, v76, v77, v78, v80, v82, v83, v84, v86, v88, v89, v90, v92, v95, v98;
-    u8 v100, v101, v102, v106, v108, v110, v112, v114, v116, v118, v162, v164, v166;
-    u16 v27, v49, v64, v94, v96, v104;
-    u32 v66;
-    u64 block0[2];
-    u64 block1[2];
-    u64 block2[18];
-    u64 block3[18];
-    u64 block4[18];
-    u64 block5[2];
-    u64 block6[19];
-    v5 = ADDRESS(block0);
-    v6 = ADDRESS(block1);
-    v7 = ADDRESS(block2);
-    v8 = ADDRESS(block3);
-    v9 = ADDRESS(block4);
-    v10 = ADDRESS(block5);
-    v11 = ADDRESS(block6);
-    memory_set(v8, 0u, 144u);
-    memory_set(v9, 0u, 144u);
-    memory_set(v10, 0u, 10u);
-    memory_set(v11, 0u, 150u);
-    f26(v8, a1, a2, a3);
-    v12 = load8(v8);
-    v13 = v12 == 0u;
-    if (v13) { goto L1; }
-    else { goto L9; }
-L1:;
-    v14 = v8 + 8u * 1u;
-    v15 = load64(a1);
-    v16 = a1 + 8u * 1u;
-    v17 = load8(v16);
-    v18 = a1 + 160u * 1u;
-    v19 = load8(v18);
-    v20 = a1 + 161u * 1u;
-    v21 = load8(v20);
-    v22 = a1 + 162u * 1u;
-    v23 = load8(v22);
-    v24 = a1 + 163u * 1u;
-    v25 = load8(v24);
-    v26 = a1 + 164u * 1u;
-    v27 = load16(v26);
-    v28 = a1 + 166u * 1u;
-    v29 = load8(v28);
-    v30 = a1 + 16u * 1u;
-    v31 = a1 + 152u * 1u;
-    v32 = load64(v31);
-    memory_set(v7, 0u, 144u);
-    v33 = (u64)((u64)v32 + (u64)1u);
-    v34 = (u64)((u64)v33 & (u64)1u);
-    v35 = (u64)((u64)v34 + (u64)v33);
-    v36 = v35 == 0u;
-    if (v36) { v4 = 0u; goto L3; }
-    else { goto L2; }
-L2:;
-    v37 = v7 + 136u * 1u;
-    f30(v7, v35);
-    v38 = load64(v37);
-    v4 = v38; goto L3;
-L3:;
-    v39 = v7 + 1u * 1u;
-    v40 = v39 + v32 * 1u;
-    v41 = (u64)((u64)v32 ^ (u64)UINT64_C(18446744073709551615));
-    v42 = (u64)((u64)v4 + (u64)v41);
-    v43 = (u8)(v32);
-    store8(v7, v43);
-    memory_cpy(v39, v30, v32);
-    v44 = v42 == 0u;
-    if (v44) { goto L7; }
-    else { goto L4; }
-L4:;
-    v45 = (u64)((u64)v42 + (u64)UINT64_C(18446744073709551615));
-    v46 = v45 == 0u;
-    if (v46) { goto L6; }
-    else { goto L5; }
-L5:;
-    memory_set(v40, 0u, v45);
-    goto L6;
-L6:;
-    v47 = v40 + v45 * 1u;
-    store8(v47, 0u);
-    goto L7;
-L7:;
-    memory_cpy(v9, v7, 144u);
-    v48 = a1 + 168u * 1u;
-    v49 = load16(v48);
-    v50 = a1 + 176u * 1u;
-    v51 = load64(v50);
-    v52 = a1 + 184u * 1u;
-    v53 = load64(v52);
-    v54 = a1 + 192u * 1u;
-    v55 = load8(v54);
-    v56 = v5 + 2u * 1u;
-    v57 = a1 + 194u * 1u;
-    memory_cpy(v56, v57, 10u);
-    store64(v6, v15);
-    v58 = v6 + 8u * 1u;
-    store16(v58, 0u);
-    v59 = v55 == 1u;
-    v60 = v59 ? v56 : v6;
-    v61 = a1 + 204u * 1u;
-    v62 = load8(v61);
-    v63 = a1 + 206u * 1u;
-    v64 = load16(v63);
-    v65 = a1 + 208u * 1u;
-    v66 = load32(v65);
-    v67 = a1 + 224u * 1u;
-    v68 = load8(v67);
-    v69 = a1 + 225u * 1u;
-    v70 = load64(v69);
-    v71 = v68 == 1u;
-    v72 = v71 ? v70 : v15;
-    v73 = a1 + 212u * 1u;
-    v74 = load8(v73);
-    v75 = a1 + 213u * 1u;
-    v76 = load8(v75);
-    v77 = v74 == 1u;
-    v78 = v77 ? v76 : v21;
-    v79 = a1 + 214u * 1u;
-    v80 = load8(v79);
-    v81 = a1 + 215u * 1u;
-    v82 = load8(v81);
-    v83 = v80 == 1u;
-    v84 = v83 ? v82 : v23;
-    v85 = a1 + 216u * 1u;
-    v86 = load8(v85);
-    v87 = a1 + 217u * 1u;
-    v88 = load8(v87);
-    v89 = v86 == 1u;
-    v90 = v89 ? v88 : v25;
-    v91 = a1 + 218u * 1u;
-    v92 = load8(v91);
-    v93 = a1 + 220u * 1u;
-    v94 = load16(v93);
-    v95 = v92 == 1u;
-    v96 = v95 ? v94 : v27;
-    v97 = a1 + 222u * 1u;
-    v98 = load8(v97);
-    v99 = a1 + 223u * 1u;
-    v100 = load8(v99);
-    v101 = v98 == 1u;
-    v102 = v101 ? v100 : v29;
-    memory_cpy(v10, v60, 10u);
-    v103 = a1 + 234u * 1u;
-    v104 = load16(v103);
-    v105 = a1 + 236u * 1u;
-    v106 = load8(v105);
-    v107 = a1 + 237u * 1u;
-    v108 = load8(v107);
-    v109 = a1 + 238u * 1u;
-    v110 = load8(v109);
-    v111 = a1 + 239u * 1u;
-    v112 = load8(v111);
-    v113 = a1 + 240u * 1u;
-    v114 = load8(v113);
-    v115 = a1 + 241u * 1u;
-    v116 = load8(v115);
-    v117 = a1 + 242u * 1u;
-    v118 = load8(v117);
-    v119 = v11 + 6u * 1u;
-    memory_cpy(v119, v9, 144u);
-    v120 = a0 + 8u * 1u;
-    store32(a0, 0u);
-    store64(v120, v15);
-    v121 = a0 + 16u * 1u;
-    store8(v121, v17);
-    v122 = a0 + 17u * 1u;
-    store8(v122, v19);
-    v123 = a0 + 18u * 1u;
-    store8(v123, v21);
-    v124 = a0 + 19u * 1u;
-    store8(v124, v23);
-    v125 = a0 + 20u * 1u;
-    store8(v125, v25);
-    v126 = a0 + 21u * 1u;
-    store8(v126, 0u);
-    v127 = a0 + 22u * 1u;
-    store16(v127, v27);
-    v128 = a0 + 24u * 1u;
-    store8(v128, v29);
-    v129 = a0 + 25u * 1u;
-    store8(v129, 0u);
-    v130 = a0 + 26u * 1u;
-    memory_cpy(v130, v11, 150u);
-    v131 = a0 + 176u * 1u;
-    store16(v131, v49);
-    v132 = a0 + 178u * 1u;
-    memory_set(v132, 0u, 6u);
-    v133 = a0 + 184u * 1u;
-    store64(v133, v51);
-    v134 = a0 + 192u * 1u;
-    store64(v134, v53);
-    v135 = a0 + 200u * 1u;
-    memory_cpy(v135, v10, 10u);
-    v136 = a0 + 210u * 1u;
-    store8(v136, v62);
-    v137 = a0 + 211u * 1u;
-    store8(v137, 0u);
-    v138 = a0 + 212u * 1u;
-    store16(v138, v64);
-    v139 = a0 + 214u * 1u;
-    store16(v139, 0u);
-    v140 = a0 + 216u * 1u;
-    store32(v140, v66);
-    v141 = a0 + 220u * 1u;
-    store64(v141, v72);
-    v142 = a0 + 228u * 1u;
-    store8(v142, v78);
-    v143 = a0 + 229u * 1u;
-    store8(v143, v84);
-    v144 = a0 + 230u * 1u;
-    store8(v144, v90);
-    v145 = a0 + 231u * 1u;
-    store8(v145, 0u);
-    v146 = a0 + 232u * 1u;
-    store16(v146, v96);
-    v147 = a0 + 234u * 1u;
-    store8(v147, v102);
-    v148 = a0 + 235u * 1u;
-    store8(v148, 0u);
-    v149 = a0 + 236u * 1u;
-    store16(v149, v104);
-    v150 = a0 + 238u * 1u;
-    store8(v150, v106);
-    v151 = a0 + 239u * 1u;
-    store8(v151, v108);
-    v152 = a0 + 240u * 1u;
-    store8(v152, v110);
-    v153 = a0 + 241u * 1u;
-    store8(v153, v112);
-    v154 = a0 + 242u * 1u;
-    store8(v154, v114);
-    v155 = a0 + 243u * 1u;
-    store8(v155, v116);
-    v156 = a0 + 244u * 1u;
-    store8(v156, v118);
-    v157 = a0 + 245u * 1u;
-    store8(v157, 0u);
-    v158 = a0 + 246u * 1u;
-    store16(v158, 0u);
-    v159 = a0 + 248u * 1u;
-    store64(v159, 0u);
-    v160 = a0 + 256u * 1u;
-    memory_cpy(v160, v14, 136u);
-    goto L8;
-L8:;
-    return;
-L9:;
-    v161 = v8 + 3u * 1u;
-    v162 = load8(v161);
-    v163 = v8 + 2u * 1u;
-    v164 = load8(v163);
-    v165 = v8 + 1u * 1u;
-    v166 = load8(v165);
-    store8(a0, 1u);
-    v167 = a0 + 1u * 1u;
-    store8(v167, v166);
-    v168 = a0 + 2u * 1u;
-    store8(v168, v164);
-    v169 = a0 + 3u * 1u;
-    store8(v169, v162);
-    v170 = a0 + 8u * 1u;
-    memory_set(v170, 0u, 384u);
-    goto L8;
-}
-
-static void f26(address a0, address a1, address a2, u64 a3) {
-    address v4, v6, v8, v9, v10, v11, v12, v16, v17, v18, v19, v20, v23, v24, v29, v44;
-    address v45, v46, v47, v48, v49, v50, v51, v52, v53, v54, v55, v56, v57, v58, v59, v60;
-    address v61, v62, v63, v64, v65, v66, v67, v68, v69, v70, v71, v72, v73, v74, v75, v76;
-    address v77, v78, v79, v80, v81, v82, v83, v84, v85, v86, v87, v88, v89, v90, v91, v92;
-    address v93, v94, v95, v96, v97, v98, v99, v100, v101, v102, v103, v104, v105, v106, v107, v108;
-    address v109, v110, v111, v112, v113, v114, v115, v116, v117, v118, v119, v121, v124, v130, v132, v134;
-    address v136, v138, v140, v143, v144, v145, v146, v147, v148, v149, v150, v151, v155, v157, v158, v159;
-    address v160, v161, v163, v165, v170, v173, v175, v177, v179, v181, v183, v185, v187, v189, v191, v193;
-    address v196, v198, v218, v220, v222, v224, v225, v226, v227, v228, v229, v230, v231, v232;
-    struct s3 v5, v39, v40;
-    u64 v7, v21, v25, v120, v125, v142, v152, v162, v166;
-    u8 v13, v14, v15, v22, v26, v27, v28, v30, v31, v32, v33, v34, v35, v36, v37, v38;
-    u8 v41, v42, v43, v122, v123, v126, v127, v128, v129, v131, v133, v135, v137, v139, v141, v153;
-    u8 v154, v156, v164, v167, v168, v169, v171, v172, v174, v176, v180, v182, v184, v186, v188, v190;
-    u8 v192, v195, v197, v199, v200, v201, v202, v203, v204, v205, v206, v207, v208, v209, v210, v211;
-    u8 v212, v213, v214, v215, v216, v217, v219, v221, v223;
-    u16 v178, v194;
-    u64 block0[1];
-    u64 block1[17];
-    u64 block2[3];
-    u64 block3[1];
-    u64 block4[18];
-    v8 = ADDRESS(block0);
-    v9 = ADDRESS(block1);
-    v10 = ADDRESS(block2);
-    v11 = ADDRESS(block3);
-    v12 = ADDRESS(block4);
-    memory_set(v12, 0u, 140u);
-    v13 = a3 != 0u;
-    v14 = a3 > 8u;
-    v15 = (u8)(((u32)v14 ^ (u32)v13) & UINT64_C(1));
-    if (v15) { goto L1; }
-    else { goto L11; }
-L1:;
-    store64(v11, UINT64_C(6755425210990592));
-    v16 = a1 + 236u * 1u;
-    v17 = a1 + 237u * 1u;
-    v18 = a1 + 163u * 1u;
-    v19 = a1 + 16u * 1u;
-    v20 = v11 + 2u * 1u;
-    v21 = load64(a1);
-    v22 = v21 == UINT64_C(18446744073709551615);
-    if (v22) { v4 = v11; goto L8; }
-    else { goto L2; }
-L2:;
-    v23 = a1 + 152u * 1u;
-    v24 = v11 + 4u * 1u;
-    v25 = load64(v23);
-    v26 = v25 > 128u;
-    if (v26) { goto L7; }
-    else { goto L3; }
-L3:;
-    memory_set(v10, 0u, 24u);
-    f27(v10, v19, v25);
-    v27 = load8(v10);
-    v28 = v27 == 0u;
-    if (v28) { goto L4; }
-    else { v4 = v20; goto L8; }
-L4:;
-    v29 = v11 + 6u * 1u;
-    v30 = load8(v18);
-    v31 = (u8)((u32)v30 + (u32)233u);
-    v32 = v31 < 27u;
-    v33 = v30 == 254u;
-    v34 = (u8)(((u32)v33 | (u32)v32) & UINT64_C(1));
-    if (v34) { goto L5; }
-    else { v4 = v24; goto L8; }
-L5:;
-    v35 = load8(v16);
-    v36 = (u8)((v35) & UINT64_C(1));
-    if (v36) { goto L6; }
-    else { v5 = (struct s3){ 0 }; v6 = 0u; goto L9; }
-L6:;
-    v37 = load8(v17);
-    v38 = (u8)((v37) & UINT64_C(1));
-    if (v38) { v4 = v29; goto L8; }
-    else { v5 = (struct s3){ 0 }; v6 = 0u; goto L9; }
-L7:;
-    v39 = (struct s3){ 1u, 0u };
-    v39.m1 = v20;
-    v5 = v39; v6 = v20; goto L9;
-L8:;
-    v40 = (struct s3){ 1u, 0u };
-    v40.m1 = v4;
-    v5 = v40; v6 = v4; goto L9;
-L9:;
-    v41 = v5.m0;
-    v42 = (u8)((v41) & UINT64_C(1));
-    if (v42) { goto L15; }
-    else { goto L12; }
-L10:;
-    return;
-L11:;
-    v43 = (u8)v14;
-    store8(a0, 1u);
-    v44 = a0 + 1u * 1u;
-    store8(v44, v43);
-    v45 = a0 + 2u * 1u;
-    store8(v45, 0u);
-    v46 = a0 + 3u * 1u;
-    store8(v46, 0u);
-    v47 = a0 + 8u * 1u;
-    memory_set(v47, 0u, 136u);
-    goto L10;
-L12:;
-    store64(v9, 0u);
-    v48 = v9 + 8u * 1u;
-    store8(v48, 5u);
-    v49 = v9 + 9u * 1u;
-    store8(v49, 0u);
-    v50 = v9 + 10u * 1u;
-    store8(v50, 1u);
-    v51 = v9 + 11u * 1u;
-    store8(v51, 3u);
-    v52 = v9 + 12u * 1u;
-    store8(v52, 0u);
-    v53 = v9 + 13u * 1u;
-    store8(v53, 1u);
-    v54 = v9 + 14u * 1u;
-    store8(v54, 0u);
-    v55 = v9 + 15u * 1u;
-    store8(v55, 0u);
-    v56 = v9 + 16u * 1u;
-    store64(v56, 0u);
-    v57 = v9 + 24u * 1u;
-    store8(v57, 5u);
-    v58 = v9 + 25u * 1u;
-    store8(v58, 0u);
-    v59 = v9 + 26u * 1u;
-    store8(v59, 1u);
-    v60 = v9 + 27u * 1u;
-    store8(v60, 3u);
-    v61 = v9 + 28u * 1u;
-    store8(v61, 0u);
-    v62 = v9 + 29u * 1u;
-    store8(v62, 1u);
-    v63 = v9 + 30u * 1u;
-    store8(v63, 0u);
-    v64 = v9 + 31u * 1u;
-    store8(v64, 0u);
-    v65 = v9 + 32u * 1u;
-    store64(v65, 0u);
-    v66 = v9 + 40u * 1u;
-    store8(v66, 5u);
-    v67 = v9 + 41u * 1u;
-    store8(v67, 0u);
-    v68 = v9 + 42u * 1u;
-    store8(v68, 1u);
-    v69 = v9 + 43u * 1u;
-    store8(v69, 3u);
-    v70 = v9 + 44u * 1u;
-    store8(v70, 0u);
-    v71 = v9 + 45u * 1u;
-    store8(v71, 1u);
-    v72 = v9 + 46u * 1u;
-    store8(v72, 0u);
-    v73 = v9 + 47u * 1u;
-    store8(v73, 0u);
-    v74 = v9 + 48u * 1u;
-    store64(v74, 0u);
-    v75 = v9 + 56u * 1u;
-    store8(v75, 5u);
-    v76 = v9 + 57u * 1u;
-    store8(v76, 0u);
-    v77 = v9 + 58u * 1u;
-    store8(v77, 1u);
-    v78 = v9 + 59u * 1u;
-    store8(v78, 3u);
-    v79 = v9 + 60u * 1u;
-    store8(v79, 0u);
-    v80 = v9 + 61u * 1u;
-    store8(v80, 1u);
-    v81 = v9 + 62u * 1u;
-    store8(v81, 0u);
-    v82 = v9 + 63u * 1u;
-    store8(v82, 0u);
-    v83 = v9 + 64u * 1u;
-    store64(v83, 0u);
-    v84 = v9 + 72u * 1u;
-    store8(v84, 5u);
-    v85 = v9 + 73u * 1u;
-    store8(v85, 0u);
-    v86 = v9 + 74u * 1u;
-    store8(v86, 1u);
-    v87 = v9 + 75u * 1u;
-    store8(v87, 3u);
-    v88 = v9 + 76u * 1u;
-    store8(v88, 0u);
-    v89 = v9 + 77u * 1u;
-    store8(v89, 1u);
-    v90 = v9 + 78u * 1u;
-    store8(v90, 0u);
-    v91 = v9 + 79u * 1u;
-    store8(v91, 0u);
-    v92 = v9 + 80u * 1u;
-    store64(v92, 0u);
-    v93 = v9 + 88u * 1u;
-    store8(v93, 5u);
-    v94 = v9 + 89u * 1u;
-    store8(v94, 0u);
-    v95 = v9 + 90u * 1u;
-    store8(v95, 1u);
-    v96 = v9 + 91u * 1u;
-    store8(v96, 3u);
-    v97 = v9 + 92u * 1u;
-    store8(v97, 0u);
-    v98 = v9 + 93u * 1u;
-    store8(v98, 1u);
-    v99 = v9 + 94u * 1u;
-    store8(v99, 0u);
-    v100 = v9 + 95u * 1u;
-    store8(v100, 0u);
-    v101 = v9 + 96u * 1u;
-    store64(v101, 0u);
-    v102 = v9 + 104u * 1u;
-    store8(v102, 5u);
-    v103 = v9 + 105u * 1u;
-    store8(v103, 0u);
-    v104 = v9 + 106u * 1u;
-    store8(v104, 1u);
-    v105 = v9 + 107u * 1u;
-    store8(v105, 3u);
-    v106 = v9 + 108u * 1u;
-    store8(v106, 0u);
-    v107 = v9 + 109u * 1u;
-    store8(v107, 1u);
-    v108 = v9 + 110u * 1u;
-    store8(v108, 0u);
-    v109 = v9 + 111u * 1u;
-    store8(v109, 0u);
-    v110 = v9 + 112u * 1u;
-    store64(v110, 0u);
-    v111 = v9 + 120u * 1u;
-    store8(v111, 5u);
-    v112 = v9 + 121u * 1u;
-    store8(v112, 0u);
-    v113 = v9 + 122u * 1u;
-    store8(v113, 1u);
-    v114 = v9 + 123u * 1u;
-    store8(v114, 3u);
-    v115 = v9 + 124u * 1u;
-    store8(v115, 0u);
-    v116 = v9 + 125u * 1u;
-    store8(v116, 1u);
-    v117 = v9 + 126u * 1u;
-    store8(v117, 0u);
-    v118 = v9 + 127u * 1u;
-    store8(v118, 0u);
-    v119 = v9 + 128u * 1u;
-    store64(v119, 0u);
-    if (v13) { v7 = 0u; goto L13; }
-    else { goto L16; }
-L13:;
-    v120 = (u64)((u64)v7 * (u64)24u);
-    v121 = a2 + v120 * 1u;
-    store32(v8, 0u);
-    f29(v8, v121);
-    v122 = load8(v8);
-    v123 = v122 == 0u;
-    if (v123) { goto L14; }
-    else { goto L18; }
-L14:;
-    v124 = v121 + 8u * 1u;
-    v125 = load64(v124);
-    v126 = load8(v121);
-    v127 = (u8)((u32)v126 + (u32)255u);
-    v128 = v127 < 9u;
-    v129 = v128 ? v127 : 0u;
-    v130 = v121 + 1u * 1u;
-    v131 = load8(v130);
-    v132 = v121 + 16u * 1u;
-    v133 = load8(v132);
-    v134 = v121 + 17u * 1u;
-    v135 = load8(v134);
-    v136 = v121 + 18u * 1u;
-    v137 = load8(v136);
-    v138 = v121 + 19u * 1u;
-    v139 = load8(v138);
-    v140 = v121 + 20u * 1u;
-    v141 = load8(v140);
-    v142 = (u64)((u64)v7 << (4u & 63u));
-    v143 = v9 + v142 * 1u;
-    store64(v143, v125);
-    v144 = v143 + 8u * 1u;
-    store8(v144, v129);
-    v145 = v143 + 9u * 1u;
-    store8(v145, v131);
-    v146 = v143 + 10u * 1u;
-    store8(v146, v133);
-    v147 = v143 + 11u * 1u;
-    store8(v147, v135);
-    v148 = v143 + 12u * 1u;
-    store8(v148, v137);
-    v149 = v143 + 13u * 1u;
-    store8(v149, v139);
-    v150 = v143 + 14u * 1u;
-    store8(v150, v141);
-    v151 = v143 + 15u * 1u;
-    store8(v151, 0u);
-    v152 = (u64)((u64)v7 + (u64)1u);
-    store64(v119, v152);
-    v153 = v152 == a3;
-    if (v153) { goto L16; }
-    else { v7 = v152; goto L13; }
-L15:;
-    v154 = load8(v6);
-    v155 = v6 + 1u * 1u;
-    v156 = load8(v155);
-    store8(a0, 1u);
-    v157 = a0 + 1u * 1u;
-    store8(v157, 2u);
-    v158 = a0 + 2u * 1u;
-    store8(v158, v154);
-    v159 = a0 + 3u * 1u;
-    store8(v159, v156);
-    v160 = a0 + 8u * 1u;
-    memory_set(v160, 0u, 136u);
-    goto L10;
-L16:;
-    v161 = v12 + 4u * 1u;
-    memory_cpy(v161, v9, 136u);
-    v162 = load64(a1);
-    v163 = a1 + 224u * 1u;
-    v164 = load8(v163);
-    v165 = a1 + 225u * 1u;
-    v166 = load64(v165);
-    v167 = v164 != 1u;
-    v168 = v166 == v162;
-    v169 = v167 ? 1u : v168;
-    if (v169) { goto L17; }
-    else { goto L19; }
-L17:;
-    v170 = a1 + 222u * 1u;
-    v171 = load8(v170);
-    v172 = v171 != 1u;
-    v173 = a1 + 223u * 1u;
-    v174 = load8(v173);
-    v175 = a1 + 166u * 1u;
-    v176 = load8(v175);
-    v177 = a1 + 220u * 1u;
-    v178 = load16(v177);
-    v179 = a1 + 218u * 1u;
-    v180 = load8(v179);
-    v181 = a1 + 217u * 1u;
-    v182 = load8(v181);
-    v183 = a1 + 216u * 1u;
-    v184 = load8(v183);
-    v185 = a1 + 215u * 1u;
-    v186 = load8(v185);
-    v187 = a1 + 214u * 1u;
-    v188 = load8(v187);
-    v189 = a1 + 213u * 1u;
-    v190 = load8(v189);
-    v191 = a1 + 212u * 1u;
-    v192 = load8(v191);
-    v193 = a1 + 164u * 1u;
-    v194 = load16(v193);
-    v195 = load8(v18);
-    v196 = a1 + 162u * 1u;
-    v197 = load8(v196);
-    v198 = a1 + 161u * 1u;
-    v199 = load8(v198);
-    v200 = v180 != 1u;
-    v201 = v184 != 1u;
-    v202 = v188 != 1u;
-    v203 = v192 != 1u;
-    v204 = v190 == v199;
-    v205 = v203 ? 1u : v204;
-    v206 = v186 == v197;
-    v207 = v202 ? 1u : v206;
-    v208 = v205 ? v207 : 0u;
-    v209 = v182 == v195;
-    v210 = v201 ? 1u : v209;
-    v211 = v208 ? v210 : 0u;
-    v212 = v178 == v194;
-    v213 = v200 ? 1u : v212;
-    v214 = v211 ? v213 : 0u;
-    v215 = v174 == v176;
-    v216 = v172 ? 1u : v215;
-    v217 = v214 ? v216 : 0u;
-    if (v217) { goto L19; }
-    else { goto L20; }
-L18:;
-    v218 = v8 + 3u * 1u;
-    v219 = load8(v218);
-    v220 = v8 + 2u * 1u;
-    v221 = load8(v220);
-    v222 = v8 + 1u * 1u;
-    v223 = load8(v222);
-    store8(a0, 1u);
-    v224 = a0 + 1u * 1u;
-    store8(v224, v223);
-    v225 = a0 + 2u * 1u;
-    store8(v225, v221);
-    v226 = a0 + 3u * 1u;
-    store8(v226, v219);
-    v227 = a0 + 8u * 1u;
-    memory_set(v227, 0u, 136u);
-    goto L10;
-L19:;
-    v228 = a0 + 8u * 1u;
-    store32(a0, 0u);
-    memory_cpy(v228, v161, 136u);
-    goto L10;
-L20:;
-    store8(a0, 1u);
-    v229 = a0 + 1u * 1u;
-    store8(v229, 3u);
-    v230 = a0 + 2u * 1u;
-    store8(v230, 0u);
-    v231 = a0 + 3u * 1u;
-    store8(v231, 0u);
-    v232 = a0 + 8u * 1u;
-    memory_set(v232, 0u, 136u);
-    goto L10;
-}
-
-static void f27(address a0, address a1, u64 a2) {
+static void f25(address a0, address a1, u64 a2) {
     u64 v3, v4, v5, v6, v7, v8, v9, v10, v11, v12, v13, v14, v15, v17, v21, v33;
     u64 v43, v57, v58, v59, v60, v61, v62, v63, v64, v65, v66, v67, v68, v69, v70, v71;
     u64 v72, v73, v74, v75, v76, v77, v78, v79, v81, v82, v83, v84, v85, v87, v105, v106;
@@ -5432,7 +5375,7 @@ L11:;
     else { v7 = v6; goto L13; }
 L12:;
     v246 = (u64)((u64)v6 + (u64)32u);
-    v247 = f28(v18, v246, a2);
+    v247 = f26(v18, v246, a2);
     v248 = (u64)((u64)a2 - (u64)v247);
     v249 = v248 > 31u;
     if (v249) { v6 = v247; goto L11; }
@@ -5686,7 +5629,7 @@ L45:;
     v13 = 0u; v14 = v403; v15 = a2; goto L36;
 }
 
-static u64 f28(address a0, u64 a1, u64 a2) {
+static u64 f26(address a0, u64 a1, u64 a2) {
     u64 v3, v4, v5, v24, v25, v26, v27, v28, v29, v30, v31, v32, v33, v34, v35, v36;
     u64 v37, v38, v55, v56, v57, v58, v59, v60, v61, v62, v63, v64, v65, v66, v67, v68;
     u64 v69, v86, v87, v88, v89, v90, v91, v92, v93, v94, v95, v96, v97, v98, v99, v100;
@@ -6042,533 +5985,569 @@ L4:;
     return v4;
 }
 
-static void f29(address a0, address a1) {
-    address v2, v7, v12, v13, v14, v15, v16, v17, v18, v19, v20, v21, v22, v23, v24, v25;
-    address v26, v27, v28, v29, v30, v31, v32, v33, v34, v37, v48, v64, v66, v67, v68;
-    u64 v3, v35, v47;
-    u8 v4, v5, v8, v9, v10, v11, v36, v38, v39, v40, v41, v42, v43, v44, v45, v46;
-    u8 v49, v53, v54, v55, v57, v58, v59, v61, v62, v63, v65;
-    struct s3 v6, v56, v60;
-    u16 v50, v51, v52;
-    u64 block0[1];
-    u64 block1[2];
-    v12 = ADDRESS(block0);
-    v13 = ADDRESS(block1);
-    store8(v13, 30u);
-    v14 = v13 + 1u * 1u;
-    store8(v14, 0u);
-    v15 = v13 + 2u * 1u;
-    store8(v15, 33u);
-    v16 = v13 + 3u * 1u;
-    store8(v16, 0u);
-    v17 = v13 + 4u * 1u;
-    store8(v17, 33u);
-    v18 = v13 + 5u * 1u;
-    store8(v18, 1u);
-    v19 = v13 + 6u * 1u;
-    store8(v19, 33u);
-    v20 = v13 + 7u * 1u;
-    store8(v20, 2u);
-    v21 = v13 + 8u * 1u;
-    store8(v21, 33u);
-    v22 = v13 + 9u * 1u;
-    store8(v22, 3u);
-    v23 = v13 + 10u * 1u;
-    store8(v23, 33u);
-    v24 = v13 + 11u * 1u;
-    store8(v24, 4u);
-    v25 = a1 + 16u * 1u;
-    v26 = a1 + 17u * 1u;
-    v27 = a1 + 18u * 1u;
-    v28 = a1 + 19u * 1u;
-    v29 = a1 + 20u * 1u;
-    v30 = v12 + 1u * 1u;
-    v31 = v12 + 2u * 1u;
-    v32 = v12 + 3u * 1u;
-    v33 = v12 + 4u * 1u;
-    v2 = v13; v3 = 6u; goto L1;
-L1:;
-    v34 = v2 + 2u * 1u;
-    v35 = (u64)((u64)v3 + (u64)UINT64_C(18446744073709551615));
-    v36 = load8(v2);
-    v37 = v2 + 1u * 1u;
-    v38 = load8(v37);
-    switch (v36) {
-    case 30u: goto L2;
-    case 33u: goto L3;
-    case 0u: goto L11;
-    case 1u: goto L11;
-    case 2u: goto L11;
-    case 3u: goto L11;
-    case 4u: goto L11;
-    case 5u: goto L11;
-    case 6u: goto L11;
-    case 7u: goto L11;
-    case 8u: goto L11;
-    case 9u: goto L11;
-    case 10u: goto L11;
-    case 11u: goto L11;
-    case 12u: goto L11;
-    case 13u: goto L11;
-    case 14u: goto L11;
-    case 15u: goto L11;
-    case 16u: goto L11;
-    case 17u: goto L11;
-    case 18u: goto L11;
-    case 19u: goto L11;
-    case 20u: goto L11;
-    case 21u: goto L11;
-    case 22u: goto L11;
-    case 23u: goto L11;
-    case 24u: goto L11;
-    case 25u: goto L11;
-    case 26u: goto L11;
-    case 27u: goto L11;
-    case 28u: goto L11;
-    case 29u: goto L11;
-    case 31u: goto L11;
-    case 32u: goto L11;
-    default: goto L10;
-    }
-L2:;
-    v39 = load8(a1);
-    v40 = (u8)((u32)v39 + (u32)255u);
-    v41 = v40 < 9u;
-    if (v41) { goto L13; }
-    else { goto L14; }
-L3:;
-    v42 = load8(v25);
-    v43 = load8(v26);
-    v44 = load8(v27);
-    v45 = load8(v28);
-    v46 = load8(v29);
-    store8(v12, v42);
-    store8(v30, v43);
-    store8(v31, v44);
-    store8(v32, v45);
-    store8(v33, v46);
-    v47 = (u64)v38;
-    v48 = v12 + v47 * 1u;
-    v49 = load8(v48);
-    switch (v38) {
-    case 0u: v4 = 4u; v5 = 4u; goto L7;
-    case 1u: goto L12;
-    case 2u: goto L4;
-    case 3u: goto L8;
-    case 4u: goto L5;
-    default: goto L6;
-    }
-L4:;
-    v4 = 8u; v5 = 1u; goto L7;
-L5:;
-    v4 = 8u; v5 = 5u; goto L7;
-L6:;
-    UNREACHABLE;
-L7:;
-    v50 = (u16)v4;
-    v51 = (u16)((u32)0u - (u32)v50);
-    v52 = (u16)((i16)(i8)v49);
-    v53 = (i16)v51 <= (i16)v52;
-    v54 = (i8)v49 <= (i8)v5;
-    v55 = (u8)(((u32)v53 & (u32)v54) & UINT64_C(1));
-    if (v55) { goto L13; }
-    else { goto L14; }
-L8:;
-    switch (v49) {
-    case 1u: goto L11;
-    case 2u: goto L11;
-    case 254u: goto L11;
-    default: goto L9;
-    }
-L9:;
-    v56 = (struct s3){ 1u, 0u };
-    v56.m1 = v2;
-    v6 = v56; v7 = v2; goto L15;
-L10:;
-    UNREACHABLE;
-L11:;
-    goto L13;
-L12:;
-    v57 = (u8)((u32)v49 + (u32)254u);
-    v58 = v57 < 9u;
-    if (v58) { goto L13; }
-    else { goto L14; }
-L13:;
-    v59 = v35 == 0u;
-    if (v59) { v6 = (struct s3){ 0 }; v7 = 0u; goto L15; }
-    else { v2 = v34; v3 = v35; goto L1; }
-L14:;
-    v60 = (struct s3){ 1u, 0u };
-    v60.m1 = v2;
-    v6 = v60; v7 = v2; goto L15;
-L15:;
-    v61 = v6.m0;
-    v62 = (u8)((v61) & UINT64_C(1));
-    if (v62) { goto L16; }
-    else { v8 = 0u; v9 = 0u; v10 = 0u; v11 = 0u; goto L17; }
-L16:;
-    v63 = load8(v7);
-    v64 = v7 + 1u * 1u;
-    v65 = load8(v64);
-    v8 = 1u; v9 = 2u; v10 = v63; v11 = v65; goto L17;
-L17:;
-    store8(a0, v8);
-    v66 = a0 + 1u * 1u;
-    store8(v66, v9);
-    v67 = a0 + 2u * 1u;
-    store8(v67, v10);
-    v68 = a0 + 3u * 1u;
-    store8(v68, v11);
-    return;
+static u8 f27(address a0, u64 a1) {
+    address v2, v3, v4, v7, v8, v11, v12, v15, v16, v19, v20, v23, v24, v27, v28, v31;
+    address v32, v37, v38, v42, v43, v47, v48, v52, v53, v57, v58, v62, v63, v67, v68, v72;
+    address v73, v77, v78, v82, v83, v87, v88, v92, v93, v97, v98, v102, v103, v107, v108, v112;
+    address v113, v116, v117, v122, v123, v129, v130, v136, v137, v143, v144, v150, v151, v157, v158, v164;
+    address v165;
+    u8 v5, v6, v9, v10, v13, v14, v17, v18, v21, v22, v25, v26, v29, v30, v33, v34;
+    u8 v39, v40, v44, v45, v49, v50, v54, v55, v59, v60, v64, v65, v69, v70, v74, v75;
+    u8 v79, v80, v84, v85, v89, v90, v94, v95, v99, v100, v104, v105, v109, v110, v114, v115;
+    u8 v118, v119, v120, v124, v125, v126, v127, v131, v132, v133, v134, v138, v139, v140, v141, v145;
+    u8 v146, v147, v148, v152, v153, v154, v155, v159, v160, v161, v162, v166, v167, v168, v169, v170;
+    u8 v171, v172, v173, v174, v175, v176, v177, v178, v179, v180, v181, v182, v183, v184, v185, v186;
+    u8 v187, v188, v189, v190, v191, v192, v193, v194, v195, v196, v197, v198, v199, v200, v201, v202;
+    u8 v203, v204, v205, v206, v207, v208, v209, v210, v211, v212, v213, v214, v215, v216, v217;
+    u64 v35, v36, v41, v46, v51, v56, v61, v66, v71, v76, v81, v86, v91, v96, v101, v106;
+    u64 v111, v121, v128, v135, v142, v149, v156, v163;
+    v2 = load_address(a0);
+    v3 = a0 + 16u * 1u;
+    v4 = load_address(v3);
+    v5 = load8(v2);
+    v6 = load8(v4);
+    v7 = v2 + 1u * 1u;
+    v8 = v4 + 1u * 1u;
+    v9 = load8(v7);
+    v10 = load8(v8);
+    v11 = v2 + 2u * 1u;
+    v12 = v4 + 2u * 1u;
+    v13 = load8(v11);
+    v14 = load8(v12);
+    v15 = v2 + 3u * 1u;
+    v16 = v4 + 3u * 1u;
+    v17 = load8(v15);
+    v18 = load8(v16);
+    v19 = v2 + 4u * 1u;
+    v20 = v4 + 4u * 1u;
+    v21 = load8(v19);
+    v22 = load8(v20);
+    v23 = v2 + 5u * 1u;
+    v24 = v4 + 5u * 1u;
+    v25 = load8(v23);
+    v26 = load8(v24);
+    v27 = v2 + 6u * 1u;
+    v28 = v4 + 6u * 1u;
+    v29 = load8(v27);
+    v30 = load8(v28);
+    v31 = v2 + 7u * 1u;
+    v32 = v4 + 7u * 1u;
+    v33 = load8(v31);
+    v34 = load8(v32);
+    v35 = (u64)((u64)a1 + (u64)UINT64_C(18446744073709551608));
+    v36 = v35 < 8u ? v35 : 8u;
+    v37 = v2 + v36 * 1u;
+    v38 = v4 + v36 * 1u;
+    v39 = load8(v37);
+    v40 = load8(v38);
+    v41 = (u64)((u64)v36 + (u64)1u);
+    v42 = v2 + v41 * 1u;
+    v43 = v4 + v41 * 1u;
+    v44 = load8(v42);
+    v45 = load8(v43);
+    v46 = (u64)((u64)v36 + (u64)2u);
+    v47 = v2 + v46 * 1u;
+    v48 = v4 + v46 * 1u;
+    v49 = load8(v47);
+    v50 = load8(v48);
+    v51 = (u64)((u64)v36 + (u64)3u);
+    v52 = v2 + v51 * 1u;
+    v53 = v4 + v51 * 1u;
+    v54 = load8(v52);
+    v55 = load8(v53);
+    v56 = (u64)((u64)v36 + (u64)4u);
+    v57 = v2 + v56 * 1u;
+    v58 = v4 + v56 * 1u;
+    v59 = load8(v57);
+    v60 = load8(v58);
+    v61 = (u64)((u64)v36 + (u64)5u);
+    v62 = v2 + v61 * 1u;
+    v63 = v4 + v61 * 1u;
+    v64 = load8(v62);
+    v65 = load8(v63);
+    v66 = (u64)((u64)v36 + (u64)6u);
+    v67 = v2 + v66 * 1u;
+    v68 = v4 + v66 * 1u;
+    v69 = load8(v67);
+    v70 = load8(v68);
+    v71 = (u64)((u64)v36 + (u64)7u);
+    v72 = v2 + v71 * 1u;
+    v73 = v4 + v71 * 1u;
+    v74 = load8(v72);
+    v75 = load8(v73);
+    v76 = v35 < 16u ? v35 : 16u;
+    v77 = v2 + v76 * 1u;
+    v78 = v4 + v76 * 1u;
+    v79 = load8(v77);
+    v80 = load8(v78);
+    v81 = (u64)((u64)v76 + (u64)1u);
+    v82 = v2 + v81 * 1u;
+    v83 = v4 + v81 * 1u;
+    v84 = load8(v82);
+    v85 = load8(v83);
+    v86 = (u64)((u64)v76 + (u64)2u);
+    v87 = v2 + v86 * 1u;
+    v88 = v4 + v86 * 1u;
+    v89 = load8(v87);
+    v90 = load8(v88);
+    v91 = (u64)((u64)v76 + (u64)3u);
+    v92 = v2 + v91 * 1u;
+    v93 = v4 + v91 * 1u;
+    v94 = load8(v92);
+    v95 = load8(v93);
+    v96 = (u64)((u64)v76 + (u64)4u);
+    v97 = v2 + v96 * 1u;
+    v98 = v4 + v96 * 1u;
+    v99 = load8(v97);
+    v100 = load8(v98);
+    v101 = (u64)((u64)v76 + (u64)5u);
+    v102 = v2 + v101 * 1u;
+    v103 = v4 + v101 * 1u;
+    v104 = load8(v102);
+    v105 = load8(v103);
+    v106 = (u64)((u64)v76 + (u64)6u);
+    v107 = v2 + v106 * 1u;
+    v108 = v4 + v106 * 1u;
+    v109 = load8(v107);
+    v110 = load8(v108);
+    v111 = (u64)((u64)v76 + (u64)7u);
+    v112 = v2 + v111 * 1u;
+    v113 = v4 + v111 * 1u;
+    v114 = load8(v112);
+    v115 = load8(v113);
+    v116 = v2 + v35 * 1u;
+    v117 = v4 + v35 * 1u;
+    v118 = load8(v116);
+    v119 = load8(v117);
+    v120 = v118 != v119;
+    v121 = (u64)((u64)a1 + (u64)UINT64_C(18446744073709551609));
+    v122 = v2 + v121 * 1u;
+    v123 = v4 + v121 * 1u;
+    v124 = load8(v122);
+    v125 = load8(v123);
+    v126 = v124 != v125;
+    v127 = (u8)(((u32)v120 | (u32)v126) & UINT64_C(1));
+    v128 = (u64)((u64)a1 + (u64)UINT64_C(18446744073709551610));
+    v129 = v2 + v128 * 1u;
+    v130 = v4 + v128 * 1u;
+    v131 = load8(v129);
+    v132 = load8(v130);
+    v133 = v131 != v132;
+    v134 = (u8)(((u32)v127 | (u32)v133) & UINT64_C(1));
+    v135 = (u64)((u64)a1 + (u64)UINT64_C(18446744073709551611));
+    v136 = v2 + v135 * 1u;
+    v137 = v4 + v135 * 1u;
+    v138 = load8(v136);
+    v139 = load8(v137);
+    v140 = v138 != v139;
+    v141 = (u8)(((u32)v134 | (u32)v140) & UINT64_C(1));
+    v142 = (u64)((u64)a1 + (u64)UINT64_C(18446744073709551612));
+    v143 = v2 + v142 * 1u;
+    v144 = v4 + v142 * 1u;
+    v145 = load8(v143);
+    v146 = load8(v144);
+    v147 = v145 != v146;
+    v148 = (u8)(((u32)v141 | (u32)v147) & UINT64_C(1));
+    v149 = (u64)((u64)a1 + (u64)UINT64_C(18446744073709551613));
+    v150 = v2 + v149 * 1u;
+    v151 = v4 + v149 * 1u;
+    v152 = load8(v150);
+    v153 = load8(v151);
+    v154 = v152 != v153;
+    v155 = (u8)(((u32)v148 | (u32)v154) & UINT64_C(1));
+    v156 = (u64)((u64)a1 + (u64)UINT64_C(18446744073709551614));
+    v157 = v2 + v156 * 1u;
+    v158 = v4 + v156 * 1u;
+    v159 = load8(v157);
+    v160 = load8(v158);
+    v161 = v159 != v160;
+    v162 = (u8)(((u32)v155 | (u32)v161) & UINT64_C(1));
+    v163 = (u64)((u64)a1 + (u64)UINT64_C(18446744073709551615));
+    v164 = v2 + v163 * 1u;
+    v165 = v4 + v163 * 1u;
+    v166 = load8(v164);
+    v167 = load8(v165);
+    v168 = v166 != v167;
+    v169 = (u8)(((u32)v162 | (u32)v168) & UINT64_C(1));
+    v170 = v79 != v80;
+    v171 = v84 != v85;
+    v172 = (u8)(((u32)v170 | (u32)v171) & UINT64_C(1));
+    v173 = v89 != v90;
+    v174 = (u8)(((u32)v172 | (u32)v173) & UINT64_C(1));
+    v175 = v94 != v95;
+    v176 = (u8)(((u32)v174 | (u32)v175) & UINT64_C(1));
+    v177 = v99 != v100;
+    v178 = (u8)(((u32)v176 | (u32)v177) & UINT64_C(1));
+    v179 = v104 != v105;
+    v180 = (u8)(((u32)v178 | (u32)v179) & UINT64_C(1));
+    v181 = v109 != v110;
+    v182 = (u8)(((u32)v180 | (u32)v181) & UINT64_C(1));
+    v183 = v114 != v115;
+    v184 = (u8)(((u32)v182 | (u32)v183) & UINT64_C(1));
+    v185 = v39 != v40;
+    v186 = v44 != v45;
+    v187 = (u8)(((u32)v185 | (u32)v186) & UINT64_C(1));
+    v188 = v49 != v50;
+    v189 = (u8)(((u32)v187 | (u32)v188) & UINT64_C(1));
+    v190 = v54 != v55;
+    v191 = (u8)(((u32)v189 | (u32)v190) & UINT64_C(1));
+    v192 = v59 != v60;
+    v193 = (u8)(((u32)v191 | (u32)v192) & UINT64_C(1));
+    v194 = v64 != v65;
+    v195 = (u8)(((u32)v193 | (u32)v194) & UINT64_C(1));
+    v196 = v69 != v70;
+    v197 = (u8)(((u32)v195 | (u32)v196) & UINT64_C(1));
+    v198 = v74 != v75;
+    v199 = (u8)(((u32)v197 | (u32)v198) & UINT64_C(1));
+    v200 = v5 != v6;
+    v201 = v9 != v10;
+    v202 = (u8)(((u32)v200 | (u32)v201) & UINT64_C(1));
+    v203 = v13 != v14;
+    v204 = (u8)(((u32)v202 | (u32)v203) & UINT64_C(1));
+    v205 = v17 != v18;
+    v206 = (u8)(((u32)v204 | (u32)v205) & UINT64_C(1));
+    v207 = v21 != v22;
+    v208 = (u8)(((u32)v206 | (u32)v207) & UINT64_C(1));
+    v209 = v25 != v26;
+    v210 = (u8)(((u32)v208 | (u32)v209) & UINT64_C(1));
+    v211 = v29 != v30;
+    v212 = (u8)(((u32)v210 | (u32)v211) & UINT64_C(1));
+    v213 = v33 != v34;
+    v214 = (u8)(((u32)v212 | (u32)v213) & UINT64_C(1));
+    v215 = (u8)(((u32)v214 | (u32)v199) & UINT64_C(1));
+    v216 = (u8)(((u32)v215 | (u32)v184) & UINT64_C(1));
+    v217 = (u8)(((u32)v216 | (u32)v169) & UINT64_C(1));
+    return v217;
 }
 
-static void f30(address a0, u64 a1) {
-    u64 v2, v3, v5, v8, v9, v10, v13, v14, v19;
-    address v4, v7, v12, v16, v17;
-    u8 v6, v11, v15, v18, v20;
-    v4 = a0 + 136u * 1u;
-    v5 = load64(v4);
-    v6 = a1 < v5;
-    if (v6) { goto L1; }
-    else { v2 = v5; goto L2; }
+static u8 f28(address a0, u64 a1, address a2, u64 a3) {
+    u8 v4, v6, v9, v13, v15, v17, v22, v23, v24, v27, v28, v31, v32, v35, v36, v40;
+    u8 v41, v42, v46, v47, v48, v49, v53, v54, v55, v56, v60, v61, v62, v63, v64, v65;
+    u8 v66, v67, v68, v69, v70, v71, v72, v73, v74, v78, v79, v80, v81, v83, v88, v89;
+    u8 v90, v91, v93, v94, v98, v99, v100, v101, v103, v106, v108, v112, v113, v114, v115, v117;
+    u8 v120, v122, v127, v128, v129, v130, v132, v133;
+    u64 v5, v7, v8, v10, v11, v12, v14, v16, v37, v43, v50, v57, v75, v82, v84, v85;
+    u64 v92, v95, v102, v104, v105, v107, v109, v116, v118, v119, v121, v123, v124, v131;
+    address v18, v19, v20, v21, v25, v26, v29, v30, v33, v34, v38, v39, v44, v45, v51, v52;
+    address v58, v59, v76, v77, v86, v87, v96, v97, v110, v111, v125, v126;
+    u64 block0[4];
+    v18 = ADDRESS(block0);
+    store_address(v18, a0);
+    v19 = v18 + 8u * 1u;
+    store64(v19, a1);
+    v20 = v18 + 16u * 1u;
+    store_address(v20, a2);
+    v21 = v18 + 24u * 1u;
+    store64(v21, a3);
+    v22 = a1 < 9u;
+    if (v22) { goto L1; }
+    else { goto L2; }
 L1:;
-    v7 = a0 + a1 * 1u;
-    v8 = (u64)((u64)v5 - (u64)a1);
-    memory_set(v7, 0u, v8);
-    store64(v4, a1);
-    v2 = a1; goto L2;
+    v23 = load8(a0);
+    v24 = load8(a2);
+    v25 = a0 + 1u * 1u;
+    v26 = a2 + 1u * 1u;
+    v27 = load8(v25);
+    v28 = load8(v26);
+    v29 = a0 + 2u * 1u;
+    v30 = a2 + 2u * 1u;
+    v31 = load8(v29);
+    v32 = load8(v30);
+    v33 = a0 + 3u * 1u;
+    v34 = a2 + 3u * 1u;
+    v35 = load8(v33);
+    v36 = load8(v34);
+    v37 = (u64)((u64)a1 + (u64)UINT64_C(18446744073709551612));
+    v38 = a0 + v37 * 1u;
+    v39 = a2 + v37 * 1u;
+    v40 = load8(v38);
+    v41 = load8(v39);
+    v42 = v40 != v41;
+    v43 = (u64)((u64)a1 + (u64)UINT64_C(18446744073709551613));
+    v44 = a0 + v43 * 1u;
+    v45 = a2 + v43 * 1u;
+    v46 = load8(v44);
+    v47 = load8(v45);
+    v48 = v46 != v47;
+    v49 = (u8)(((u32)v42 | (u32)v48) & UINT64_C(1));
+    v50 = (u64)((u64)a1 + (u64)UINT64_C(18446744073709551614));
+    v51 = a0 + v50 * 1u;
+    v52 = a2 + v50 * 1u;
+    v53 = load8(v51);
+    v54 = load8(v52);
+    v55 = v53 != v54;
+    v56 = (u8)(((u32)v49 | (u32)v55) & UINT64_C(1));
+    v57 = (u64)((u64)a1 + (u64)UINT64_C(18446744073709551615));
+    v58 = a0 + v57 * 1u;
+    v59 = a2 + v57 * 1u;
+    v60 = load8(v58);
+    v61 = load8(v59);
+    v62 = v60 != v61;
+    v63 = (u8)(((u32)v56 | (u32)v62) & UINT64_C(1));
+    v64 = v23 != v24;
+    v65 = v27 != v28;
+    v66 = (u8)(((u32)v64 | (u32)v65) & UINT64_C(1));
+    v67 = v31 != v32;
+    v68 = (u8)(((u32)v66 | (u32)v67) & UINT64_C(1));
+    v69 = v35 != v36;
+    v70 = (u8)(((u32)v68 | (u32)v69) & UINT64_C(1));
+    v71 = (u8)(((u32)v70 | (u32)v63) & UINT64_C(1));
+    v17 = v71; goto L22;
 L2:;
-    v9 = (u64)((u64)a1 - (u64)v2);
-    v10 = (u64)((u64)130u - (u64)v2);
-    v11 = v10 < v9;
-    if (v11) { goto L7; }
-    else { goto L3; }
-L3:;
-    v12 = a0 + v2 * 1u;
-    v13 = (u64)v12;
-    v14 = (u64)((u64)v13 - (u64)(ADDRESS(c152) + 8u * 1u));
-    v15 = v14 < v9;
-    if (v15) { v3 = 0u; goto L5; }
+    v72 = a1 < 33u;
+    if (v72) { goto L3; }
     else { goto L4; }
-L4:;
-    memory_cpy(v12, (ADDRESS(c152) + 8u * 1u), v9);
-    goto L6;
-L5:;
-    v16 = v12 + v3 * 1u;
-    v17 = (ADDRESS(c152) + 8u * 1u) + v3 * 1u;
-    v18 = load8(v17);
-    store8(v16, v18);
-    v19 = (u64)((u64)v3 + (u64)1u);
-    v20 = v19 == v9;
-    if (v20) { goto L6; }
-    else { v3 = v19; goto L5; }
-L6:;
-    store64(v4, a1);
-    goto L7;
-L7:;
-    return;
-}
-
-static void f31(address a0, address a1, address a2, u16 a3, address a4, address a5, u64 a6) {
-    u64 v7, v9, v26, v34, v52, v53, v63, v65, v94, v116;
-    address v8, v10, v11, v12, v13, v14, v15, v16, v17, v18, v19, v20, v21, v22, v23, v24;
-    address v25, v28, v29, v30, v31, v33, v35, v37, v39, v41, v43, v45, v47, v49, v54, v56;
-    address v58, v60, v62, v64, v82, v83, v84, v85, v86, v87, v88, v89, v90, v95, v96, v97;
-    address v99, v101, v103, v104, v105, v107, v108, v113, v115, v117, v118;
-    u8 v27, v32, v36, v38, v40, v42, v44, v46, v48, v50, v51, v55, v57, v59, v61, v91;
-    u8 v93;
-    u16 v66, v67, v68, v69, v70, v71, v72, v73, v74, v75, v76, v77, v78, v79, v80, v81;
-    u16 v98, v100, v102, v106, v114;
-    u32 v92, v109, v110, v111, v112;
-    u64 block0[3];
-    u64 block1[9];
-    u64 block2[128];
-    u64 block3[32];
-    u64 block4[3];
-    u64 block5[32];
-    u64 block6[9];
-    v10 = ADDRESS(block0);
-    v11 = ADDRESS(block1);
-    v12 = ADDRESS(block2);
-    v13 = ADDRESS(block3);
-    v14 = ADDRESS(block4);
-    v15 = ADDRESS(block5);
-    v16 = ADDRESS(block6);
-    memory_set(v12, 0u, 1024u);
-    memory_set(v15, 0u, 256u);
-    memory_set(v16, 0u, 68u);
-    v7 = 0u; goto L1;
-L1:;
-    v17 = v12 + v7 * 1u;
-    store64(v17, 0u);
-    v18 = v17 + 8u * 1u;
-    store8(v18, 5u);
-    v19 = v17 + 9u * 1u;
-    store8(v19, 0u);
-    v20 = v17 + 10u * 1u;
-    store8(v20, 1u);
-    v21 = v17 + 11u * 1u;
-    store8(v21, 3u);
-    v22 = v17 + 12u * 1u;
-    store8(v22, 0u);
-    v23 = v17 + 13u * 1u;
-    store8(v23, 1u);
-    v24 = v17 + 14u * 1u;
-    store8(v24, 0u);
-    v25 = v17 + 15u * 1u;
-    store8(v25, 0u);
-    v26 = (u64)((u64)v7 + (u64)16u);
-    v27 = v26 == 1024u;
-    if (v27) { goto L2; }
-    else { v7 = v26; goto L1; }
-L2:;
-    f32(v15, a2, v12);
-    memory_cpy(v13, v15, 256u);
-    store_address(v14, a5);
-    v28 = v14 + 8u * 1u;
-    store64(v28, a6);
-    v29 = v14 + 16u * 1u;
-    store64(v29, 0u);
-    v30 = load_address(a4);
-    v31 = v30 + 4u * 1u;
-    v32 = load8(v31);
-    v33 = v30 + 20u * 1u;
-    v34 = load64(v33);
-    v35 = v30 + 28u * 1u;
-    v36 = load8(v35);
-    v37 = v30 + 29u * 1u;
-    v38 = load8(v37);
-    v39 = v30 + 30u * 1u;
-    v40 = load8(v39);
-    v41 = v30 + 31u * 1u;
-    v42 = load8(v41);
-    v43 = v30 + 44u * 1u;
-    v44 = load8(v43);
-    v45 = v30 + 45u * 1u;
-    v46 = load8(v45);
-    v47 = a4 + 16u * 1u;
-    v48 = load8(v47);
-    v49 = a4 + 17u * 1u;
-    v50 = load8(v49);
-    v51 = v50 == 0u;
-    v52 = v51 ? 52u : 54u;
-    v53 = v51 ? 53u : 55u;
-    v54 = v30 + v52 * 1u;
-    v55 = load8(v54);
-    v56 = v30 + v53 * 1u;
-    v57 = load8(v56);
-    v58 = v30 + 42u * 1u;
-    v59 = load8(v58);
-    v60 = v30 + 43u * 1u;
-    v61 = load8(v60);
-    if (v51) { goto L3; }
-    else { v8 = ADDRESS(c155); v9 = 0u; goto L4; }
 L3:;
-    v62 = a4 + 8u * 1u;
-    v63 = load64(v62);
-    v64 = v30 + 54u * 1u;
-    v65 = (u64)((u64)v63 + (u64)UINT64_C(18446744073709551562));
-    v8 = v64; v9 = v65; goto L4;
+    v73 = f27(v18, a1);
+    v17 = v73; goto L22;
 L4:;
-    v66 = (u16)v40;
-    v67 = (u16)((u32)v66 << (8u & 15u));
-    v68 = (u16)v42;
-    v69 = (u16)((u32)v67 | (u32)v68);
-    v70 = (u16)v36;
-    v71 = (u16)((u32)v70 << (8u & 15u));
-    v72 = (u16)v38;
-    v73 = (u16)((u32)v71 | (u32)v72);
-    v74 = (u16)v59;
-    v75 = (u16)((u32)v74 << (8u & 15u));
-    v76 = (u16)v61;
-    v77 = (u16)((u32)v75 | (u32)v76);
-    v78 = (u16)v55;
-    v79 = (u16)((u32)v78 << (8u & 15u));
-    v80 = (u16)v57;
-    v81 = (u16)((u32)v79 | (u32)v80);
-    store8(v10, v48);
-    v82 = v10 + 1u * 1u;
-    store8(v82, 0u);
-    v83 = v10 + 2u * 1u;
-    store16(v83, v81);
-    v84 = v10 + 4u * 1u;
-    store16(v84, v77);
-    v85 = v10 + 6u * 1u;
-    store16(v85, 0u);
-    v86 = v10 + 8u * 1u;
-    store_address(v86, v8);
-    v87 = v10 + 16u * 1u;
-    store64(v87, v9);
-    v88 = v11 + 54u * 1u;
-    v89 = v11 + 56u * 1u;
-    v90 = v11 + 64u * 1u;
-    memory_set(v11, 0u, 64u);
-    store_address(v90, v14);
-    v91 = v48 > 2u;
-    v92 = v91 ? UINT32_C(262144) : UINT32_C(131072);
-    v93 = v44 > v46 ? (u8)((u32)v44 - (u32)v46) : 0u;
-    v94 = load64(a1);
-    store16(v88, v81);
-    store16(v89, a3);
-    v95 = v11 + 48u * 1u;
-    store16(v11, 4621u);
-    v96 = v11 + 2u * 1u;
-    store16(v96, 13824u);
-    v97 = v11 + 4u * 1u;
-    v98 = (u16)v32;
-    store16(v97, v98);
-    v99 = v11 + 20u * 1u;
-    store64(v99, v94);
-    v100 = swap16(a3);
-    v101 = v11 + 28u * 1u;
-    store16(v101, v100);
-    v102 = swap16(v69);
-    v103 = v11 + 30u * 1u;
-    store16(v103, v102);
-    v104 = v11 + 32u * 1u;
-    store16(v104, 32516u);
-    v105 = v11 + 34u * 1u;
-    store64(v105, v34);
-    v106 = swap16(v73);
-    v107 = v11 + 42u * 1u;
-    store16(v107, v106);
-    v108 = v11 + 44u * 1u;
-    v109 = (u32)v93;
-    v110 = (u32)((u32)v109 << (8u & 31u));
-    v111 = (u32)((u32)v92 | (u32)v110);
-    v112 = (u32)((u32)v111 | (u32)v109);
-    store32(v108, v112);
-    store16(v95, 256u);
-    v113 = v11 + 50u * 1u;
-    store16(v113, 512u);
-    v114 = swap16(v81);
-    v115 = v11 + 52u * 1u;
-    store16(v115, v114);
-    f33(a2, v10, 7u, v11);
-    v116 = load64(v29);
-    f41(v16, a2, v13);
-    store64(a0, v116);
-    v117 = a0 + 8u * 1u;
-    memory_cpy(v117, v16, 68u);
-    v118 = a0 + 76u * 1u;
-    store32(v118, 0u);
-    return;
+    v74 = a1 < 65u;
+    if (v74) { v4 = 0u; v5 = 0u; goto L6; }
+    else { goto L5; }
+L5:;
+    v75 = (u64)((u64)a1 & (u64)UINT64_C(18446744073709551552));
+    v8 = 0u; goto L10;
+L6:;
+    v76 = a0 + v5 * 1u;
+    v77 = a2 + v5 * 1u;
+    v78 = load8(v76);
+    v79 = load8(v77);
+    v80 = v78 != v79;
+    v81 = (u8)(((u32)v4 | (u32)v80) & UINT64_C(1));
+    v82 = (u64)((u64)v5 + (u64)1u);
+    v83 = v82 == 32u;
+    if (v83) { goto L7; }
+    else { v4 = v81; v5 = v82; goto L6; }
+L7:;
+    v84 = (u64)((u64)a1 + (u64)UINT64_C(18446744073709551584));
+    v6 = 0u; v7 = 0u; goto L8;
+L8:;
+    v85 = (u64)((u64)v84 + (u64)v7);
+    v86 = a0 + v85 * 1u;
+    v87 = a2 + v85 * 1u;
+    v88 = load8(v86);
+    v89 = load8(v87);
+    v90 = v88 != v89;
+    v91 = (u8)(((u32)v6 | (u32)v90) & UINT64_C(1));
+    v92 = (u64)((u64)v7 + (u64)1u);
+    v93 = v92 == 32u;
+    if (v93) { goto L9; }
+    else { v6 = v91; v7 = v92; goto L8; }
+L9:;
+    v94 = (u8)(((u32)v81 | (u32)v91) & UINT64_C(1));
+    v17 = v94; goto L22;
+L10:;
+    v9 = 0u; v10 = 0u; goto L11;
+L11:;
+    v95 = (u64)((u64)v10 + (u64)v8);
+    v96 = a0 + v95 * 1u;
+    v97 = a2 + v95 * 1u;
+    v98 = load8(v96);
+    v99 = load8(v97);
+    v100 = v98 != v99;
+    v101 = (u8)(((u32)v9 | (u32)v100) & UINT64_C(1));
+    v102 = (u64)((u64)v10 + (u64)1u);
+    v103 = v102 == 64u;
+    if (v103) { goto L12; }
+    else { v9 = v101; v10 = v102; goto L11; }
+L12:;
+    if (v101) { v11 = v8; goto L14; }
+    else { goto L13; }
+L13:;
+    v104 = (u64)((u64)v8 + (u64)64u);
+    v105 = (u64)((u64)a1 - (u64)v104);
+    v106 = v105 < 64u;
+    if (v106) { v11 = v75; goto L14; }
+    else { v8 = v104; goto L10; }
+L14:;
+    v107 = (u64)((u64)a1 - (u64)v11);
+    v108 = v107 < 32u;
+    if (v108) { goto L20; }
+    else { v12 = v11; goto L15; }
+L15:;
+    v13 = 0u; v14 = 0u; goto L16;
+L16:;
+    v109 = (u64)((u64)v14 + (u64)v12);
+    v110 = a0 + v109 * 1u;
+    v111 = a2 + v109 * 1u;
+    v112 = load8(v110);
+    v113 = load8(v111);
+    v114 = v112 != v113;
+    v115 = (u8)(((u32)v13 | (u32)v114) & UINT64_C(1));
+    v116 = (u64)((u64)v14 + (u64)1u);
+    v117 = v116 == 32u;
+    if (v117) { goto L17; }
+    else { v13 = v115; v14 = v116; goto L16; }
+L17:;
+    if (v115) { goto L19; }
+    else { goto L18; }
+L18:;
+    v118 = (u64)((u64)v12 + (u64)32u);
+    v119 = (u64)((u64)a1 - (u64)v118);
+    v120 = v119 < 32u;
+    if (v120) { goto L20; }
+    else { v12 = v118; goto L15; }
+L19:;
+    v121 = (u64)((u64)a1 - (u64)v12);
+    v122 = v121 > 31u;
+    if (v122) { v17 = 1u; goto L22; }
+    else { goto L20; }
+L20:;
+    v123 = (u64)((u64)a1 + (u64)UINT64_C(18446744073709551584));
+    v15 = 0u; v16 = 0u; goto L21;
+L21:;
+    v124 = (u64)((u64)v123 + (u64)v16);
+    v125 = a0 + v124 * 1u;
+    v126 = a2 + v124 * 1u;
+    v127 = load8(v125);
+    v128 = load8(v126);
+    v129 = v127 != v128;
+    v130 = (u8)(((u32)v15 | (u32)v129) & UINT64_C(1));
+    v131 = (u64)((u64)v16 + (u64)1u);
+    v132 = v131 == 32u;
+    if (v132) { v17 = v130; goto L22; }
+    else { v15 = v130; v16 = v131; goto L21; }
+L22:;
+    v133 = (u8)(((u32)v17 ^ (u32)1u) & UINT64_C(1));
+    return v133;
 }
 
-static void f32(address a0, address a1, address a2) {
-    u64 v3, v5, v6, v18, v19, v20, v21, v22, v25, v28, v32, v36, v37, v38, v39, v41;
-    u64 v44, v45, v48;
-    address v4, v7, v8, v9, v10, v11, v12, v15, v16, v17, v26, v27, v30, v31, v34, v40;
-    address v42, v43, v50, v51, v52, v53, v54, v55, v56, v57, v58, v59;
-    u8 v13, v14, v23, v24, v29, v33, v35, v46, v47, v49;
-    u64 block0[18];
-    u64 block1[30];
-    u64 block2[18];
+static void f29(address a0, address a1, u16 a2, address a3) {
+    u64 v4, v6, v21, v30, v37, v38, v51, v52, v93;
+    address v5, v8, v10, v12, v14, v15, v18, v19, v20, v28, v29, v31, v32, v33, v34, v35;
+    address v36, v39, v44, v47, v54, v58, v62, v66, v70, v92, v96;
+    u8 v7, v9, v11, v13, v16, v17, v23, v27, v40, v41, v42, v43, v45, v46, v48, v49;
+    u8 v50, v53, v55, v56, v57, v59, v60, v61, v63, v64, v65, v67, v68, v69, v71, v72;
+    u8 v73, v74, v75, v76, v77, v78, v79, v80, v81, v82, v83, v84, v85, v86, v87, v88;
+    u8 v89, v90, v91, v95;
+    u16 v22, v24, v25, v26, v94;
+    u64 block0[2];
+    u64 block1[8];
     v8 = ADDRESS(block0);
-    v9 = ADDRESS(block1);
-    v10 = ADDRESS(block2);
-    v11 = v9 + 16u * 1u;
-    memory_set(v11, 0u, 224u);
-    v12 = a1 + 240u * 1u;
+    v9 = load8(a3);
+    v10 = a3 + 1u * 1u;
+    v11 = load8(v10);
+    v12 = a3 + 2u * 1u;
     v13 = load8(v12);
-    v14 = v13 == 0u;
-    v15 = a1 + 248u * 1u;
-    if (v14) { v3 = 376u; v4 = v15; goto L2; }
+    v14 = ADDRESS(block1);
+    v15 = a1 + 240u * 1u;
+    v16 = load8(v15);
+    v17 = v16 == 0u;
+    v18 = a1 + 248u * 1u;
+    if (v17) { v4 = 376u; v5 = v18; goto L2; }
     else { goto L1; }
 L1:;
-    v16 = load_address(v15);
-    v3 = 256u; v4 = v16; goto L2;
+    v19 = load_address(v18);
+    v4 = 256u; v5 = v19; goto L2;
 L2:;
-    v17 = a1 + v3 * 1u;
-    v18 = load64(v17);
-    v19 = (u64)((u64)v18 << (4u & 63u));
-    v20 = (u64)a2;
-    v21 = (u64)v4;
-    v22 = (u64)((u64)v20 - (u64)v21);
-    v23 = v22 < v19;
-    if (v23) { goto L3; }
-    else { goto L4; }
-L3:;
-    v24 = v18 == 0u;
-    if (v24) { goto L6; }
-    else { v5 = 0u; goto L5; }
-L4:;
-    memory_move(a2, v4, v19);
-    goto L6;
-L5:;
-    v25 = (u64)((u64)v5 << (4u & 63u));
-    v26 = a2 + v25 * 1u;
-    v27 = v4 + v25 * 1u;
-    memory_move(v26, v27, 16u);
-    v28 = (u64)((u64)v5 + (u64)1u);
-    v29 = v28 == v18;
-    if (v29) { goto L6; }
-    else { v5 = v28; goto L5; }
-L6:;
-    v30 = a1 + 24u * 1u;
-    v31 = a1 + 160u * 1u;
-    v32 = load64(v31);
-    v33 = v32 == 0u;
-    if (v33) { v6 = 0u; v7 = v30; goto L8; }
-    else { goto L7; }
-L7:;
-    v34 = a1 + 25u * 1u;
-    v35 = load8(v30);
-    v36 = (u64)v35;
-    v6 = v36; v7 = v34; goto L8;
-L8:;
-    memory_set(v8, 0u, 144u);
-    v37 = (u64)((u64)v6 + (u64)1u);
-    v38 = (u64)((u64)v37 & (u64)1u);
-    v39 = (u64)((u64)v38 + (u64)v37);
-    v40 = v8 + 136u * 1u;
-    f30(v8, v39);
-    v41 = load64(v40);
-    v42 = v8 + 1u * 1u;
-    v43 = v42 + v6 * 1u;
-    v44 = (u64)((u64)v6 ^ (u64)UINT64_C(18446744073709551615));
-    v45 = (u64)((u64)v41 + (u64)v44);
-    v46 = (u8)(v6);
-    store8(v8, v46);
-    memory_cpy(v42, v7, v6);
-    v47 = v45 == 0u;
-    if (v47) { goto L12; }
+    v20 = a1 + v4 * 1u;
+    v21 = load64(v20);
+    memory_set(v14, 0u, 64u);
+    v22 = (u16)(v21);
+    v23 = a2 == 65535u;
+    v24 = (u16)((u32)a2 + (u32)65535u);
+    v25 = v23 ? 0u : v24;
+    v26 = v23 ? v22 : a2;
+    v27 = v25 < v26;
+    if (v27) { goto L3; }
     else { goto L9; }
+L3:;
+    v28 = v8 + 8u * 1u;
+    v29 = v8 + 10u * 1u;
+    v30 = (u64)v11;
+    v31 = v29 + v30 * 1u;
+    v32 = v8 + 9u * 1u;
+    v33 = v8 + 11u * 1u;
+    v34 = v8 + 12u * 1u;
+    v35 = v8 + 13u * 1u;
+    v36 = v8 + 14u * 1u;
+    v37 = (u64)v25;
+    v6 = v37; goto L4;
+L4:;
+    v38 = (u64)((u64)v6 << (4u & 63u));
+    v39 = v5 + v38 * 1u;
+    memory_cpy(v8, v39, 16u);
+    switch (v9) {
+    case 0u: goto L5;
+    case 1u: goto L6;
+    case 2u: v7 = v9; goto L8;
+    default: goto L7;
+    }
+L5:;
+    store8(v31, v13);
+    v40 = load8(v28);
+    v7 = v40; goto L8;
+L6:;
+    v41 = load8(v28);
+    v42 = v41 == 2u;
+    v43 = v42 ? 3u : v41;
+    v7 = v43; goto L8;
+L7:;
+    UNREACHABLE;
+L8:;
+    v44 = v39 + 8u * 1u;
+    v45 = load8(v44);
+    v46 = v45 != v7;
+    v47 = v39 + 9u * 1u;
+    v48 = load8(v47);
+    v49 = load8(v32);
+    v50 = v48 == v49;
+    v51 = load64(v39);
+    v52 = load64(v8);
+    v53 = v51 != v52;
+    v54 = v39 + 10u * 1u;
+    v55 = load8(v54);
+    v56 = load8(v29);
+    v57 = v55 == v56;
+    v58 = v39 + 11u * 1u;
+    v59 = load8(v58);
+    v60 = load8(v33);
+    v61 = v59 != v60;
+    v62 = v39 + 12u * 1u;
+    v63 = load8(v62);
+    v64 = load8(v34);
+    v65 = v63 == v64;
+    v66 = v39 + 13u * 1u;
+    v67 = load8(v66);
+    v68 = load8(v35);
+    v69 = v67 != v68;
+    v70 = v39 + 14u * 1u;
+    v71 = load8(v70);
+    v72 = load8(v36);
+    v73 = v71 == v72;
+    v74 = v73 ? 0u : 2u;
+    v75 = (u8)v69;
+    v76 = (u8)((u32)v74 | (u32)v75);
+    v77 = (u8)((u32)v76 << (2u & 7u));
+    v78 = v65 ? 0u : 2u;
+    v79 = (u8)((u32)v77 | (u32)v78);
+    v80 = (u8)v61;
+    v81 = (u8)((u32)v79 | (u32)v80);
+    v82 = (u8)((u32)v81 << (2u & 7u));
+    v83 = v57 ? 0u : 2u;
+    v84 = (u8)((u32)v82 | (u32)v83);
+    v85 = (u8)v53;
+    v86 = (u8)((u32)v84 | (u32)v85);
+    v87 = (u8)((u32)v86 << (2u & 7u));
+    v88 = v50 ? 0u : 2u;
+    v89 = (u8)((u32)v87 | (u32)v88);
+    v90 = (u8)v46;
+    v91 = (u8)((u32)v89 | (u32)v90);
+    v92 = v14 + v6 * 1u;
+    store8(v92, v91);
+    v93 = (u64)((u64)v6 + (u64)1u);
+    v94 = (u16)(v93);
+    v95 = v26 == v94;
+    if (v95) { goto L9; }
+    else { v6 = v93; goto L4; }
 L9:;
-    v48 = (u64)((u64)v45 + (u64)UINT64_C(18446744073709551615));
-    v49 = v48 == 0u;
-    if (v49) { goto L11; }
-    else { goto L10; }
-L10:;
-    memory_set(v43, 0u, v48);
-    goto L11;
-L11:;
-    v50 = v43 + v48 * 1u;
-    store8(v50, 0u);
-    goto L12;
-L12:;
-    memory_cpy(v10, v8, 144u);
-    v51 = a1 + 168u * 1u;
-    v52 = a1 + 192u * 1u;
-    v53 = a1 + 228u * 1u;
-    memory_cpy(v9, a1, 18u);
-    v54 = v9 + 24u * 1u;
-    memory_cpy(v54, v10, 144u);
-    v55 = v9 + 168u * 1u;
-    memory_cpy(v55, v51, 24u);
-    v56 = v9 + 192u * 1u;
-    memory_cpy(v56, v52, 36u);
-    v57 = v9 + 228u * 1u;
-    memory_cpy(v57, v53, 10u);
-    memory_cpy(a0, v9, 240u);
-    v58 = a0 + 240u * 1u;
-    store_address(v58, a2);
-    v59 = a0 + 248u * 1u;
-    store64(v59, v18);
+    store32(a0, 0u);
+    v96 = a0 + 4u * 1u;
+    memory_cpy(v96, v14, 64u);
     return;
 }
 
-static void f33(address a0, address a1, u8 a2, address a3) {
+static void f30(address a0, address a1, u8 a2, address a3) {
     address v4, v27, v28, v29, v30, v31, v33, v34, v35, v36, v37, v38, v39, v40, v50, v51;
     address v52, v78, v79, v80, v82, v83, v85, v86, v90, v92, v93, v96, v97, v98, v103, v104;
     address v106, v107, v108, v109, v112, v113, v114, v119, v120, v124, v126, v127, v130, v132, v133, v135;
@@ -6837,7 +6816,7 @@ L48:;
     store8(v79, v17);
     v80 = v27 + 3u * 1u;
     store8(v80, v18);
-    v81 = f35(v27, v51, v53);
+    v81 = f24(v27, v51, v53);
     if (v81) { goto L51; }
     else { v19 = 3u; goto L49; }
 L49:;
@@ -6846,7 +6825,7 @@ L49:;
 L50:;
     goto L51;
 L51:;
-    f36(a0, v12, v13, a1);
+    f32(a0, v12, v13, a1);
     if (v8) { goto L53; }
     else { v25 = 0u; v26 = 0u; goto L68; }
 L52:;
@@ -6870,7 +6849,7 @@ L52:;
     v97 = v96 + 2u * 1u;
     store16(v97, 60u);
     v98 = v96 + 4u * 1u;
-    f34(a3, v84, v89, v91, v98);
+    f31(a3, v84, v89, v91, v98);
     v99 = load64(v93);
     v100 = (u64)((u64)v99 + (u64)1u);
     store64(v93, v100);
@@ -7007,10 +6986,10 @@ L66:;
     store64(v138, v160);
     goto L69;
 L67:;
-    f38(a0, v12, a3);
+    f35(a0, v12, a3);
     goto L69;
 L68:;
-    f40(a0, v29, a1, v26, v25, a3);
+    f37(a0, v29, a1, v26, v25, a3);
     goto L69;
 L69:;
     return;
@@ -7032,14 +7011,14 @@ L70:;
     v173 = v172 + 2u * 1u;
     store16(v173, 60u);
     v174 = v172 + 4u * 1u;
-    f34(a3, v163, 2u, v167, v174);
+    f31(a3, v163, 2u, v167, v174);
     v175 = load64(v169);
     v176 = (u64)((u64)v175 + (u64)1u);
     store64(v169, v176);
     goto L69;
 }
 
-static void f34(address a0, u16 a1, u16 a2, u16 a3, address a4) {
+static void f31(address a0, u16 a1, u16 a2, u16 a3, address a4) {
     u64 v5, v7, v8, v9, v14, v16, v17;
     address v6, v11, v12, v19, v20, v21, v23, v25, v26, v28;
     u8 v10, v13, v15, v18;
@@ -7096,108 +7075,7 @@ L6:;
     return;
 }
 
-static u8 f35(address a0, address a1, u64 a2) {
-    address v3, v6, v8, v10, v12, v15, v29;
-    u64 v4, v17;
-    u8 v5, v7, v9, v11, v13, v14, v16, v18, v19, v20, v21, v25, v27, v28, v30, v31;
-    u8 v32, v33, v34, v35, v36, v37, v38, v39, v40, v41, v42, v43, v44, v45, v46;
-    u16 v22, v23, v24, v26;
-    u64 block0[3];
-    v6 = ADDRESS(block0);
-    v7 = load8(a0);
-    v8 = a0 + 1u * 1u;
-    v9 = load8(v8);
-    v10 = a0 + 2u * 1u;
-    v11 = load8(v10);
-    v12 = a0 + 3u * 1u;
-    v13 = load8(v12);
-    switch (v7) {
-    case 0u: v5 = 0u; goto L13;
-    case 1u: goto L1;
-    case 2u: goto L2;
-    case 7u: goto L5;
-    case 8u: goto L6;
-    case 3u: goto L7;
-    case 4u: goto L7;
-    case 5u: goto L7;
-    case 6u: goto L7;
-    default: goto L14;
-    }
-L1:;
-    v5 = 1u; goto L13;
-L2:;
-    v14 = a2 == 0u;
-    if (v14) { v3 = a1; v4 = 0u; goto L4; }
-    else { goto L3; }
-L3:;
-    v15 = a1 + 1u * 1u;
-    v16 = load8(a1);
-    v17 = (u64)v16;
-    v18 = v16 > v9;
-    if (v18) { v5 = 0u; goto L13; }
-    else { v3 = v15; v4 = v17; goto L4; }
-L4:;
-    memory_set(v6, 0u, 24u);
-    f27(v6, v3, v4);
-    v19 = load8(v6);
-    v20 = v19 == 0u;
-    v5 = v20; goto L13;
-L5:;
-    v21 = load8(a1);
-    v22 = (u16)v9;
-    v23 = (u16)((u32)0u - (u32)v22);
-    v24 = (u16)((i16)(i8)v21);
-    v25 = (i16)v23 <= (i16)v24;
-    v26 = (u16)v11;
-    v27 = (i16)v24 <= (i16)v26;
-    v28 = v25 ? v27 : 0u;
-    v5 = v28; goto L13;
-L6:;
-    v29 = a1 + 2u * 1u;
-    v30 = load8(v29);
-    v31 = (u8)((u32)v30 & (u32)3u);
-    v32 = v31 != 3u;
-    v5 = v32; goto L13;
-L7:;
-    v33 = load8(a1);
-    switch (v7) {
-    case 3u: v5 = 1u; goto L13;
-    case 4u: goto L8;
-    case 5u: goto L9;
-    case 6u: goto L10;
-    default: goto L11;
-    }
-L8:;
-    v34 = v9 <= v33;
-    v35 = v33 <= v11;
-    v36 = v34 ? v35 : 0u;
-    v5 = v36; goto L13;
-L9:;
-    v37 = v9 <= v33;
-    v38 = v33 <= v11;
-    v39 = v37 ? v38 : 0u;
-    v40 = v33 == v13;
-    v41 = v39 ? 1u : v40;
-    v5 = v41; goto L13;
-L10:;
-    v42 = (u8)((u32)v33 + (u32)2u);
-    v43 = v42 < 5u;
-    if (v43) { goto L12; }
-    else { v5 = 0u; goto L13; }
-L11:;
-    UNREACHABLE;
-L12:;
-    v44 = (u8)((v42) & UINT64_C(31));
-    v45 = (u8)(((u32)25u >> (v44 & 7u)) & UINT64_C(31));
-    v46 = (u8)((v45) & UINT64_C(1));
-    v5 = v46; goto L13;
-L13:;
-    return v5;
-L14:;
-    UNREACHABLE;
-}
-
-static void f36(address a0, u8 a1, u8 a2, address a3) {
+static void f32(address a0, u8 a1, u8 a2, address a3) {
     u64 v4, v6, v7, v18, v22, v24, v25, v26, v28, v30, v33, v34, v36, v37, v38, v43;
     u64 v46, v51, v52, v58, v59, v65, v66;
     address v5, v8, v9, v10, v11, v13, v15, v16, v17, v20, v23, v27, v31, v32, v40, v41;
@@ -7268,7 +7146,7 @@ L4:;
     if (v29) { v6 = v26; goto L6; }
     else { goto L5; }
 L5:;
-    f30(v23, v26);
+    f33(v23, v26);
     v30 = load64(v27);
     v6 = v30; goto L6;
 L6:;
@@ -7396,7 +7274,7 @@ L24:;
     store8(v91, a2);
     v92 = v11 + 2u * 1u;
     store8(v92, v90);
-    f37(a0, v14, v11);
+    f34(a0, v14, v11);
     goto L26;
 L25:;
     UNREACHABLE;
@@ -7436,7 +7314,7 @@ L29:;
     store8(v10, 2u);
     v8 = v10; goto L30;
 L30:;
-    f37(a0, v94, v8);
+    f34(a0, v94, v8);
     goto L32;
 L31:;
     UNREACHABLE;
@@ -7448,7 +7326,54 @@ L34:;
     UNREACHABLE;
 }
 
-static void f37(address a0, u16 a1, address a2) {
+static void f33(address a0, u64 a1) {
+    u64 v2, v3, v5, v8, v9, v10, v13, v14, v19;
+    address v4, v7, v12, v16, v17;
+    u8 v6, v11, v15, v18, v20;
+    v4 = a0 + 136u * 1u;
+    v5 = load64(v4);
+    v6 = a1 < v5;
+    if (v6) { goto L1; }
+    else { v2 = v5; goto L2; }
+L1:;
+    v7 = a0 + a1 * 1u;
+    v8 = (u64)((u64)v5 - (u64)a1);
+    memory_set(v7, 0u, v8);
+    store64(v4, a1);
+    v2 = a1; goto L2;
+L2:;
+    v9 = (u64)((u64)a1 - (u64)v2);
+    v10 = (u64)((u64)130u - (u64)v2);
+    v11 = v10 < v9;
+    if (v11) { goto L7; }
+    else { goto L3; }
+L3:;
+    v12 = a0 + v2 * 1u;
+    v13 = (u64)v12;
+    v14 = (u64)((u64)v13 - (u64)(ADDRESS(c152) + 8u * 1u));
+    v15 = v14 < v9;
+    if (v15) { v3 = 0u; goto L5; }
+    else { goto L4; }
+L4:;
+    memory_cpy(v12, (ADDRESS(c152) + 8u * 1u), v9);
+    goto L6;
+L5:;
+    v16 = v12 + v3 * 1u;
+    v17 = (ADDRESS(c152) + 8u * 1u) + v3 * 1u;
+    v18 = load8(v17);
+    store8(v16, v18);
+    v19 = (u64)((u64)v3 + (u64)1u);
+    v20 = v19 == v9;
+    if (v20) { goto L6; }
+    else { v3 = v19; goto L5; }
+L6:;
+    store64(v4, a1);
+    goto L7;
+L7:;
+    return;
+}
+
+static void f34(address a0, u16 a1, address a2) {
     u64 v3, v4, v15, v18, v19, v27, v29, v30, v33, v41, v44, v45, v53, v55, v56, v59;
     u8 v5, v7, v9, v11, v12, v16, v17, v24, v25, v28, v36, v37, v42, v43, v50, v51;
     u8 v54, v62, v63;
@@ -7626,7 +7551,7 @@ L33:;
     return;
 }
 
-static void f38(address a0, u8 a1, address a2) {
+static void f35(address a0, u8 a1, address a2) {
     u64 v3, v4, v5, v6, v11, v19, v20, v27, v28, v29, v34, v36, v37, v38, v43, v52;
     u64 v53, v55, v63, v64, v71, v72, v73, v78, v80, v81, v82, v87, v96, v97;
     address v7, v9, v10, v12, v13, v15, v16, v17, v18, v21, v24, v25, v26, v31, v32, v40;
@@ -7715,7 +7640,7 @@ L7:;
     goto L15;
 L8:;
     memory_set(v7, 0u, 144u);
-    f39(a0, a1, v7);
+    f36(a0, a1, v7);
     v54 = v7 + 136u * 1u;
     v55 = load64(v54);
     v56 = a2 + 58u * 1u;
@@ -7792,7 +7717,7 @@ L15:;
     return;
 }
 
-static void f39(address a0, u8 a1, address a2) {
+static void f36(address a0, u8 a1, address a2) {
     u64 v3, v5, v6, v7, v8, v9, v10, v11, v12, v13, v14, v15, v19, v20, v24, v27;
     u64 v29, v30, v33, v34, v35, v40, v42, v46, v48, v51, v52, v58, v59, v63, v64, v75;
     u64 v76, v82, v87, v88, v91, v92, v93, v117, v118, v119, v125, v127, v128, v134, v135, v138;
@@ -8406,7 +8331,7 @@ L62:;
     UNREACHABLE;
 }
 
-static void f40(address a0, address a1, address a2, u8 a3, u8 a4, address a5) {
+static void f37(address a0, address a1, address a2, u8 a3, u8 a4, address a5) {
     u16 v6, v7, v21, v29, v30, v48, v50, v51, v59, v64, v82, v83, v100, v101, v107, v108;
     u16 v109, v110, v114, v138, v139, v144, v162, v163, v182, v200, v202, v203, v208, v226, v227;
     u64 v8, v9, v10, v12, v13, v14, v17, v18, v26, v28, v40, v42, v43, v44, v54, v55;
@@ -8480,7 +8405,7 @@ L5:;
     store16(v57, 60u);
     v58 = v56 + 4u * 1u;
     v59 = (u16)(v8);
-    f34(a5, v59, v50, v51, v58);
+    f31(a5, v59, v50, v51, v58);
     v60 = load64(v53);
     v61 = (u64)((u64)v60 + (u64)1u);
     store64(v53, v61);
@@ -8822,938 +8747,28 @@ L41:;
     return;
 }
 
-static void f41(address a0, address a1, address a2) {
-    u64 v3, v4, v7, v9, v11, v12, v16, v22, v24, v27, v34, v35, v37, v41, v55, v56;
-    u64 v108, v109, v120, v124, v127, v131, v161, v209, v210, v215, v216, v220, v221, v278, v279, v360;
-    u64 v365;
-    address v5, v8, v10, v17, v18, v19, v23, v26, v31, v32, v33, v38, v39, v40, v43, v44;
-    address v45, v47, v50, v51, v58, v62, v64, v67, v69, v72, v74, v77, v79, v101, v103, v104;
-    address v105, v106, v107, v112, v113, v118, v119, v122, v125, v126, v129, v137, v138, v143, v144, v149;
-    address v150, v156, v157, v167, v168, v173, v178, v179, v184, v185, v190, v191, v196, v197, v202, v207;
-    address v208, v213, v214, v219, v223, v225, v229, v230, v235, v236, v241, v242, v247, v252, v253, v258;
-    address v259, v264, v265, v270, v271, v276, v277, v282, v287, v288, v293, v294, v299, v300, v305, v306;
-    address v311, v312, v317, v318, v323, v324, v329, v330, v331, v332, v333, v334, v335, v336, v337, v338;
-    address v339, v340, v341, v342, v343, v344, v345, v346, v347, v348, v349, v350, v351, v352, v353, v354;
-    address v355, v356, v357, v358, v361, v367;
-    u8 v6, v13, v14, v20, v21, v30, v36, v42, v46, v48, v49, v52, v53, v54, v57, v59;
-    u8 v60, v61, v63, v65, v66, v68, v70, v71, v73, v75, v76, v78, v80, v81, v82, v83;
-    u8 v84, v85, v86, v87, v88, v89, v90, v91, v92, v93, v94, v95, v96, v97, v98, v99;
-    u8 v100, v102, v110, v111, v114, v115, v116, v117, v121, v123, v128, v130, v132, v133, v134, v135;
-    u8 v136, v139, v140, v141, v142, v145, v146, v147, v148, v151, v152, v153, v154, v155, v158, v159;
-    u8 v160, v162, v163, v164, v165, v166, v169, v170, v171, v172, v174, v175, v176, v177, v180, v181;
-    u8 v182, v183, v186, v187, v188, v189, v194, v195, v198, v199, v200, v201, v205, v206, v211, v212;
-    u8 v217, v218, v222, v227, v228, v231, v232, v233, v234, v239, v240, v245, v246, v248, v249, v250;
-    u8 v251, v254, v255, v256, v257, v260, v261, v262, v263, v268, v269, v272, v273, v274, v275, v280;
-    u8 v281, v285, v286, v289, v290, v291, v292, v295, v296, v297, v298, v301, v302, v303, v304, v307;
-    u8 v308, v309, v310, v313, v314, v315, v316, v319, v320, v321, v322, v325, v326, v327, v328, v362;
-    u8 v366;
-    u32 v15, v243, v244, v359, v363, v364;
-    u16 v25, v28, v29, v192, v193, v203, v204, v224, v226, v237, v238, v266, v267, v283, v284;
-    u64 block0[4];
-    u64 block1[8];
-    v17 = ADDRESS(block0);
-    v18 = ADDRESS(block1);
-    memory_set(v18, 0u, 64u);
-    v19 = a1 + 240u * 1u;
-    v20 = load8(v19);
-    v21 = v20 == 0u;
-    v22 = v21 ? 376u : 256u;
-    v23 = a1 + v22 * 1u;
-    v24 = load64(v23);
-    v25 = (u16)(v24);
-    v26 = a2 + 248u * 1u;
-    v27 = load64(v26);
-    v28 = (u16)(v27);
-    v29 = v25 > v28 ? v25 : v28;
-    v30 = v29 == 0u;
-    if (v30) { goto L9; }
-    else { goto L1; }
-L1:;
-    v31 = a2 + 240u * 1u;
-    v32 = load_address(v31);
-    v33 = a1 + 248u * 1u;
-    v34 = (u64)v29;
-    v3 = 0u; goto L2;
-L2:;
-    v35 = (u64)((u64)v3 + (u64)1u);
-    v36 = v27 > v3;
-    v37 = (u64)((u64)v3 << (4u & 63u));
-    v38 = v32 + v37 * 1u;
-    if (v21) { v4 = 376u; v5 = v33; goto L4; }
-    else { goto L3; }
-L3:;
-    v39 = load_address(v33);
-    v4 = 256u; v5 = v39; goto L4;
-L4:;
-    v40 = a1 + v4 * 1u;
-    v41 = load64(v40);
-    v42 = v41 > v3;
-    v43 = v5 + v37 * 1u;
-    if (v36) { goto L5; }
-    else { goto L7; }
-L5:;
-    if (v42) { goto L6; }
-    else { v6 = 255u; goto L8; }
-L6:;
-    v44 = v43 + 10u * 1u;
-    v45 = v38 + 8u * 1u;
-    v46 = load8(v45);
-    v47 = v43 + 8u * 1u;
-    v48 = load8(v47);
-    v49 = v46 != v48;
-    v50 = v38 + 9u * 1u;
-    v51 = v43 + 9u * 1u;
-    v52 = load8(v50);
-    v53 = load8(v51);
-    v54 = v52 == v53;
-    v55 = load64(v38);
-    v56 = load64(v43);
-    v57 = v55 != v56;
-    v58 = v38 + 10u * 1u;
-    v59 = load8(v58);
-    v60 = load8(v44);
-    v61 = v59 == v60;
-    v62 = v38 + 11u * 1u;
-    v63 = load8(v62);
-    v64 = v43 + 11u * 1u;
-    v65 = load8(v64);
-    v66 = v63 != v65;
-    v67 = v38 + 12u * 1u;
-    v68 = load8(v67);
-    v69 = v43 + 12u * 1u;
-    v70 = load8(v69);
-    v71 = v68 == v70;
-    v72 = v38 + 13u * 1u;
-    v73 = load8(v72);
-    v74 = v43 + 13u * 1u;
-    v75 = load8(v74);
-    v76 = v73 != v75;
-    v77 = v38 + 14u * 1u;
-    v78 = load8(v77);
-    v79 = v43 + 14u * 1u;
-    v80 = load8(v79);
-    v81 = v78 == v80;
-    v82 = v81 ? 0u : 2u;
-    v83 = (u8)v76;
-    v84 = (u8)((u32)v82 | (u32)v83);
-    v85 = (u8)((u32)v84 << (2u & 7u));
-    v86 = v71 ? 0u : 2u;
-    v87 = (u8)((u32)v85 | (u32)v86);
-    v88 = (u8)v66;
-    v89 = (u8)((u32)v87 | (u32)v88);
-    v90 = (u8)((u32)v89 << (2u & 7u));
-    v91 = v61 ? 0u : 2u;
-    v92 = (u8)((u32)v90 | (u32)v91);
-    v93 = (u8)v57;
-    v94 = (u8)((u32)v92 | (u32)v93);
-    v95 = (u8)((u32)v94 << (2u & 7u));
-    v96 = v54 ? 0u : 2u;
-    v97 = (u8)((u32)v95 | (u32)v96);
-    v98 = (u8)v49;
-    v99 = (u8)((u32)v97 | (u32)v98);
-    v6 = v99; goto L8;
-L7:;
-    v100 = (u8)((i8)((i8)(u8)((u32)v42 << 7) >> 7));
-    v6 = v100; goto L8;
-L8:;
-    v101 = v18 + v3 * 1u;
-    store8(v101, v6);
-    v102 = v35 == v34;
-    if (v102) { goto L9; }
-    else { v3 = v35; goto L2; }
-L9:;
-    v103 = a2 + 10u * 1u;
-    v104 = a2 + 168u * 1u;
-    v105 = a2 + 192u * 1u;
-    v106 = a2 + 220u * 1u;
-    v107 = a2 + 228u * 1u;
-    v108 = load64(a2);
-    v109 = load64(a1);
-    v110 = v108 != v109;
-    v111 = (u8)v110;
-    v112 = a2 + 8u * 1u;
-    v113 = a1 + 8u * 1u;
-    v114 = load8(v112);
-    v115 = load8(v113);
-    v116 = v114 != v115;
-    v117 = (u8)v116;
-    v118 = a2 + 24u * 1u;
-    v119 = a2 + 160u * 1u;
-    v120 = load64(v119);
-    v121 = v120 == 0u;
-    if (v121) { v7 = 0u; v8 = v118; goto L11; }
-    else { goto L10; }
-L10:;
-    v122 = a2 + 25u * 1u;
-    v123 = load8(v118);
-    v124 = (u64)v123;
-    v7 = v124; v8 = v122; goto L11;
-L11:;
-    v125 = a1 + 24u * 1u;
-    v126 = a1 + 160u * 1u;
-    v127 = load64(v126);
-    v128 = v127 == 0u;
-    if (v128) { v9 = 0u; v10 = v125; goto L13; }
-    else { goto L12; }
-L12:;
-    v129 = a1 + 25u * 1u;
-    v130 = load8(v125);
-    v131 = (u64)v130;
-    v9 = v131; v10 = v129; goto L13;
-L13:;
-    v132 = v7 == v9;
-    if (v132) { goto L14; }
-    else { v13 = 0u; goto L21; }
-L14:;
-    v133 = v7 < 4u;
-    if (v133) { goto L16; }
-    else { goto L15; }
-L15:;
-    v134 = load8(v8);
-    v135 = load8(v10);
-    v136 = v134 != v135;
-    v137 = v8 + 1u * 1u;
-    v138 = v10 + 1u * 1u;
-    v139 = load8(v137);
-    v140 = load8(v138);
-    v141 = v139 != v140;
-    v142 = (u8)(((u32)v136 | (u32)v141) & UINT64_C(1));
-    v143 = v8 + 2u * 1u;
-    v144 = v10 + 2u * 1u;
-    v145 = load8(v143);
-    v146 = load8(v144);
-    v147 = v145 != v146;
-    v148 = (u8)(((u32)v142 | (u32)v147) & UINT64_C(1));
-    v149 = v8 + 3u * 1u;
-    v150 = v10 + 3u * 1u;
-    v151 = load8(v149);
-    v152 = load8(v150);
-    v153 = v151 != v152;
-    v154 = (u8)(((u32)v148 | (u32)v153) & UINT64_C(1));
-    if (v154) { v13 = 0u; goto L21; }
-    else { goto L20; }
-L16:;
-    v155 = v7 == 0u;
-    if (v155) { v13 = 1u; goto L21; }
-    else { v11 = 0u; goto L17; }
-L17:;
-    v156 = v8 + v11 * 1u;
-    v157 = v10 + v11 * 1u;
-    v158 = load8(v156);
-    v159 = load8(v157);
-    v160 = v158 == v159;
-    if (v160) { goto L18; }
-    else { v12 = v11; goto L19; }
-L18:;
-    v161 = (u64)((u64)v11 + (u64)1u);
-    v162 = v161 == v7;
-    if (v162) { v12 = v7; goto L19; }
-    else { v11 = v161; goto L17; }
-L19:;
-    v163 = v12 >= v7;
-    v13 = v163; goto L21;
-L20:;
-    v164 = f43(v8, v7, v10, v7);
-    v13 = v164; goto L21;
-L21:;
-    v165 = (u8)(((u32)v13 ^ (u32)1u) & UINT64_C(1));
-    v166 = (u8)v165;
-    v167 = a2 + 9u * 1u;
-    v168 = a1 + 9u * 1u;
-    v169 = load8(v167);
-    v170 = load8(v168);
-    v171 = v169 != v170;
-    v172 = (u8)v171;
-    v173 = a1 + 10u * 1u;
-    v174 = load8(v103);
-    v175 = load8(v173);
-    v176 = v174 != v175;
-    v177 = (u8)v176;
-    v178 = a2 + 11u * 1u;
-    v179 = a1 + 11u * 1u;
-    v180 = load8(v178);
-    v181 = load8(v179);
-    v182 = v180 != v181;
-    v183 = (u8)v182;
-    v184 = a2 + 12u * 1u;
-    v185 = a1 + 12u * 1u;
-    v186 = load8(v184);
-    v187 = load8(v185);
-    v188 = v186 != v187;
-    v189 = (u8)v188;
-    v190 = a2 + 14u * 1u;
-    v191 = a1 + 14u * 1u;
-    v192 = load16(v190);
-    v193 = load16(v191);
-    v194 = v192 != v193;
-    v195 = (u8)v194;
-    v196 = a2 + 16u * 1u;
-    v197 = a1 + 16u * 1u;
-    v198 = load8(v196);
-    v199 = load8(v197);
-    v200 = v198 != v199;
-    v201 = (u8)v200;
-    v202 = a1 + 168u * 1u;
-    v203 = load16(v104);
-    v204 = load16(v202);
-    v205 = v203 != v204;
-    v206 = (u8)v205;
-    v207 = a2 + 176u * 1u;
-    v208 = a1 + 176u * 1u;
-    v209 = load64(v207);
-    v210 = load64(v208);
-    v211 = v209 != v210;
-    v212 = (u8)v211;
-    v213 = a2 + 184u * 1u;
-    v214 = a1 + 184u * 1u;
-    v215 = load64(v213);
-    v216 = load64(v214);
-    v217 = v215 != v216;
-    v218 = (u8)v217;
-    v219 = a1 + 192u * 1u;
-    v220 = load64(v105);
-    v221 = load64(v219);
-    v222 = v220 == v221;
-    if (v222) { goto L22; }
-    else { v14 = 1u; goto L23; }
-L22:;
-    v223 = a2 + 200u * 1u;
-    v224 = load16(v223);
-    v225 = a1 + 200u * 1u;
-    v226 = load16(v225);
-    v227 = v224 != v226;
-    v14 = v227; goto L23;
-L23:;
-    v228 = (u8)v14;
-    v229 = a2 + 202u * 1u;
-    v230 = a1 + 202u * 1u;
-    v231 = load8(v229);
-    v232 = load8(v230);
-    v233 = v231 != v232;
-    v234 = (u8)v233;
-    v235 = a2 + 204u * 1u;
-    v236 = a1 + 204u * 1u;
-    v237 = load16(v235);
-    v238 = load16(v236);
-    v239 = v237 != v238;
-    v240 = (u8)v239;
-    v241 = a2 + 208u * 1u;
-    v242 = a1 + 208u * 1u;
-    v243 = load32(v241);
-    v244 = load32(v242);
-    v245 = v243 != v244;
-    v246 = (u8)v245;
-    v247 = a1 + 220u * 1u;
-    v248 = load8(v106);
-    v249 = load8(v247);
-    v250 = v248 != v249;
-    v251 = (u8)v250;
-    v252 = a2 + 221u * 1u;
-    v253 = a1 + 221u * 1u;
-    v254 = load8(v252);
-    v255 = load8(v253);
-    v256 = v254 != v255;
-    v257 = (u8)v256;
-    v258 = a2 + 222u * 1u;
-    v259 = a1 + 222u * 1u;
-    v260 = load8(v258);
-    v261 = load8(v259);
-    v262 = v260 != v261;
-    v263 = (u8)v262;
-    v264 = a2 + 224u * 1u;
-    v265 = a1 + 224u * 1u;
-    v266 = load16(v264);
-    v267 = load16(v265);
-    v268 = v266 != v267;
-    v269 = (u8)v268;
-    v270 = a2 + 226u * 1u;
-    v271 = a1 + 226u * 1u;
-    v272 = load8(v270);
-    v273 = load8(v271);
-    v274 = v272 != v273;
-    v275 = (u8)v274;
-    v276 = a2 + 212u * 1u;
-    v277 = a1 + 212u * 1u;
-    v278 = load64(v276);
-    v279 = load64(v277);
-    v280 = v278 != v279;
-    v281 = (u8)v280;
-    v282 = a1 + 228u * 1u;
-    v283 = load16(v107);
-    v284 = load16(v282);
-    v285 = v283 != v284;
-    v286 = (u8)v285;
-    v287 = a2 + 230u * 1u;
-    v288 = a1 + 230u * 1u;
-    v289 = load8(v287);
-    v290 = load8(v288);
-    v291 = v289 != v290;
-    v292 = (u8)v291;
-    v293 = a2 + 231u * 1u;
-    v294 = a1 + 231u * 1u;
-    v295 = load8(v293);
-    v296 = load8(v294);
-    v297 = v295 != v296;
-    v298 = (u8)v297;
-    v299 = a2 + 232u * 1u;
-    v300 = a1 + 232u * 1u;
-    v301 = load8(v299);
-    v302 = load8(v300);
-    v303 = v301 != v302;
-    v304 = (u8)v303;
-    v305 = a2 + 233u * 1u;
-    v306 = a1 + 233u * 1u;
-    v307 = load8(v305);
-    v308 = load8(v306);
-    v309 = v307 != v308;
-    v310 = (u8)v309;
-    v311 = a2 + 234u * 1u;
-    v312 = a1 + 234u * 1u;
-    v313 = load8(v311);
-    v314 = load8(v312);
-    v315 = v313 != v314;
-    v316 = (u8)v315;
-    v317 = a2 + 235u * 1u;
-    v318 = a1 + 235u * 1u;
-    v319 = load8(v317);
-    v320 = load8(v318);
-    v321 = v319 != v320;
-    v322 = (u8)v321;
-    v323 = a2 + 236u * 1u;
-    v324 = a1 + 236u * 1u;
-    v325 = load8(v323);
-    v326 = load8(v324);
-    v327 = v325 != v326;
-    v328 = (u8)v327;
-    store8(v17, v111);
-    v329 = v17 + 1u * 1u;
-    store8(v329, v117);
-    v330 = v17 + 2u * 1u;
-    store8(v330, v166);
-    v331 = v17 + 3u * 1u;
-    store8(v331, v172);
-    v332 = v17 + 4u * 1u;
-    store8(v332, v177);
-    v333 = v17 + 5u * 1u;
-    store8(v333, v183);
-    v334 = v17 + 6u * 1u;
-    store8(v334, v189);
-    v335 = v17 + 7u * 1u;
-    store8(v335, v195);
-    v336 = v17 + 8u * 1u;
-    store8(v336, v201);
-    v337 = v17 + 9u * 1u;
-    store8(v337, v206);
-    v338 = v17 + 10u * 1u;
-    store8(v338, v212);
-    v339 = v17 + 11u * 1u;
-    store8(v339, v218);
-    v340 = v17 + 12u * 1u;
-    store8(v340, v228);
-    v341 = v17 + 13u * 1u;
-    store8(v341, v234);
-    v342 = v17 + 14u * 1u;
-    store8(v342, v240);
-    v343 = v17 + 15u * 1u;
-    store8(v343, v246);
-    v344 = v17 + 16u * 1u;
-    store8(v344, v251);
-    v345 = v17 + 17u * 1u;
-    store8(v345, v257);
-    v346 = v17 + 18u * 1u;
-    store8(v346, v263);
-    v347 = v17 + 19u * 1u;
-    store8(v347, v269);
-    v348 = v17 + 20u * 1u;
-    store8(v348, v275);
-    v349 = v17 + 21u * 1u;
-    store8(v349, v281);
-    v350 = v17 + 22u * 1u;
-    store8(v350, v286);
-    v351 = v17 + 23u * 1u;
-    store8(v351, v292);
-    v352 = v17 + 24u * 1u;
-    store8(v352, v298);
-    v353 = v17 + 25u * 1u;
-    store8(v353, v304);
-    v354 = v17 + 26u * 1u;
-    store8(v354, v310);
-    v355 = v17 + 27u * 1u;
-    store8(v355, v316);
-    v356 = v17 + 28u * 1u;
-    store8(v356, v322);
-    v357 = v17 + 29u * 1u;
-    store8(v357, v328);
-    v358 = v17 + 30u * 1u;
-    v15 = 0u; v16 = 0u; goto L24;
-L24:;
-    v359 = (u32)((u32)v15 << (1u & 31u));
-    v360 = (u64)((u64)v16 ^ (u64)UINT64_C(18446744073709551615));
-    v361 = v358 + v360 * 1u;
-    v362 = load8(v361);
-    v363 = (u32)v362;
-    v364 = (u32)((u32)v359 | (u32)v363);
-    v365 = (u64)((u64)v16 + (u64)1u);
-    v366 = v365 == 30u;
-    if (v366) { goto L25; }
-    else { v15 = v364; v16 = v365; goto L24; }
-L25:;
-    store32(a0, v364);
-    v367 = a0 + 4u * 1u;
-    memory_cpy(v367, v18, 64u);
-    return;
-}
-
-static u8 f42(address a0, u64 a1) {
-    address v2, v3, v4, v7, v8, v11, v12, v15, v16, v19, v20, v23, v24, v27, v28, v31;
-    address v32, v37, v38, v42, v43, v47, v48, v52, v53, v57, v58, v62, v63, v67, v68, v72;
-    address v73, v77, v78, v82, v83, v87, v88, v92, v93, v97, v98, v102, v103, v107, v108, v112;
-    address v113, v116, v117, v122, v123, v129, v130, v136, v137, v143, v144, v150, v151, v157, v158, v164;
-    address v165;
-    u8 v5, v6, v9, v10, v13, v14, v17, v18, v21, v22, v25, v26, v29, v30, v33, v34;
-    u8 v39, v40, v44, v45, v49, v50, v54, v55, v59, v60, v64, v65, v69, v70, v74, v75;
-    u8 v79, v80, v84, v85, v89, v90, v94, v95, v99, v100, v104, v105, v109, v110, v114, v115;
-    u8 v118, v119, v120, v124, v125, v126, v127, v131, v132, v133, v134, v138, v139, v140, v141, v145;
-    u8 v146, v147, v148, v152, v153, v154, v155, v159, v160, v161, v162, v166, v167, v168, v169, v170;
-    u8 v171, v172, v173, v174, v175, v176, v177, v178, v179, v180, v181, v182, v183, v184, v185, v186;
-    u8 v187, v188, v189, v190, v191, v192, v193, v194, v195, v196, v197, v198, v199, v200, v201, v202;
-    u8 v203, v204, v205, v206, v207, v208, v209, v210, v211, v212, v213, v214, v215, v216, v217;
-    u64 v35, v36, v41, v46, v51, v56, v61, v66, v71, v76, v81, v86, v91, v96, v101, v106;
-    u64 v111, v121, v128, v135, v142, v149, v156, v163;
-    v2 = load_address(a0);
-    v3 = a0 + 16u * 1u;
-    v4 = load_address(v3);
-    v5 = load8(v2);
-    v6 = load8(v4);
-    v7 = v2 + 1u * 1u;
-    v8 = v4 + 1u * 1u;
-    v9 = load8(v7);
-    v10 = load8(v8);
-    v11 = v2 + 2u * 1u;
-    v12 = v4 + 2u * 1u;
-    v13 = load8(v11);
-    v14 = load8(v12);
-    v15 = v2 + 3u * 1u;
-    v16 = v4 + 3u * 1u;
-    v17 = load8(v15);
-    v18 = load8(v16);
-    v19 = v2 + 4u * 1u;
-    v20 = v4 + 4u * 1u;
-    v21 = load8(v19);
-    v22 = load8(v20);
-    v23 = v2 + 5u * 1u;
-    v24 = v4 + 5u * 1u;
-    v25 = load8(v23);
-    v26 = load8(v24);
-    v27 = v2 + 6u * 1u;
-    v28 = v4 + 6u * 1u;
-    v29 = load8(v27);
-    v30 = load8(v28);
-    v31 = v2 + 7u * 1u;
-    v32 = v4 + 7u * 1u;
-    v33 = load8(v31);
-    v34 = load8(v32);
-    v35 = (u64)((u64)a1 + (u64)UINT64_C(18446744073709551608));
-    v36 = v35 < 8u ? v35 : 8u;
-    v37 = v2 + v36 * 1u;
-    v38 = v4 + v36 * 1u;
-    v39 = load8(v37);
-    v40 = load8(v38);
-    v41 = (u64)((u64)v36 + (u64)1u);
-    v42 = v2 + v41 * 1u;
-    v43 = v4 + v41 * 1u;
-    v44 = load8(v42);
-    v45 = load8(v43);
-    v46 = (u64)((u64)v36 + (u64)2u);
-    v47 = v2 + v46 * 1u;
-    v48 = v4 + v46 * 1u;
-    v49 = load8(v47);
-    v50 = load8(v48);
-    v51 = (u64)((u64)v36 + (u64)3u);
-    v52 = v2 + v51 * 1u;
-    v53 = v4 + v51 * 1u;
-    v54 = load8(v52);
-    v55 = load8(v53);
-    v56 = (u64)((u64)v36 + (u64)4u);
-    v57 = v2 + v56 * 1u;
-    v58 = v4 + v56 * 1u;
-    v59 = load8(v57);
-    v60 = load8(v58);
-    v61 = (u64)((u64)v36 + (u64)5u);
-    v62 = v2 + v61 * 1u;
-    v63 = v4 + v61 * 1u;
-    v64 = load8(v62);
-    v65 = load8(v63);
-    v66 = (u64)((u64)v36 + (u64)6u);
-    v67 = v2 + v66 * 1u;
-    v68 = v4 + v66 * 1u;
-    v69 = load8(v67);
-    v70 = load8(v68);
-    v71 = (u64)((u64)v36 + (u64)7u);
-    v72 = v2 + v71 * 1u;
-    v73 = v4 + v71 * 1u;
-    v74 = load8(v72);
-    v75 = load8(v73);
-    v76 = v35 < 16u ? v35 : 16u;
-    v77 = v2 + v76 * 1u;
-    v78 = v4 + v76 * 1u;
-    v79 = load8(v77);
-    v80 = load8(v78);
-    v81 = (u64)((u64)v76 + (u64)1u);
-    v82 = v2 + v81 * 1u;
-    v83 = v4 + v81 * 1u;
-    v84 = load8(v82);
-    v85 = load8(v83);
-    v86 = (u64)((u64)v76 + (u64)2u);
-    v87 = v2 + v86 * 1u;
-    v88 = v4 + v86 * 1u;
-    v89 = load8(v87);
-    v90 = load8(v88);
-    v91 = (u64)((u64)v76 + (u64)3u);
-    v92 = v2 + v91 * 1u;
-    v93 = v4 + v91 * 1u;
-    v94 = load8(v92);
-    v95 = load8(v93);
-    v96 = (u64)((u64)v76 + (u64)4u);
-    v97 = v2 + v96 * 1u;
-    v98 = v4 + v96 * 1u;
-    v99 = load8(v97);
-    v100 = load8(v98);
-    v101 = (u64)((u64)v76 + (u64)5u);
-    v102 = v2 + v101 * 1u;
-    v103 = v4 + v101 * 1u;
-    v104 = load8(v102);
-    v105 = load8(v103);
-    v106 = (u64)((u64)v76 + (u64)6u);
-    v107 = v2 + v106 * 1u;
-    v108 = v4 + v106 * 1u;
-    v109 = load8(v107);
-    v110 = load8(v108);
-    v111 = (u64)((u64)v76 + (u64)7u);
-    v112 = v2 + v111 * 1u;
-    v113 = v4 + v111 * 1u;
-    v114 = load8(v112);
-    v115 = load8(v113);
-    v116 = v2 + v35 * 1u;
-    v117 = v4 + v35 * 1u;
-    v118 = load8(v116);
-    v119 = load8(v117);
-    v120 = v118 != v119;
-    v121 = (u64)((u64)a1 + (u64)UINT64_C(18446744073709551609));
-    v122 = v2 + v121 * 1u;
-    v123 = v4 + v121 * 1u;
-    v124 = load8(v122);
-    v125 = load8(v123);
-    v126 = v124 != v125;
-    v127 = (u8)(((u32)v120 | (u32)v126) & UINT64_C(1));
-    v128 = (u64)((u64)a1 + (u64)UINT64_C(18446744073709551610));
-    v129 = v2 + v128 * 1u;
-    v130 = v4 + v128 * 1u;
-    v131 = load8(v129);
-    v132 = load8(v130);
-    v133 = v131 != v132;
-    v134 = (u8)(((u32)v127 | (u32)v133) & UINT64_C(1));
-    v135 = (u64)((u64)a1 + (u64)UINT64_C(18446744073709551611));
-    v136 = v2 + v135 * 1u;
-    v137 = v4 + v135 * 1u;
-    v138 = load8(v136);
-    v139 = load8(v137);
-    v140 = v138 != v139;
-    v141 = (u8)(((u32)v134 | (u32)v140) & UINT64_C(1));
-    v142 = (u64)((u64)a1 + (u64)UINT64_C(18446744073709551612));
-    v143 = v2 + v142 * 1u;
-    v144 = v4 + v142 * 1u;
-    v145 = load8(v143);
-    v146 = load8(v144);
-    v147 = v145 != v146;
-    v148 = (u8)(((u32)v141 | (u32)v147) & UINT64_C(1));
-    v149 = (u64)((u64)a1 + (u64)UINT64_C(18446744073709551613));
-    v150 = v2 + v149 * 1u;
-    v151 = v4 + v149 * 1u;
-    v152 = load8(v150);
-    v153 = load8(v151);
-    v154 = v152 != v153;
-    v155 = (u8)(((u32)v148 | (u32)v154) & UINT64_C(1));
-    v156 = (u64)((u64)a1 + (u64)UINT64_C(18446744073709551614));
-    v157 = v2 + v156 * 1u;
-    v158 = v4 + v156 * 1u;
-    v159 = load8(v157);
-    v160 = load8(v158);
-    v161 = v159 != v160;
-    v162 = (u8)(((u32)v155 | (u32)v161) & UINT64_C(1));
-    v163 = (u64)((u64)a1 + (u64)UINT64_C(18446744073709551615));
-    v164 = v2 + v163 * 1u;
-    v165 = v4 + v163 * 1u;
-    v166 = load8(v164);
-    v167 = load8(v165);
-    v168 = v166 != v167;
-    v169 = (u8)(((u32)v162 | (u32)v168) & UINT64_C(1));
-    v170 = v79 != v80;
-    v171 = v84 != v85;
-    v172 = (u8)(((u32)v170 | (u32)v171) & UINT64_C(1));
-    v173 = v89 != v90;
-    v174 = (u8)(((u32)v172 | (u32)v173) & UINT64_C(1));
-    v175 = v94 != v95;
-    v176 = (u8)(((u32)v174 | (u32)v175) & UINT64_C(1));
-    v177 = v99 != v100;
-    v178 = (u8)(((u32)v176 | (u32)v177) & UINT64_C(1));
-    v179 = v104 != v105;
-    v180 = (u8)(((u32)v178 | (u32)v179) & UINT64_C(1));
-    v181 = v109 != v110;
-    v182 = (u8)(((u32)v180 | (u32)v181) & UINT64_C(1));
-    v183 = v114 != v115;
-    v184 = (u8)(((u32)v182 | (u32)v183) & UINT64_C(1));
-    v185 = v39 != v40;
-    v186 = v44 != v45;
-    v187 = (u8)(((u32)v185 | (u32)v186) & UINT64_C(1));
-    v188 = v49 != v50;
-    v189 = (u8)(((u32)v187 | (u32)v188) & UINT64_C(1));
-    v190 = v54 != v55;
-    v191 = (u8)(((u32)v189 | (u32)v190) & UINT64_C(1));
-    v192 = v59 != v60;
-    v193 = (u8)(((u32)v191 | (u32)v192) & UINT64_C(1));
-    v194 = v64 != v65;
-    v195 = (u8)(((u32)v193 | (u32)v194) & UINT64_C(1));
-    v196 = v69 != v70;
-    v197 = (u8)(((u32)v195 | (u32)v196) & UINT64_C(1));
-    v198 = v74 != v75;
-    v199 = (u8)(((u32)v197 | (u32)v198) & UINT64_C(1));
-    v200 = v5 != v6;
-    v201 = v9 != v10;
-    v202 = (u8)(((u32)v200 | (u32)v201) & UINT64_C(1));
-    v203 = v13 != v14;
-    v204 = (u8)(((u32)v202 | (u32)v203) & UINT64_C(1));
-    v205 = v17 != v18;
-    v206 = (u8)(((u32)v204 | (u32)v205) & UINT64_C(1));
-    v207 = v21 != v22;
-    v208 = (u8)(((u32)v206 | (u32)v207) & UINT64_C(1));
-    v209 = v25 != v26;
-    v210 = (u8)(((u32)v208 | (u32)v209) & UINT64_C(1));
-    v211 = v29 != v30;
-    v212 = (u8)(((u32)v210 | (u32)v211) & UINT64_C(1));
-    v213 = v33 != v34;
-    v214 = (u8)(((u32)v212 | (u32)v213) & UINT64_C(1));
-    v215 = (u8)(((u32)v214 | (u32)v199) & UINT64_C(1));
-    v216 = (u8)(((u32)v215 | (u32)v184) & UINT64_C(1));
-    v217 = (u8)(((u32)v216 | (u32)v169) & UINT64_C(1));
-    return v217;
-}
-
-static u8 f43(address a0, u64 a1, address a2, u64 a3) {
-    u8 v4, v6, v9, v13, v15, v17, v22, v23, v24, v27, v28, v31, v32, v35, v36, v40;
-    u8 v41, v42, v46, v47, v48, v49, v53, v54, v55, v56, v60, v61, v62, v63, v64, v65;
-    u8 v66, v67, v68, v69, v70, v71, v72, v73, v74, v78, v79, v80, v81, v83, v88, v89;
-    u8 v90, v91, v93, v94, v98, v99, v100, v101, v103, v106, v108, v112, v113, v114, v115, v117;
-    u8 v120, v122, v127, v128, v129, v130, v132, v133;
-    u64 v5, v7, v8, v10, v11, v12, v14, v16, v37, v43, v50, v57, v75, v82, v84, v85;
-    u64 v92, v95, v102, v104, v105, v107, v109, v116, v118, v119, v121, v123, v124, v131;
-    address v18, v19, v20, v21, v25, v26, v29, v30, v33, v34, v38, v39, v44, v45, v51, v52;
-    address v58, v59, v76, v77, v86, v87, v96, v97, v110, v111, v125, v126;
-    u64 block0[4];
-    v18 = ADDRESS(block0);
-    store_address(v18, a0);
-    v19 = v18 + 8u * 1u;
-    store64(v19, a1);
-    v20 = v18 + 16u * 1u;
-    store_address(v20, a2);
-    v21 = v18 + 24u * 1u;
-    store64(v21, a3);
-    v22 = a1 < 9u;
-    if (v22) { goto L1; }
-    else { goto L2; }
-L1:;
-    v23 = load8(a0);
-    v24 = load8(a2);
-    v25 = a0 + 1u * 1u;
-    v26 = a2 + 1u * 1u;
-    v27 = load8(v25);
-    v28 = load8(v26);
-    v29 = a0 + 2u * 1u;
-    v30 = a2 + 2u * 1u;
-    v31 = load8(v29);
-    v32 = load8(v30);
-    v33 = a0 + 3u * 1u;
-    v34 = a2 + 3u * 1u;
-    v35 = load8(v33);
-    v36 = load8(v34);
-    v37 = (u64)((u64)a1 + (u64)UINT64_C(18446744073709551612));
-    v38 = a0 + v37 * 1u;
-    v39 = a2 + v37 * 1u;
-    v40 = load8(v38);
-    v41 = load8(v39);
-    v42 = v40 != v41;
-    v43 = (u64)((u64)a1 + (u64)UINT64_C(18446744073709551613));
-    v44 = a0 + v43 * 1u;
-    v45 = a2 + v43 * 1u;
-    v46 = load8(v44);
-    v47 = load8(v45);
-    v48 = v46 != v47;
-    v49 = (u8)(((u32)v42 | (u32)v48) & UINT64_C(1));
-    v50 = (u64)((u64)a1 + (u64)UINT64_C(18446744073709551614));
-    v51 = a0 + v50 * 1u;
-    v52 = a2 + v50 * 1u;
-    v53 = load8(v51);
-    v54 = load8(v52);
-    v55 = v53 != v54;
-    v56 = (u8)(((u32)v49 | (u32)v55) & UINT64_C(1));
-    v57 = (u64)((u64)a1 + (u64)UINT64_C(18446744073709551615));
-    v58 = a0 + v57 * 1u;
-    v59 = a2 + v57 * 1u;
-    v60 = load8(v58);
-    v61 = load8(v59);
-    v62 = v60 != v61;
-    v63 = (u8)(((u32)v56 | (u32)v62) & UINT64_C(1));
-    v64 = v23 != v24;
-    v65 = v27 != v28;
-    v66 = (u8)(((u32)v64 | (u32)v65) & UINT64_C(1));
-    v67 = v31 != v32;
-    v68 = (u8)(((u32)v66 | (u32)v67) & UINT64_C(1));
-    v69 = v35 != v36;
-    v70 = (u8)(((u32)v68 | (u32)v69) & UINT64_C(1));
-    v71 = (u8)(((u32)v70 | (u32)v63) & UINT64_C(1));
-    v17 = v71; goto L22;
-L2:;
-    v72 = a1 < 33u;
-    if (v72) { goto L3; }
-    else { goto L4; }
-L3:;
-    v73 = f42(v18, a1);
-    v17 = v73; goto L22;
-L4:;
-    v74 = a1 < 65u;
-    if (v74) { v4 = 0u; v5 = 0u; goto L6; }
-    else { goto L5; }
-L5:;
-    v75 = (u64)((u64)a1 & (u64)UINT64_C(18446744073709551552));
-    v8 = 0u; goto L10;
-L6:;
-    v76 = a0 + v5 * 1u;
-    v77 = a2 + v5 * 1u;
-    v78 = load8(v76);
-    v79 = load8(v77);
-    v80 = v78 != v79;
-    v81 = (u8)(((u32)v4 | (u32)v80) & UINT64_C(1));
-    v82 = (u64)((u64)v5 + (u64)1u);
-    v83 = v82 == 32u;
-    if (v83) { goto L7; }
-    else { v4 = v81; v5 = v82; goto L6; }
-L7:;
-    v84 = (u64)((u64)a1 + (u64)UINT64_C(18446744073709551584));
-    v6 = 0u; v7 = 0u; goto L8;
-L8:;
-    v85 = (u64)((u64)v84 + (u64)v7);
-    v86 = a0 + v85 * 1u;
-    v87 = a2 + v85 * 1u;
-    v88 = load8(v86);
-    v89 = load8(v87);
-    v90 = v88 != v89;
-    v91 = (u8)(((u32)v6 | (u32)v90) & UINT64_C(1));
-    v92 = (u64)((u64)v7 + (u64)1u);
-    v93 = v92 == 32u;
-    if (v93) { goto L9; }
-    else { v6 = v91; v7 = v92; goto L8; }
-L9:;
-    v94 = (u8)(((u32)v81 | (u32)v91) & UINT64_C(1));
-    v17 = v94; goto L22;
-L10:;
-    v9 = 0u; v10 = 0u; goto L11;
-L11:;
-    v95 = (u64)((u64)v10 + (u64)v8);
-    v96 = a0 + v95 * 1u;
-    v97 = a2 + v95 * 1u;
-    v98 = load8(v96);
-    v99 = load8(v97);
-    v100 = v98 != v99;
-    v101 = (u8)(((u32)v9 | (u32)v100) & UINT64_C(1));
-    v102 = (u64)((u64)v10 + (u64)1u);
-    v103 = v102 == 64u;
-    if (v103) { goto L12; }
-    else { v9 = v101; v10 = v102; goto L11; }
-L12:;
-    if (v101) { v11 = v8; goto L14; }
-    else { goto L13; }
-L13:;
-    v104 = (u64)((u64)v8 + (u64)64u);
-    v105 = (u64)((u64)a1 - (u64)v104);
-    v106 = v105 < 64u;
-    if (v106) { v11 = v75; goto L14; }
-    else { v8 = v104; goto L10; }
-L14:;
-    v107 = (u64)((u64)a1 - (u64)v11);
-    v108 = v107 < 32u;
-    if (v108) { goto L20; }
-    else { v12 = v11; goto L15; }
-L15:;
-    v13 = 0u; v14 = 0u; goto L16;
-L16:;
-    v109 = (u64)((u64)v14 + (u64)v12);
-    v110 = a0 + v109 * 1u;
-    v111 = a2 + v109 * 1u;
-    v112 = load8(v110);
-    v113 = load8(v111);
-    v114 = v112 != v113;
-    v115 = (u8)(((u32)v13 | (u32)v114) & UINT64_C(1));
-    v116 = (u64)((u64)v14 + (u64)1u);
-    v117 = v116 == 32u;
-    if (v117) { goto L17; }
-    else { v13 = v115; v14 = v116; goto L16; }
-L17:;
-    if (v115) { goto L19; }
-    else { goto L18; }
-L18:;
-    v118 = (u64)((u64)v12 + (u64)32u);
-    v119 = (u64)((u64)a1 - (u64)v118);
-    v120 = v119 < 32u;
-    if (v120) { goto L20; }
-    else { v12 = v118; goto L15; }
-L19:;
-    v121 = (u64)((u64)a1 - (u64)v12);
-    v122 = v121 > 31u;
-    if (v122) { v17 = 1u; goto L22; }
-    else { goto L20; }
-L20:;
-    v123 = (u64)((u64)a1 + (u64)UINT64_C(18446744073709551584));
-    v15 = 0u; v16 = 0u; goto L21;
-L21:;
-    v124 = (u64)((u64)v123 + (u64)v16);
-    v125 = a0 + v124 * 1u;
-    v126 = a2 + v124 * 1u;
-    v127 = load8(v125);
-    v128 = load8(v126);
-    v129 = v127 != v128;
-    v130 = (u8)(((u32)v15 | (u32)v129) & UINT64_C(1));
-    v131 = (u64)((u64)v16 + (u64)1u);
-    v132 = v131 == 32u;
-    if (v132) { v17 = v130; goto L22; }
-    else { v15 = v130; v16 = v131; goto L21; }
-L22:;
-    v133 = (u8)(((u32)v17 ^ (u32)1u) & UINT64_C(1));
-    return v133;
-}
-
-static void f44(address a0, address a1, u16 a2, address a3, u64 a4, address a5, u64 a6) {
-    u8 v7, v8, v9, v10, v11, v19, v36, v37, v38, v39, v41, v42, v43, v45, v47, v53;
-    u8 v55, v56, v58, v60, v65, v67, v68, v70, v74, v78, v80, v81, v82, v83, v84, v86;
-    u8 v87, v89, v91, v93, v94, v103, v105, v106, v107, v109, v111, v112, v113, v117, v119, v127;
-    u8 v129, v135, v139, v141, v146, v147, v148, v150, v151, v156, v160, v162, v167, v171, v173, v189;
-    u8 v190, v193, v197, v199, v202, v209, v212, v213, v215, v216, v217, v220, v225, v226;
-    u32 v12, v21, v194;
-    u16 v13, v48, v49, v50, v51, v54, v61, v62, v63, v64, v120, v121, v122, v123, v130, v131;
-    u16 v132, v142, v143, v144, v145, v155, v157, v163, v164, v165, v166, v178, v179, v180, v181, v208;
-    u16 v218, v219;
-    u64 v14, v16, v20, v22, v52, v71, v72, v75, v76, v77, v79, v95, v96, v97, v98, v115;
-    u64 v125, v134, v137, v152, v154, v168, v169, v175, v177, v191, v192, v201, v206, v211, v233, v234;
-    u64 v235;
-    address v15, v17, v18, v23, v24, v25, v26, v27, v28, v29, v30, v31, v32, v33, v34, v35;
-    address v40, v44, v46, v57, v59, v66, v69, v73, v85, v88, v90, v92, v99, v100, v101, v102;
-    address v104, v108, v110, v114, v116, v118, v124, v126, v128, v133, v136, v138, v140, v149, v153, v158;
-    address v159, v161, v170, v172, v174, v176, v182, v183, v184, v185, v186, v187, v195, v196, v198, v200;
-    address v203, v204, v205, v207, v210, v214, v221, v222, v223, v224, v227, v228, v229, v230, v231, v232;
-    address v236, v237, v238, v239, v240;
-    struct s1 v188;
+static void f38(address a0, address a1, u16 a2, address a3, u64 a4, address a5, u64 a6, address a7) {
+    u8 v8, v9, v10, v11, v12, v19, v20, v21, v22, v37, v38, v39, v40, v42, v43, v44;
+    u8 v46, v48, v54, v56, v57, v59, v61, v66, v68, v69, v71, v75, v79, v81, v82, v83;
+    u8 v84, v85, v87, v88, v90, v92, v94, v95, v104, v106, v107, v108, v110, v112, v113, v114;
+    u8 v118, v120, v128, v130, v136, v140, v142, v147, v148, v149, v151, v152, v157, v161, v163, v168;
+    u8 v172, v174, v190, v191, v201, v203, v206, v213, v216, v217, v219, v220, v221, v224, v229, v230;
+    u16 v13, v49, v50, v51, v52, v55, v62, v63, v64, v65, v121, v122, v123, v124, v131, v132;
+    u16 v133, v143, v144, v145, v146, v156, v158, v164, v165, v166, v167, v179, v180, v181, v182, v212;
+    u16 v222, v223;
+    u64 v14, v16, v53, v72, v73, v76, v77, v78, v80, v96, v97, v98, v99, v116, v126, v135;
+    u64 v138, v153, v155, v169, v170, v176, v178, v205, v210, v215, v237, v239;
+    address v15, v17, v18, v24, v25, v26, v27, v28, v29, v30, v31, v32, v33, v34, v35, v36;
+    address v41, v45, v47, v58, v60, v67, v70, v74, v86, v89, v91, v93, v100, v101, v102, v103;
+    address v105, v109, v111, v115, v117, v119, v125, v127, v129, v134, v137, v139, v141, v150, v154, v159;
+    address v160, v162, v171, v173, v175, v177, v183, v184, v185, v186, v187, v188, v192, v193, v194, v195;
+    address v196, v197, v199, v200, v202, v204, v207, v208, v209, v211, v214, v218, v225, v226, v227, v228;
+    address v231, v232, v233, v234, v235, v236, v238, v240, v241;
+    u32 v23, v198;
+    struct s1 v189;
     u64 block0[1];
     u64 block1[9];
-    u64 block2[8];
+    u64 block2[3];
     u64 block3[2];
     u64 block4[3];
     u64 block5[1];
@@ -9762,205 +8777,205 @@ static void f44(address a0, address a1, u16 a2, address a3, u64 a4, address a5, 
     u64 block8[8];
     u64 block9[3];
     u64 block10[8];
-    v23 = ADDRESS(block0);
-    v24 = ADDRESS(block1);
-    v25 = ADDRESS(block2);
-    v26 = ADDRESS(block3);
-    v27 = ADDRESS(block4);
-    v28 = ADDRESS(block5);
-    v29 = ADDRESS(block6);
-    v30 = ADDRESS(block7);
-    v31 = ADDRESS(block8);
-    v32 = ADDRESS(block9);
-    v33 = ADDRESS(block10);
-    memory_set(v33, 0u, 64u);
-    store_address(v32, a5);
-    v34 = v32 + 8u * 1u;
-    store64(v34, a6);
-    v35 = v32 + 16u * 1u;
-    store64(v35, 0u);
+    v24 = ADDRESS(block0);
+    v25 = ADDRESS(block1);
+    v26 = ADDRESS(block2);
+    v27 = ADDRESS(block3);
+    v28 = ADDRESS(block4);
+    v29 = ADDRESS(block5);
+    v30 = ADDRESS(block6);
+    v31 = ADDRESS(block7);
+    v32 = ADDRESS(block8);
+    v33 = ADDRESS(block9);
+    v34 = ADDRESS(block10);
+    memory_set(v34, 0u, 64u);
+    store_address(v33, a5);
+    v35 = v33 + 8u * 1u;
+    store64(v35, a6);
+    v36 = v33 + 16u * 1u;
+    store64(v36, 0u);
+    memory_set(v32, 0u, 64u);
     memory_set(v31, 0u, 64u);
-    memory_set(v30, 0u, 64u);
-    memory_set(v28, 0u, 3u);
-    v36 = a4 < 54u;
-    if (v36) { goto L6; }
+    memory_set(v29, 0u, 3u);
+    v37 = a4 < 54u;
+    if (v37) { goto L6; }
     else { goto L1; }
 L1:;
-    v37 = load8(a3);
-    v38 = (u8)((u32)v37 & (u32)15u);
-    v39 = v38 == 13u;
-    if (v39) { goto L2; }
+    v38 = load8(a3);
+    v39 = (u8)((u32)v38 & (u32)15u);
+    v40 = v39 == 13u;
+    if (v40) { goto L2; }
     else { goto L6; }
 L2:;
-    v40 = a3 + 1u * 1u;
-    v41 = load8(v40);
-    v42 = (u8)((u32)v41 & (u32)15u);
-    v43 = v42 == 2u;
-    if (v43) { goto L3; }
+    v41 = a3 + 1u * 1u;
+    v42 = load8(v41);
+    v43 = (u8)((u32)v42 & (u32)15u);
+    v44 = v43 == 2u;
+    if (v44) { goto L3; }
     else { goto L6; }
 L3:;
-    v44 = a3 + 2u * 1u;
-    v45 = load8(v44);
-    v46 = a3 + 3u * 1u;
-    v47 = load8(v46);
-    v48 = (u16)v45;
-    v49 = (u16)((u32)v48 << (8u & 15u));
-    v50 = (u16)v47;
-    v51 = (u16)((u32)v49 | (u32)v50);
-    v52 = (u64)v51;
-    v53 = a4 < v52;
-    v54 = (u16)((u32)v51 + (u32)64063u);
-    v55 = v54 < 64117u;
-    v56 = (u8)(((u32)v55 | (u32)v53) & UINT64_C(1));
-    if (v56) { goto L6; }
+    v45 = a3 + 2u * 1u;
+    v46 = load8(v45);
+    v47 = a3 + 3u * 1u;
+    v48 = load8(v47);
+    v49 = (u16)v46;
+    v50 = (u16)((u32)v49 << (8u & 15u));
+    v51 = (u16)v48;
+    v52 = (u16)((u32)v50 | (u32)v51);
+    v53 = (u64)v52;
+    v54 = a4 < v53;
+    v55 = (u16)((u32)v52 + (u32)64063u);
+    v56 = v55 < 64117u;
+    v57 = (u8)(((u32)v56 | (u32)v54) & UINT64_C(1));
+    if (v57) { goto L6; }
     else { goto L4; }
 L4:;
-    v57 = a3 + 48u * 1u;
-    v58 = load8(v57);
-    v59 = a3 + 49u * 1u;
-    v60 = load8(v59);
-    v61 = (u16)v58;
-    v62 = (u16)((u32)v61 << (8u & 15u));
-    v63 = (u16)v60;
-    v64 = (u16)((u32)v62 | (u32)v63);
-    v65 = v64 == 1u;
-    if (v65) { goto L5; }
+    v58 = a3 + 48u * 1u;
+    v59 = load8(v58);
+    v60 = a3 + 49u * 1u;
+    v61 = load8(v60);
+    v62 = (u16)v59;
+    v63 = (u16)((u32)v62 << (8u & 15u));
+    v64 = (u16)v61;
+    v65 = (u16)((u32)v63 | (u32)v64);
+    v66 = v65 == 1u;
+    if (v66) { goto L5; }
     else { goto L6; }
 L5:;
-    v66 = a3 + 46u * 1u;
-    v67 = load8(v66);
-    v68 = (u8)((u32)v67 & (u32)15u);
-    v69 = a3 + 50u * 1u;
-    v70 = load8(v69);
-    v71 = (u64)v70;
-    v72 = (u64)((u64)v71 << (8u & 63u));
-    v73 = a3 + 51u * 1u;
-    v74 = load8(v73);
-    v75 = (u64)v74;
-    v76 = (u64)((u64)v72 | (u64)v75);
-    v77 = (u64)((u64)v76 + (u64)52u);
-    v78 = v77 == v52;
-    v79 = (u64)((u64)v52 & (u64)1u);
-    v80 = v79 == 0u;
-    v81 = (u8)(((u32)v80 & (u32)v78) & UINT64_C(1));
-    v82 = v68 < 5u;
-    v83 = v81 ? v82 : 0u;
-    if (v83) { v7 = v37; v8 = v47; v9 = v45; v10 = v68; v11 = 0u; goto L8; }
+    v67 = a3 + 46u * 1u;
+    v68 = load8(v67);
+    v69 = (u8)((u32)v68 & (u32)15u);
+    v70 = a3 + 50u * 1u;
+    v71 = load8(v70);
+    v72 = (u64)v71;
+    v73 = (u64)((u64)v72 << (8u & 63u));
+    v74 = a3 + 51u * 1u;
+    v75 = load8(v74);
+    v76 = (u64)v75;
+    v77 = (u64)((u64)v73 | (u64)v76);
+    v78 = (u64)((u64)v77 + (u64)52u);
+    v79 = v78 == v53;
+    v80 = (u64)((u64)v53 & (u64)1u);
+    v81 = v80 == 0u;
+    v82 = (u8)(((u32)v81 & (u32)v79) & UINT64_C(1));
+    v83 = v69 < 5u;
+    v84 = v82 ? v83 : 0u;
+    if (v84) { v8 = v38; v9 = v48; v10 = v46; v11 = v69; v12 = 0u; goto L8; }
     else { goto L6; }
 L6:;
-    f8(v28, a3, a4);
-    v84 = load8(v28);
-    v85 = v28 + 1u * 1u;
-    v86 = load8(v85);
-    v87 = v84 == 0u;
-    if (v87) { goto L7; }
+    f8(v29, a3, a4);
+    v85 = load8(v29);
+    v86 = v29 + 1u * 1u;
+    v87 = load8(v86);
+    v88 = v85 == 0u;
+    if (v88) { goto L7; }
     else { goto L24; }
 L7:;
-    v88 = v28 + 2u * 1u;
-    v89 = load8(v88);
-    v90 = a3 + 2u * 1u;
-    v91 = load8(v90);
-    v92 = a3 + 3u * 1u;
-    v93 = load8(v92);
-    v94 = load8(a3);
-    v7 = v94; v8 = v93; v9 = v91; v10 = v86; v11 = v89; goto L8;
+    v89 = v29 + 2u * 1u;
+    v90 = load8(v89);
+    v91 = a3 + 2u * 1u;
+    v92 = load8(v91);
+    v93 = a3 + 3u * 1u;
+    v94 = load8(v93);
+    v95 = load8(a3);
+    v8 = v95; v9 = v94; v10 = v92; v11 = v87; v12 = v90; goto L8;
 L8:;
-    v95 = (u64)v9;
-    v96 = (u64)((u64)v95 << (8u & 63u));
-    v97 = (u64)v8;
-    v98 = (u64)((u64)v96 | (u64)v97);
-    store_address(v29, a3);
-    v99 = v29 + 8u * 1u;
-    store64(v99, v98);
-    v100 = v29 + 16u * 1u;
-    store8(v100, v10);
-    v101 = v29 + 17u * 1u;
+    v96 = (u64)v10;
+    v97 = (u64)((u64)v96 << (8u & 63u));
+    v98 = (u64)v9;
+    v99 = (u64)((u64)v97 | (u64)v98);
+    store_address(v30, a3);
+    v100 = v30 + 8u * 1u;
+    store64(v100, v99);
+    v101 = v30 + 16u * 1u;
     store8(v101, v11);
-    v102 = v29 + 18u * 1u;
-    memory_set(v102, 0u, 6u);
-    v103 = (u8)((u32)v7 >> (4u & 7u));
-    v104 = a3 + 5u * 1u;
-    v105 = load8(v104);
-    v106 = (u8)((u32)v103 | (u32)v105);
-    v107 = v106 == 0u;
-    if (v107) { goto L9; }
-    else { v19 = 1u; goto L39; }
+    v102 = v30 + 17u * 1u;
+    store8(v102, v12);
+    v103 = v30 + 18u * 1u;
+    memory_set(v103, 0u, 6u);
+    v104 = (u8)((u32)v8 >> (4u & 7u));
+    v105 = a3 + 5u * 1u;
+    v106 = load8(v105);
+    v107 = (u8)((u32)v104 | (u32)v106);
+    v108 = v107 == 0u;
+    if (v108) { goto L9; }
+    else { v19 = 1u; goto L36; }
 L9:;
-    v108 = a3 + 4u * 1u;
-    v109 = load8(v108);
-    v110 = a1 + 8u * 1u;
-    v111 = load8(v110);
-    v112 = v109 == v111;
-    if (v112) { goto L12; }
+    v109 = a3 + 4u * 1u;
+    v110 = load8(v109);
+    v111 = a1 + 8u * 1u;
+    v112 = load8(v111);
+    v113 = v110 == v112;
+    if (v113) { goto L12; }
     else { goto L10; }
 L10:;
-    v113 = f45(a1, v29);
-    if (v113) { goto L11; }
-    else { v19 = 1u; goto L39; }
+    v114 = f39(a1, v30);
+    if (v114) { goto L11; }
+    else { v19 = 1u; goto L36; }
 L11:;
-    v114 = a3 + 20u * 1u;
-    v115 = load64(v114);
-    v116 = a3 + 28u * 1u;
-    v117 = load8(v116);
-    v118 = a3 + 29u * 1u;
-    v119 = load8(v118);
-    v120 = (u16)v117;
-    v121 = (u16)((u32)v120 << (8u & 15u));
-    v122 = (u16)v119;
-    v123 = (u16)((u32)v121 | (u32)v122);
-    v13 = v123; v14 = v115; goto L29;
+    v115 = a3 + 20u * 1u;
+    v116 = load64(v115);
+    v117 = a3 + 28u * 1u;
+    v118 = load8(v117);
+    v119 = a3 + 29u * 1u;
+    v120 = load8(v119);
+    v121 = (u16)v118;
+    v122 = (u16)((u32)v121 << (8u & 15u));
+    v123 = (u16)v120;
+    v124 = (u16)((u32)v122 | (u32)v123);
+    v13 = v124; v14 = v116; goto L26;
 L12:;
-    v124 = a3 + 20u * 1u;
-    v125 = load64(v124);
-    v126 = a3 + 28u * 1u;
-    v127 = load8(v126);
-    v128 = a3 + 29u * 1u;
-    v129 = load8(v128);
-    v130 = (u16)v127;
-    v131 = (u16)((u32)v130 << (8u & 15u));
-    v132 = (u16)v129;
-    v133 = a1 + 384u * 1u;
-    v134 = load64(v133);
-    v135 = v125 == v134;
-    if (v135) { v19 = 2u; goto L39; }
+    v125 = a3 + 20u * 1u;
+    v126 = load64(v125);
+    v127 = a3 + 28u * 1u;
+    v128 = load8(v127);
+    v129 = a3 + 29u * 1u;
+    v130 = load8(v129);
+    v131 = (u16)v128;
+    v132 = (u16)((u32)v131 << (8u & 15u));
+    v133 = (u16)v130;
+    v134 = a1 + 384u * 1u;
+    v135 = load64(v134);
+    v136 = v126 == v135;
+    if (v136) { v19 = 2u; goto L36; }
     else { goto L13; }
 L13:;
-    v136 = a3 + 34u * 1u;
-    v137 = load64(v136);
-    v138 = a3 + 42u * 1u;
-    v139 = load8(v138);
-    v140 = a3 + 43u * 1u;
-    v141 = load8(v140);
-    v142 = (u16)v139;
-    v143 = (u16)((u32)v142 << (8u & 15u));
-    v144 = (u16)v141;
-    v145 = (u16)((u32)v143 | (u32)v144);
-    v146 = v137 == v134;
-    v147 = v137 == UINT64_C(18446744073709551615);
-    v148 = (u8)(((u32)v147 | (u32)v146) & UINT64_C(1));
-    if (v148) { goto L14; }
-    else { v19 = 3u; goto L39; }
+    v137 = a3 + 34u * 1u;
+    v138 = load64(v137);
+    v139 = a3 + 42u * 1u;
+    v140 = load8(v139);
+    v141 = a3 + 43u * 1u;
+    v142 = load8(v141);
+    v143 = (u16)v140;
+    v144 = (u16)((u32)v143 << (8u & 15u));
+    v145 = (u16)v142;
+    v146 = (u16)((u32)v144 | (u32)v145);
+    v147 = v138 == v135;
+    v148 = v138 == UINT64_C(18446744073709551615);
+    v149 = (u8)(((u32)v148 | (u32)v147) & UINT64_C(1));
+    if (v149) { goto L14; }
+    else { v19 = 3u; goto L36; }
 L14:;
-    switch (v145) {
+    switch (v146) {
     case 65535u: goto L16;
-    case 0u: v19 = 3u; goto L39;
+    case 0u: v19 = 3u; goto L36;
     default: goto L15;
     }
 L15:;
-    v149 = a1 + 240u * 1u;
-    v150 = load8(v149);
-    v151 = v150 == 0u;
-    v152 = v151 ? 376u : 256u;
-    v153 = a1 + v152 * 1u;
-    v154 = load64(v153);
-    v155 = (u16)(v154);
-    v156 = v145 > v155;
-    if (v156) { v19 = 3u; goto L39; }
+    v150 = a1 + 240u * 1u;
+    v151 = load8(v150);
+    v152 = v151 == 0u;
+    v153 = v152 ? 376u : 256u;
+    v154 = a1 + v153 * 1u;
+    v155 = load64(v154);
+    v156 = (u16)(v155);
+    v157 = v146 > v156;
+    if (v157) { v19 = 3u; goto L36; }
     else { goto L16; }
 L16:;
-    switch (v10) {
-    case 2u: v19 = 4u; goto L39;
-    case 4u: v19 = 4u; goto L39;
+    switch (v11) {
+    case 2u: v19 = 4u; goto L36;
+    case 4u: v19 = 4u; goto L36;
     case 0u: goto L18;
     case 1u: goto L18;
     case 3u: goto L18;
@@ -9969,187 +8984,184 @@ L16:;
 L17:;
     UNREACHABLE;
 L18:;
-    if (v146) { goto L20; }
+    if (v147) { goto L20; }
     else { goto L19; }
 L19:;
-    v19 = 9u; goto L39;
+    v19 = 9u; goto L36;
 L20:;
-    v157 = (u16)((u32)v131 | (u32)v132);
-    store64(v26, v125);
-    v158 = v26 + 8u * 1u;
-    store16(v158, v157);
-    v159 = a3 + 30u * 1u;
-    v160 = load8(v159);
-    v161 = a3 + 31u * 1u;
-    v162 = load8(v161);
-    v163 = (u16)v160;
-    v164 = (u16)((u32)v163 << (8u & 15u));
-    v165 = (u16)v162;
-    v166 = (u16)((u32)v164 | (u32)v165);
-    v167 = v11 == 0u;
-    v168 = v167 ? 52u : 54u;
-    v169 = v167 ? 53u : 55u;
-    v170 = a3 + v168 * 1u;
-    v171 = load8(v170);
-    v172 = a3 + v169 * 1u;
-    v173 = load8(v172);
-    v174 = a3 + 54u * 1u;
-    v175 = (u64)((u64)v98 + (u64)UINT64_C(18446744073709551562));
-    v176 = v167 ? v174 : ADDRESS(c155);
-    v177 = v167 ? v175 : 0u;
-    v178 = (u16)v171;
-    v179 = (u16)((u32)v178 << (8u & 15u));
-    v180 = (u16)v173;
-    v181 = (u16)((u32)v179 | (u32)v180);
-    store8(v27, v10);
-    v182 = v27 + 1u * 1u;
-    store8(v182, 0u);
-    v183 = v27 + 2u * 1u;
-    store16(v183, v181);
-    v184 = v27 + 4u * 1u;
-    store16(v184, v145);
-    v185 = v27 + 6u * 1u;
-    store16(v185, 0u);
-    v186 = v27 + 8u * 1u;
-    store_address(v186, v176);
-    v187 = v27 + 16u * 1u;
-    store64(v187, v177);
-    v188 = f47(v133, v26, v166, v27);
-    v189 = v188.m0;
-    v190 = v188.m1;
-    switch (v189) {
-    case 0u: v19 = 9u; goto L39;
+    v158 = (u16)((u32)v132 | (u32)v133);
+    store64(v27, v126);
+    v159 = v27 + 8u * 1u;
+    store16(v159, v158);
+    v160 = a3 + 30u * 1u;
+    v161 = load8(v160);
+    v162 = a3 + 31u * 1u;
+    v163 = load8(v162);
+    v164 = (u16)v161;
+    v165 = (u16)((u32)v164 << (8u & 15u));
+    v166 = (u16)v163;
+    v167 = (u16)((u32)v165 | (u32)v166);
+    v168 = v12 == 0u;
+    v169 = v168 ? 52u : 54u;
+    v170 = v168 ? 53u : 55u;
+    v171 = a3 + v169 * 1u;
+    v172 = load8(v171);
+    v173 = a3 + v170 * 1u;
+    v174 = load8(v173);
+    v175 = a3 + 54u * 1u;
+    v176 = (u64)((u64)v99 + (u64)UINT64_C(18446744073709551562));
+    v177 = v168 ? v175 : ADDRESS(c155);
+    v178 = v168 ? v176 : 0u;
+    v179 = (u16)v172;
+    v180 = (u16)((u32)v179 << (8u & 15u));
+    v181 = (u16)v174;
+    v182 = (u16)((u32)v180 | (u32)v181);
+    store8(v28, v11);
+    v183 = v28 + 1u * 1u;
+    store8(v183, 0u);
+    v184 = v28 + 2u * 1u;
+    store16(v184, v182);
+    v185 = v28 + 4u * 1u;
+    store16(v185, v146);
+    v186 = v28 + 6u * 1u;
+    store16(v186, 0u);
+    v187 = v28 + 8u * 1u;
+    store_address(v187, v177);
+    v188 = v28 + 16u * 1u;
+    store64(v188, v178);
+    v189 = f41(v134, v27, v167, v28);
+    v190 = v189.m0;
+    switch (v190) {
+    case 0u: v19 = 9u; goto L36;
     case 1u: goto L25;
-    case 2u: v13 = v157; v14 = v125; goto L29;
+    case 2u: v13 = v158; v14 = v126; goto L26;
     case 3u: goto L21;
     case 4u: goto L22;
     default: goto L23;
     }
 L21:;
-    v19 = 8u; goto L39;
+    v19 = 8u; goto L36;
 L22:;
-    v19 = 7u; goto L39;
+    v19 = 7u; goto L36;
 L23:;
     UNREACHABLE;
 L24:;
-    memory_set(v31, 0u, 64u);
-    v191 = (u64)v86;
-    v192 = (u64)((u64)v191 << (8u & 63u));
-    v21 = 0u; v22 = v192; goto L41;
+    memory_set(v32, 0u, 64u);
+    v21 = 0u; v22 = v87; v23 = 0u; goto L38;
 L25:;
-    memory_set(v24, 0u, 68u);
-    v193 = v10 == 0u;
-    if (v193) { goto L26; }
-    else { goto L27; }
+    v191 = v189.m1;
+    memory_set(v25, 0u, 68u);
+    store8(v26, v11);
+    v192 = v26 + 1u * 1u;
+    store8(v192, 0u);
+    v193 = v26 + 2u * 1u;
+    store16(v193, v182);
+    v194 = v26 + 4u * 1u;
+    store16(v194, v146);
+    v195 = v26 + 6u * 1u;
+    store16(v195, 0u);
+    v196 = v26 + 8u * 1u;
+    store_address(v196, v177);
+    v197 = v26 + 16u * 1u;
+    store64(v197, v178);
+    f23(v25, a1, v26, v191);
+    v198 = load32(v25);
+    v199 = v25 + 4u * 1u;
+    memory_cpy(v31, v199, 64u);
+    f42(a1, a2, v30, v191, v33);
+    memory_cpy(v32, v31, 64u);
+    v21 = 5u; v22 = 0u; v23 = v198; goto L38;
 L26:;
-    f49(a1, a2, v29, v190, v32);
-    memory_set(v24, 0u, 68u);
-    v12 = 0u; goto L28;
+    v200 = a3 + 44u * 1u;
+    v201 = load8(v200);
+    v202 = a3 + 45u * 1u;
+    v203 = load8(v202);
+    v204 = a1 + 400u * 1u;
+    v205 = load64(v204);
+    v206 = v205 == 0u;
+    if (v206) { goto L31; }
+    else { goto L27; }
 L27:;
-    f48(v24, a1, a2, v29, v190, v32);
-    v194 = load32(v24);
-    v12 = v194; goto L28;
+    v207 = a1 + 392u * 1u;
+    v208 = load_address(v207);
+    v15 = v208; v16 = v205; goto L28;
 L28:;
-    v195 = v24 + 4u * 1u;
-    memory_cpy(v25, v195, 64u);
-    memory_cpy(v30, v25, 64u);
-    memory_cpy(v31, v30, 64u);
-    v21 = v12; v22 = 5u; goto L41;
+    v209 = v15 + 2144u * 1u;
+    v210 = (u64)((u64)v16 + (u64)UINT64_C(18446744073709551615));
+    v211 = v15 + 2120u * 1u;
+    v212 = load16(v211);
+    v213 = v13 == v212;
+    if (v213) { goto L29; }
+    else { goto L30; }
 L29:;
-    v196 = a3 + 44u * 1u;
-    v197 = load8(v196);
-    v198 = a3 + 45u * 1u;
-    v199 = load8(v198);
-    v200 = a1 + 400u * 1u;
-    v201 = load64(v200);
-    v202 = v201 == 0u;
-    if (v202) { goto L34; }
+    v214 = v15 + 2112u * 1u;
+    v215 = load64(v214);
+    v216 = v14 == v215;
+    if (v216) { goto L32; }
     else { goto L30; }
 L30:;
-    v203 = a1 + 392u * 1u;
-    v204 = load_address(v203);
-    v15 = v204; v16 = v201; goto L31;
+    v217 = v210 == 0u;
+    if (v217) { goto L31; }
+    else { v15 = v209; v16 = v210; goto L28; }
 L31:;
-    v205 = v15 + 2144u * 1u;
-    v206 = (u64)((u64)v16 + (u64)UINT64_C(18446744073709551615));
-    v207 = v15 + 2120u * 1u;
-    v208 = load16(v207);
-    v209 = v13 == v208;
-    if (v209) { goto L32; }
-    else { goto L33; }
-L32:;
-    v210 = v15 + 2112u * 1u;
-    v211 = load64(v210);
-    v212 = v14 == v211;
-    if (v212) { goto L35; }
-    else { goto L33; }
-L33:;
-    v213 = v206 == 0u;
-    if (v213) { goto L34; }
-    else { v15 = v205; v16 = v206; goto L31; }
-L34:;
     TRAP;
     UNREACHABLE;
+L32:;
+    store64(v24, 0u);
+    v218 = v15 + 2129u * 1u;
+    v219 = load8(v218);
+    v220 = (u8)((v219) & UINT64_C(1));
+    v221 = (u8)(((u32)v220 ^ (u32)1u) & UINT64_C(1));
+    v222 = v220 ? 0u : a2;
+    v223 = (u16)v221;
+    v224 = v201 > v203 ? (u8)((u32)v201 - (u32)v203) : 0u;
+    store8(v24, v110);
+    v225 = v24 + 2u * 1u;
+    store16(v225, v223);
+    v226 = v24 + 4u * 1u;
+    store16(v226, v222);
+    v227 = v24 + 6u * 1u;
+    store8(v227, v224);
+    v228 = v15 + 1432u * 1u;
+    v229 = load8(v228);
+    v230 = v229 == 0u;
+    v231 = v15 + 1440u * 1u;
+    if (v230) { goto L33; }
+    else { goto L34; }
+L33:;
+    v232 = v15 + 1456u * 1u;
+    v17 = v231; v18 = v232; goto L35;
+L34:;
+    v233 = load_address(v231);
+    v234 = v15 + 1464u * 1u;
+    v235 = load_address(v234);
+    v17 = v233; v18 = v235; goto L35;
 L35:;
-    store64(v23, 0u);
-    v214 = v15 + 2129u * 1u;
-    v215 = load8(v214);
-    v216 = (u8)((v215) & UINT64_C(1));
-    v217 = (u8)(((u32)v216 ^ (u32)1u) & UINT64_C(1));
-    v218 = v216 ? 0u : a2;
-    v219 = (u16)v217;
-    v220 = v197 > v199 ? (u8)((u32)v197 - (u32)v199) : 0u;
-    store8(v23, v109);
-    v221 = v23 + 2u * 1u;
-    store16(v221, v219);
-    v222 = v23 + 4u * 1u;
-    store16(v222, v218);
-    v223 = v23 + 6u * 1u;
-    store8(v223, v220);
-    v224 = v15 + 1432u * 1u;
-    v225 = load8(v224);
-    v226 = v225 == 0u;
-    v227 = v15 + 1440u * 1u;
-    if (v226) { goto L36; }
-    else { goto L37; }
+    v236 = v15 + 1448u * 1u;
+    v237 = load64(v236);
+    f47(v17, v237, v18, v24, a2, v33);
+    v20 = 6u; goto L37;
 L36:;
-    v228 = v15 + 1456u * 1u;
-    v17 = v227; v18 = v228; goto L38;
+    f48(a1, v19, a2, a3, v30, v33);
+    v20 = v19; goto L37;
 L37:;
-    v229 = load_address(v227);
-    v230 = v15 + 1464u * 1u;
-    v231 = load_address(v230);
-    v17 = v229; v18 = v231; goto L38;
+    memory_set(v32, 0u, 64u);
+    v21 = v20; v22 = 0u; v23 = 0u; goto L38;
 L38:;
-    v232 = v15 + 1448u * 1u;
-    v233 = load64(v232);
-    f54(v17, v233, v18, v23, a2, v32);
-    v20 = 6u; goto L40;
-L39:;
-    f55(a1, v19, a2, a3, v29, v32);
-    v234 = (u64)v19;
-    v20 = v234; goto L40;
-L40:;
-    memory_set(v31, 0u, 64u);
-    v21 = 0u; v22 = v20; goto L41;
-L41:;
-    memory_cpy(v33, v31, 64u);
-    v235 = load64(v35);
-    store64(a0, v22);
-    v236 = a0 + 8u * 1u;
-    store64(v236, v235);
-    v237 = a0 + 16u * 1u;
-    store64(v237, 0u);
-    v238 = a0 + 24u * 1u;
-    store32(v238, v21);
-    v239 = a0 + 28u * 1u;
-    memory_cpy(v239, v33, 64u);
-    v240 = a0 + 92u * 1u;
-    store32(v240, 0u);
+    memory_cpy(v34, v32, 64u);
+    store32(a7, v23);
+    v238 = a7 + 4u * 1u;
+    memory_cpy(v238, v34, 64u);
+    v239 = load64(v36);
+    store8(a0, v21);
+    v240 = a0 + 1u * 1u;
+    store8(v240, v22);
+    v241 = a0 + 8u * 1u;
+    store64(v241, v239);
     return;
 }
 
-static u8 f45(address a0, address a1) {
+static u8 f39(address a0, address a1) {
     address v2, v6, v7, v8, v9, v11, v13, v18, v21, v23, v25, v34, v38, v42, v45, v46;
     address v48, v54, v59, v61, v63, v65, v71, v72, v73, v74, v75, v76;
     u64 v3, v10, v19, v22, v37, v39, v57, v58, v64, v66;
@@ -10274,7 +9286,7 @@ L9:;
     store_address(v75, v2);
     v76 = v7 + 16u * 1u;
     store64(v76, v3);
-    v77 = f47(v18, v6, v53, v7);
+    v77 = f41(v18, v6, v53, v7);
     v78 = v77.m0;
     v79 = v78 == 2u;
     v4 = v79; goto L10;
@@ -10284,7 +9296,7 @@ L11:;
     return v5;
 }
 
-static u8 f46(address a0, address a1) {
+static u8 f40(address a0, address a1) {
     u8 v2, v7, v9, v16, v17, v18, v20, v21, v26;
     address v3, v4, v6, v8, v14, v19, v23;
     u64 v5, v15, v22, v24;
@@ -10329,7 +9341,7 @@ L4:;
     return v2;
 }
 
-static struct s1 f47(address a0, address a1, u16 a2, address a3) {
+static struct s1 f41(address a0, address a1, u16 a2, address a3) {
     address v4, v10, v13, v14, v15, v17, v19, v22, v27, v30, v32, v34, v36, v43, v47, v50;
     address v53, v54, v55, v62, v63, v68, v69, v74, v75, v81, v82, v90;
     u64 v5, v6, v11, v18, v23, v24, v37, v56, v86;
@@ -10467,7 +9479,7 @@ L15:;
     if (v87) { goto L18; }
     else { v6 = v86; goto L14; }
 L16:;
-    v88 = f43(v4, v37, v54, v37);
+    v88 = f28(v4, v37, v54, v37);
     if (v88) { goto L18; }
     else { v7 = 3u; goto L21; }
 L17:;
@@ -10492,55 +9504,7 @@ L22:;
     return v93;
 }
 
-static void f48(address a0, address a1, u16 a2, address a3, u8 a4, address a5) {
-    u64 v6, v20;
-    address v7, v8, v9, v10, v11, v12, v13, v14, v15, v16, v17, v18, v19;
-    u8 v21;
-    u64 block0[9];
-    u64 block1[128];
-    u64 block2[32];
-    u64 block3[32];
-    v7 = ADDRESS(block0);
-    v8 = ADDRESS(block1);
-    v9 = ADDRESS(block2);
-    v10 = ADDRESS(block3);
-    memory_set(v7, 0u, 68u);
-    memory_set(v8, 0u, 1024u);
-    memory_set(v10, 0u, 256u);
-    v6 = 0u; goto L1;
-L1:;
-    v11 = v8 + v6 * 1u;
-    store64(v11, 0u);
-    v12 = v11 + 8u * 1u;
-    store8(v12, 5u);
-    v13 = v11 + 9u * 1u;
-    store8(v13, 0u);
-    v14 = v11 + 10u * 1u;
-    store8(v14, 1u);
-    v15 = v11 + 11u * 1u;
-    store8(v15, 3u);
-    v16 = v11 + 12u * 1u;
-    store8(v16, 0u);
-    v17 = v11 + 13u * 1u;
-    store8(v17, 1u);
-    v18 = v11 + 14u * 1u;
-    store8(v18, 0u);
-    v19 = v11 + 15u * 1u;
-    store8(v19, 0u);
-    v20 = (u64)((u64)v6 + (u64)16u);
-    v21 = v20 == 1024u;
-    if (v21) { goto L2; }
-    else { v6 = v20; goto L1; }
-L2:;
-    f32(v10, a1, v8);
-    memory_cpy(v9, v10, 256u);
-    f49(a1, a2, a3, a4, a5);
-    f41(v7, a1, v9);
-    memory_cpy(a0, v7, 68u);
-    return;
-}
-
-static void f49(address a0, u16 a1, address a2, u8 a3, address a4) {
+static void f42(address a0, u16 a1, address a2, u8 a3, address a4) {
     address v5, v7, v11, v12, v13, v14, v15, v17, v19, v21, v27, v29, v35, v37, v39, v41;
     address v46, v48, v50, v52, v54, v56, v66, v67, v68, v69, v70, v71, v72, v73, v74, v75;
     address v76, v81, v82, v83, v84, v86, v88, v90, v91, v92, v100, v101, v107, v109, v111, v112;
@@ -10687,7 +9651,7 @@ L2:;
     v108 = swap16(v65);
     v109 = v13 + 52u * 1u;
     store16(v109, v108);
-    f33(a0, v12, a3, v13);
+    f30(a0, v12, a3, v13);
     v110 = load8(v74);
     v111 = a0 + 392u * 1u;
     v112 = load_address(v111);
@@ -10759,7 +9723,7 @@ L10:;
     if (v147) { goto L12; }
     else { v10 = v146; goto L10; }
 L11:;
-    f50(v127, v5, v6);
+    f43(v127, v5, v6);
     goto L12;
 L12:;
     v148 = v127 + 2129u * 1u;
@@ -10810,10 +9774,10 @@ L18:;
     memory_move(v161, v157, 80u);
     goto L36;
 L19:;
-    f51(v161, v157, v156);
+    f44(v161, v157, v156);
     goto L36;
 L20:;
-    f52(v161, v157, v156);
+    f45(v161, v157, v156);
     goto L36;
 L21:;
     v167 = v127 + 1464u * 1u;
@@ -10840,7 +9804,7 @@ L24:;
     memory_move(v172, v157, 80u);
     goto L26;
 L25:;
-    f51(v172, v157, v156);
+    f44(v172, v157, v156);
     goto L26;
 L26:;
     store64(v168, v156);
@@ -10883,13 +9847,13 @@ L34:;
     store64(v183, 0u);
     goto L35;
 L35:;
-    f53(a4, v149);
+    f46(a4, v149);
     goto L36;
 L36:;
     return;
 }
 
-static void f50(address a0, address a1, u64 a2) {
+static void f43(address a0, address a1, u64 a2) {
     u64 v3, v4, v5, v7, v10, v12, v14, v15, v16, v21, v24, v25, v28, v29, v30, v35;
     u64 v37;
     address v6, v9, v11, v18, v19, v27, v32, v33;
@@ -10968,7 +9932,7 @@ L12:;
     return;
 }
 
-static void f51(address a0, address a1, u64 a2) {
+static void f44(address a0, address a1, u64 a2) {
     u64 v3, v4, v5, v6, v11;
     u8 v7, v10, v12;
     address v8, v9;
@@ -10994,7 +9958,7 @@ L3:;
     return;
 }
 
-static void f52(address a0, address a1, u64 a2) {
+static void f45(address a0, address a1, u64 a2) {
     u64 v3, v4, v5, v7, v10, v12, v14, v15, v16, v21, v24, v25, v28, v29, v30, v35;
     u64 v37;
     address v6, v9, v11, v18, v19, v27, v32, v33;
@@ -11073,7 +10037,7 @@ L12:;
     return;
 }
 
-static void f53(address a0, address a1) {
+static void f46(address a0, address a1) {
     u64 v2, v3, v4, v5, v6, v8, v17, v21, v26, v28, v29, v30, v33, v34, v35, v40;
     u64 v42, v43, v46, v47, v48, v53, v55, v56, v59, v60, v61, v66, v68, v69, v72, v73;
     u64 v74, v79, v81, v84, v86, v88, v89, v90;
@@ -11262,7 +10226,7 @@ L27:;
     memory_move(v87, v22, 80u);
     goto L29;
 L28:;
-    f51(v87, v22, v21);
+    f44(v87, v22, v21);
     goto L29;
 L29:;
     v88 = load64(v12);
@@ -11278,7 +10242,7 @@ L31:;
     return;
 }
 
-static void f54(address a0, u64 a1, address a2, address a3, u16 a4, address a5) {
+static void f47(address a0, u64 a1, address a2, address a3, u16 a4, address a5) {
     u64 v6, v8, v15, v17, v19, v22, v40, v41;
     address v7, v9, v11, v12, v13, v14, v16, v20, v21, v23, v25, v26, v28, v34, v36, v38;
     address v39;
@@ -11324,7 +10288,7 @@ L5:;
     memory_move(v26, v7, 80u);
     goto L7;
 L6:;
-    f51(v26, v7, v19);
+    f44(v26, v7, v19);
     goto L7;
 L7:;
     v27 = load8(a3);
@@ -11360,7 +10324,7 @@ L10:;
     return;
 }
 
-static void f55(address a0, u8 a1, u16 a2, address a3, address a4, address a5) {
+static void f48(address a0, u8 a1, u16 a2, address a3, address a4, address a5) {
     u64 v6, v9, v15, v18, v30, v32, v34, v45, v46, v56, v58, v76, v100;
     address v7, v8, v10, v11, v14, v16, v17, v20, v23, v26, v27, v29, v35, v36, v39, v41;
     address v44, v47, v49, v51, v53, v55, v57, v67, v68, v69, v70, v71, v72, v73, v75, v77;
@@ -11438,7 +10402,7 @@ L8:;
 L9:;
     UNREACHABLE;
 L10:;
-    f56(a0, a2, a3, a5);
+    f49(a0, a2, a3, a5);
     goto L11;
 L11:;
     v38 = a1 == 9u;
@@ -11560,13 +10524,13 @@ L14:;
     v123 = swap16(v66);
     v124 = v11 + 52u * 1u;
     store16(v124, v123);
-    f57(a0, v10, v11);
+    f50(a0, v10, v11);
     goto L15;
 L15:;
     return;
 }
 
-static void f56(address a0, u16 a1, address a2, address a3) {
+static void f49(address a0, u16 a1, address a2, address a3) {
     u64 v4, v6, v13, v21, v22, v24, v26, v31, v32, v43, v47, v48, v49;
     address v5, v7, v10, v11, v12, v17, v18, v19, v20, v27, v28, v30, v33, v41, v42, v46;
     u8 v8, v9, v16, v23, v25, v29, v34, v35, v44, v45, v50;
@@ -11657,7 +10621,7 @@ L11:;
     goto L13;
 L12:;
     v43 = (u64)v39;
-    f51(v42, a2, v43);
+    f44(v42, a2, v43);
     goto L13;
 L13:;
     v44 = load8(v20);
@@ -11677,7 +10641,7 @@ L15:;
     return;
 }
 
-static void f57(address a0, address a1, address a2) {
+static void f50(address a0, address a1, address a2) {
     address v3, v15, v16, v17, v20, v22, v23, v24, v25, v26, v27, v28, v29, v30, v31, v33;
     address v34, v36, v38, v39, v42, v43, v44, v49, v50, v52, v53, v54, v56, v57, v60, v61;
     address v62, v65, v67, v68, v70, v71, v72, v73, v76, v77, v78, v79, v84, v85, v90, v92;
@@ -11801,7 +10765,7 @@ L22:;
     v43 = v42 + 2u * 1u;
     store16(v43, 60u);
     v44 = v42 + 4u * 1u;
-    f34(a2, v32, v35, v37, v44);
+    f31(a2, v32, v35, v37, v44);
     v45 = load64(v39);
     v46 = (u64)((u64)v45 + (u64)1u);
     store64(v39, v46);
@@ -11840,7 +10804,7 @@ L28:;
     v61 = v60 + 2u * 1u;
     store16(v61, 60u);
     v62 = v60 + 4u * 1u;
-    f34(a2, v51, 6u, v55, v62);
+    f31(a2, v51, 6u, v55, v62);
     v63 = load64(v57);
     v64 = (u64)((u64)v63 + (u64)1u);
     store64(v57, v64);
@@ -11928,14 +10892,14 @@ L38:;
     store64(v73, v95);
     goto L23;
 L39:;
-    f38(a0, v8, a2);
+    f35(a0, v8, a2);
     goto L23;
 L40:;
-    f40(a0, v16, a1, v14, v13, a2);
+    f37(a0, v16, a1, v14, v13, a2);
     goto L23;
 }
 
-static u8 f58(address a0, address a1, u64 a2, address a3) {
+static u8 f51(address a0, address a1, u64 a2, address a3) {
     u8 v4, v5, v6, v7, v8, v9, v10, v11, v18, v20, v26, v27, v28, v29, v30, v32;
     u8 v33, v34, v36, v38, v44, v46, v47, v49, v51, v56, v58, v59, v61, v65, v69, v71;
     u8 v72, v73, v74, v75, v76, v78, v80, v82, v84, v93, v97, v99, v101, v103, v122, v123;
@@ -12111,7 +11075,7 @@ L10:;
     store_address(v120, v106);
     v121 = v15 + 16u * 1u;
     store64(v121, v107);
-    f59(v14, v23, v25, v15);
+    f52(v14, v23, v25, v15);
     v122 = load8(v14);
     v123 = v122 == 1u;
     if (v123) { goto L11; }
@@ -12127,7 +11091,7 @@ L11:;
     v131 = load16(v130);
     v132 = v14 + 10u * 1u;
     v133 = load16(v132);
-    v134 = f60(a0, v13);
+    v134 = f53(a0, v13);
     v135 = v134.m0;
     v136 = v135 == 1u;
     if (v136) { goto L12; }
@@ -12231,7 +11195,7 @@ L22:;
     store8(v186, v20);
     v187 = v17 + 8u * 1u;
     memory_cpy(v187, v21, 16u);
-    f61(a0, v16, v9, v8, v17);
+    f54(a0, v16, v9, v8, v17);
     v10 = 1u; goto L23;
 L23:;
     v11 = v10; goto L24;
@@ -12239,7 +11203,7 @@ L24:;
     return v11;
 }
 
-static void f59(address a0, address a1, u64 a2, address a3) {
+static void f52(address a0, address a1, u64 a2, address a3) {
     address v4, v7, v8, v11, v19;
     u64 v5, v12;
     u8 v6, v10, v14, v15, v16, v17;
@@ -12303,7 +11267,7 @@ L6:;
     return;
 }
 
-static struct s1 f60(address a0, address a1) {
+static struct s1 f53(address a0, address a1) {
     address v2, v6, v7, v8, v10, v13, v16, v18, v20, v22, v24, v26, v36, v37, v38, v39;
     address v40, v41, v44, v46, v50, v54, v56, v59, v64, v68, v72, v74, v80, v81, v83;
     u64 v3, v14, v15, v25, v27, v45, v47, v60, v67, v69;
@@ -12433,7 +11397,7 @@ L8:;
     v86 = (u16)((u32)v85 << (8u & 15u));
     v87 = (u16)v84;
     v88 = (u16)((u32)v86 | (u32)v87);
-    v89 = f47(v46, v7, v88, v6);
+    v89 = f41(v46, v7, v88, v6);
     v90 = v89.m0;
     v91 = v90 == 1u;
     v92 = v89.m1;
@@ -12448,7 +11412,7 @@ L9:;
     return v96;
 }
 
-static void f61(address a0, address a1, u8 a2, u8 a3, address a4) {
+static void f54(address a0, address a1, u8 a2, u8 a3, address a4) {
     u8 v5, v6, v7, v8, v9, v10, v11, v12, v18, v20, v29, v31, v36, v37, v43, v44;
     u8 v45;
     address v13, v14, v15, v16, v17, v19, v21, v22, v23, v25, v26, v27, v28, v30, v32, v33;
@@ -12579,11 +11543,11 @@ L17:;
     store8(v58, v12);
     v59 = v27 + 10u * 1u;
     memory_cpy(v59, v25, 150u);
-    f62(a0, a1, v56, v28, v27, 1u);
+    f55(a0, a1, v56, v28, v27, 1u);
     return;
 }
 
-static void f62(address a0, address a1, u16 a2, address a3, address a4, u64 a5) {
+static void f55(address a0, address a1, u16 a2, address a3, address a4, u64 a5) {
     address v6, v16, v22, v23, v24, v25, v28, v30, v32, v35, v42, v43, v44, v46, v47, v49;
     address v50, v52, v53, v54, v55, v58, v67, v68, v76, v77, v79, v81, v85, v88, v91, v92;
     address v93, v96, v97, v98, v99, v100, v101, v102, v103, v104, v105, v106, v107, v108, v109, v110;
@@ -12689,7 +11653,7 @@ L9:;
     if (v71) { goto L11; }
     else { v9 = v70; goto L9; }
 L10:;
-    f50(v42, v54, v56);
+    f43(v42, v54, v56);
     goto L11;
 L11:;
     v72 = a5 == 0u;
@@ -13058,7 +12022,7 @@ L55:;
 L56:;
     v252 = load_address(v115);
     v253 = load64(v116);
-    v254 = f63(v22, v252, v253);
+    v254 = f56(v22, v252, v253);
     v255 = (u8)(v254);
     v256 = load64(v88);
     v257 = load_address(v114);
@@ -13081,7 +12045,7 @@ L59:;
     return;
 }
 
-static u64 f63(address a0, address a1, u64 a2) {
+static u64 f56(address a0, address a1, u64 a2) {
     u64 v3, v4, v11, v13, v14, v15, v16, v17, v18, v19, v22, v39, v40, v41, v65, v77;
     u64 v78, v79, v103, v139;
     address v5, v6, v7, v10, v21, v23, v30, v31, v33, v37, v38, v44, v45, v47, v48, v50;
@@ -13317,479 +12281,487 @@ L18:;
     memory_cpy(v140, v5, 80u);
     goto L20;
 L19:;
-    f51(v140, v5, v139);
+    f44(v140, v5, v139);
     goto L20;
 L20:;
     return v19;
 }
 
-static void f64(address a0, address a1, u16 a2, address a3, u64 a4, u8 a5, address a6, u64 a7) {
-    u8 v8, v9, v10, v11, v24, v25, v26, v27, v29, v30, v31, v33, v35, v41, v43, v44;
-    u8 v46, v48, v53, v55, v56, v58, v62, v66, v68, v69, v70, v71, v72, v73, v75, v77;
-    u8 v79, v81, v90, v93, v97, v99, v105, v107, v113, v115, v116, v120, v122, v124, v126, v148;
-    u8 v150, v176, v181, v186, v189, v191, v199, v202, v203, v204, v208, v211, v213, v217, v223, v224;
-    u8 v226, v232, v238, v239, v242, v247;
-    address v12, v16, v17, v18, v19, v20, v21, v22, v23, v28, v32, v34, v45, v47, v54, v57;
-    address v61, v74, v76, v78, v80, v86, v87, v88, v89, v91, v92, v94, v96, v98, v104, v106;
-    address v112, v114, v119, v121, v123, v125, v127, v129, v139, v140, v141, v142, v143, v144, v145, v146;
-    address v160, v161, v162, v163, v164, v165, v166, v167, v168, v169, v170, v171, v172, v173, v174, v175;
-    address v177, v178, v179, v182, v184, v187, v193, v194, v195, v196, v197, v198, v200, v209, v210, v214;
-    address v215, v218, v219, v222, v225, v227, v228, v229, v230, v233, v234, v235, v236, v237, v240, v243;
-    address v244, v245, v248, v250, v251, v252;
-    u64 v13, v14, v15, v40, v59, v60, v63, v64, v65, v67, v82, v83, v84, v85, v95, v117;
-    u64 v118, v128, v130, v147, v180, v183, v188, v190, v192, v201, v205, v206, v207, v212, v216, v221;
-    u64 v231, v241, v246, v249;
-    u16 v36, v37, v38, v39, v42, v49, v50, v51, v52, v100, v101, v102, v103, v108, v109, v110;
-    u16 v111, v131, v132, v133, v134, v135, v136, v137, v138, v151, v152, v153, v154, v159, v185, v220;
-    u32 v149, v155, v156, v157, v158;
+static void f57(address a0, address a1, u16 a2, address a3, u64 a4, u8 a5, address a6, u64 a7, address a8) {
+    u8 v9, v10, v11, v12, v25, v26, v27, v28, v30, v31, v32, v34, v36, v42, v44, v45;
+    u8 v47, v49, v54, v56, v57, v59, v63, v67, v69, v70, v71, v72, v73, v74, v76, v78;
+    u8 v80, v82, v91, v94, v98, v100, v106, v108, v114, v116, v117, v121, v123, v125, v127, v149;
+    u8 v151, v177, v182, v187, v190, v192, v200, v203, v204, v205, v209, v212, v214, v218, v224, v225;
+    u8 v227, v233, v239, v240, v243, v248, v253, v256;
+    address v13, v17, v18, v19, v20, v21, v22, v23, v24, v29, v33, v35, v46, v48, v55, v58;
+    address v62, v75, v77, v79, v81, v87, v88, v89, v90, v92, v93, v95, v97, v99, v105, v107;
+    address v113, v115, v120, v122, v124, v126, v128, v130, v140, v141, v142, v143, v144, v145, v146, v147;
+    address v161, v162, v163, v164, v165, v166, v167, v168, v169, v170, v171, v172, v173, v174, v175, v176;
+    address v178, v179, v180, v183, v185, v188, v194, v195, v196, v197, v198, v199, v201, v210, v211, v215;
+    address v216, v219, v220, v223, v226, v228, v229, v230, v231, v234, v235, v236, v237, v238, v241, v244;
+    address v245, v246, v249, v251, v252, v254, v255, v257, v258;
+    u64 v14, v15, v16, v41, v60, v61, v64, v65, v66, v68, v83, v84, v85, v86, v96, v118;
+    u64 v119, v129, v131, v148, v181, v184, v189, v191, v193, v202, v206, v207, v208, v213, v217, v222;
+    u64 v232, v242, v247, v250, v259;
+    u16 v37, v38, v39, v40, v43, v50, v51, v52, v53, v101, v102, v103, v104, v109, v110, v111;
+    u16 v112, v132, v133, v134, v135, v136, v137, v138, v139, v152, v153, v154, v155, v160, v186, v221;
+    u32 v150, v156, v157, v158, v159;
     u64 block0[3];
     u64 block1[10];
     u64 block2[1];
     u64 block3[3];
     u64 block4[3];
-    u64 block5[12];
-    v16 = ADDRESS(block0);
-    v17 = ADDRESS(block1);
-    v18 = ADDRESS(block2);
-    v19 = ADDRESS(block3);
-    v20 = ADDRESS(block4);
-    v21 = ADDRESS(block5);
-    memory_set(v21, 0u, 96u);
-    store_address(v20, a6);
-    v22 = v20 + 8u * 1u;
-    store64(v22, a7);
-    v23 = v20 + 16u * 1u;
-    store64(v23, 0u);
-    memory_set(v18, 0u, 3u);
-    v24 = a4 < 54u;
-    if (v24) { goto L6; }
+    u64 block5[2];
+    v17 = ADDRESS(block0);
+    v18 = ADDRESS(block1);
+    v19 = ADDRESS(block2);
+    v20 = ADDRESS(block3);
+    v21 = ADDRESS(block4);
+    v22 = ADDRESS(block5);
+    memory_set(v22, 0u, 16u);
+    store_address(v21, a6);
+    v23 = v21 + 8u * 1u;
+    store64(v23, a7);
+    v24 = v21 + 16u * 1u;
+    store64(v24, 0u);
+    memory_set(v19, 0u, 3u);
+    v25 = a4 < 54u;
+    if (v25) { goto L6; }
     else { goto L1; }
 L1:;
-    v25 = load8(a3);
-    v26 = (u8)((u32)v25 & (u32)15u);
-    v27 = v26 == 13u;
-    if (v27) { goto L2; }
+    v26 = load8(a3);
+    v27 = (u8)((u32)v26 & (u32)15u);
+    v28 = v27 == 13u;
+    if (v28) { goto L2; }
     else { goto L6; }
 L2:;
-    v28 = a3 + 1u * 1u;
-    v29 = load8(v28);
-    v30 = (u8)((u32)v29 & (u32)15u);
-    v31 = v30 == 2u;
-    if (v31) { goto L3; }
+    v29 = a3 + 1u * 1u;
+    v30 = load8(v29);
+    v31 = (u8)((u32)v30 & (u32)15u);
+    v32 = v31 == 2u;
+    if (v32) { goto L3; }
     else { goto L6; }
 L3:;
-    v32 = a3 + 2u * 1u;
-    v33 = load8(v32);
-    v34 = a3 + 3u * 1u;
-    v35 = load8(v34);
-    v36 = (u16)v33;
-    v37 = (u16)((u32)v36 << (8u & 15u));
-    v38 = (u16)v35;
-    v39 = (u16)((u32)v37 | (u32)v38);
-    v40 = (u64)v39;
-    v41 = a4 < v40;
-    v42 = (u16)((u32)v39 + (u32)64063u);
-    v43 = v42 < 64117u;
-    v44 = (u8)(((u32)v43 | (u32)v41) & UINT64_C(1));
-    if (v44) { goto L6; }
+    v33 = a3 + 2u * 1u;
+    v34 = load8(v33);
+    v35 = a3 + 3u * 1u;
+    v36 = load8(v35);
+    v37 = (u16)v34;
+    v38 = (u16)((u32)v37 << (8u & 15u));
+    v39 = (u16)v36;
+    v40 = (u16)((u32)v38 | (u32)v39);
+    v41 = (u64)v40;
+    v42 = a4 < v41;
+    v43 = (u16)((u32)v40 + (u32)64063u);
+    v44 = v43 < 64117u;
+    v45 = (u8)(((u32)v44 | (u32)v42) & UINT64_C(1));
+    if (v45) { goto L6; }
     else { goto L4; }
 L4:;
-    v45 = a3 + 48u * 1u;
-    v46 = load8(v45);
-    v47 = a3 + 49u * 1u;
-    v48 = load8(v47);
-    v49 = (u16)v46;
-    v50 = (u16)((u32)v49 << (8u & 15u));
-    v51 = (u16)v48;
-    v52 = (u16)((u32)v50 | (u32)v51);
-    v53 = v52 == 1u;
-    if (v53) { goto L5; }
+    v46 = a3 + 48u * 1u;
+    v47 = load8(v46);
+    v48 = a3 + 49u * 1u;
+    v49 = load8(v48);
+    v50 = (u16)v47;
+    v51 = (u16)((u32)v50 << (8u & 15u));
+    v52 = (u16)v49;
+    v53 = (u16)((u32)v51 | (u32)v52);
+    v54 = v53 == 1u;
+    if (v54) { goto L5; }
     else { goto L6; }
 L5:;
-    v54 = a3 + 46u * 1u;
-    v55 = load8(v54);
-    v56 = (u8)((u32)v55 & (u32)15u);
-    v57 = a3 + 50u * 1u;
-    v58 = load8(v57);
-    v59 = (u64)v58;
-    v60 = (u64)((u64)v59 << (8u & 63u));
-    v61 = a3 + 51u * 1u;
-    v62 = load8(v61);
-    v63 = (u64)v62;
-    v64 = (u64)((u64)v60 | (u64)v63);
-    v65 = (u64)((u64)v64 + (u64)52u);
-    v66 = v65 == v40;
-    v67 = (u64)((u64)v40 & (u64)1u);
-    v68 = v67 == 0u;
-    v69 = (u8)(((u32)v68 & (u32)v66) & UINT64_C(1));
-    v70 = v56 < 5u;
-    v71 = v69 ? v70 : 0u;
-    if (v71) { v8 = v35; v9 = v33; v10 = v56; v11 = 0u; goto L9; }
+    v55 = a3 + 46u * 1u;
+    v56 = load8(v55);
+    v57 = (u8)((u32)v56 & (u32)15u);
+    v58 = a3 + 50u * 1u;
+    v59 = load8(v58);
+    v60 = (u64)v59;
+    v61 = (u64)((u64)v60 << (8u & 63u));
+    v62 = a3 + 51u * 1u;
+    v63 = load8(v62);
+    v64 = (u64)v63;
+    v65 = (u64)((u64)v61 | (u64)v64);
+    v66 = (u64)((u64)v65 + (u64)52u);
+    v67 = v66 == v41;
+    v68 = (u64)((u64)v41 & (u64)1u);
+    v69 = v68 == 0u;
+    v70 = (u8)(((u32)v69 & (u32)v67) & UINT64_C(1));
+    v71 = v57 < 5u;
+    v72 = v70 ? v71 : 0u;
+    if (v72) { v9 = v36; v10 = v34; v11 = v57; v12 = 0u; goto L9; }
     else { goto L6; }
 L6:;
-    f8(v18, a3, a4);
-    v72 = load8(v18);
-    v73 = v72 == 0u;
-    if (v73) { goto L7; }
+    f8(v19, a3, a4);
+    v73 = load8(v19);
+    v74 = v73 == 0u;
+    if (v74) { goto L7; }
     else { goto L8; }
 L7:;
-    v74 = v18 + 1u * 1u;
-    v75 = load8(v74);
-    v76 = v18 + 2u * 1u;
-    v77 = load8(v76);
-    v78 = a3 + 2u * 1u;
-    v79 = load8(v78);
-    v80 = a3 + 3u * 1u;
-    v81 = load8(v80);
-    v8 = v81; v9 = v79; v10 = v75; v11 = v77; goto L9;
+    v75 = v19 + 1u * 1u;
+    v76 = load8(v75);
+    v77 = v19 + 2u * 1u;
+    v78 = load8(v77);
+    v79 = a3 + 2u * 1u;
+    v80 = load8(v79);
+    v81 = a3 + 3u * 1u;
+    v82 = load8(v81);
+    v9 = v82; v10 = v80; v11 = v76; v12 = v78; goto L9;
 L8:;
     goto L46;
 L9:;
-    v82 = (u64)v9;
-    v83 = (u64)((u64)v82 << (8u & 63u));
-    v84 = (u64)v8;
-    v85 = (u64)((u64)v83 | (u64)v84);
-    store_address(v19, a3);
-    v86 = v19 + 8u * 1u;
-    store64(v86, v85);
-    v87 = v19 + 16u * 1u;
-    store8(v87, v10);
-    v88 = v19 + 17u * 1u;
+    v83 = (u64)v10;
+    v84 = (u64)((u64)v83 << (8u & 63u));
+    v85 = (u64)v9;
+    v86 = (u64)((u64)v84 | (u64)v85);
+    store_address(v20, a3);
+    v87 = v20 + 8u * 1u;
+    store64(v87, v86);
+    v88 = v20 + 16u * 1u;
     store8(v88, v11);
-    v89 = v19 + 18u * 1u;
-    memory_set(v89, 0u, 6u);
-    v90 = f65(a1, ADDRESS(c155), 0u, v19);
-    if (v90) { goto L10; }
+    v89 = v20 + 17u * 1u;
+    store8(v89, v12);
+    v90 = v20 + 18u * 1u;
+    memory_set(v90, 0u, 6u);
+    v91 = f58(a1, ADDRESS(c155), 0u, v20);
+    if (v91) { goto L10; }
     else { goto L46; }
 L10:;
-    v91 = v17 + 72u * 1u;
-    store64(v91, 0u);
-    v92 = a3 + 4u * 1u;
-    v93 = load8(v92);
-    v94 = a3 + 20u * 1u;
-    v95 = load64(v94);
-    v96 = a3 + 28u * 1u;
-    v97 = load8(v96);
-    v98 = a3 + 29u * 1u;
-    v99 = load8(v98);
-    v100 = (u16)v97;
-    v101 = (u16)((u32)v100 << (8u & 15u));
-    v102 = (u16)v99;
-    v103 = (u16)((u32)v101 | (u32)v102);
-    v104 = a3 + 30u * 1u;
-    v105 = load8(v104);
-    v106 = a3 + 31u * 1u;
-    v107 = load8(v106);
-    v108 = (u16)v105;
-    v109 = (u16)((u32)v108 << (8u & 15u));
-    v110 = (u16)v107;
-    v111 = (u16)((u32)v109 | (u32)v110);
-    v112 = a3 + 44u * 1u;
-    v113 = load8(v112);
-    v114 = a3 + 45u * 1u;
-    v115 = load8(v114);
-    v116 = v11 == 0u;
-    v117 = v116 ? 52u : 54u;
-    v118 = v116 ? 53u : 55u;
-    v119 = a3 + v117 * 1u;
-    v120 = load8(v119);
-    v121 = a3 + v118 * 1u;
-    v122 = load8(v121);
-    v123 = a3 + 42u * 1u;
-    v124 = load8(v123);
-    v125 = a3 + 43u * 1u;
-    v126 = load8(v125);
-    v127 = a3 + 54u * 1u;
-    v128 = (u64)((u64)v85 + (u64)UINT64_C(18446744073709551562));
-    v129 = v116 ? v127 : ADDRESS(c155);
-    v130 = v116 ? v128 : 0u;
-    v131 = (u16)v124;
-    v132 = (u16)((u32)v131 << (8u & 15u));
-    v133 = (u16)v126;
-    v134 = (u16)((u32)v132 | (u32)v133);
-    v135 = (u16)v120;
-    v136 = (u16)((u32)v135 << (8u & 15u));
-    v137 = (u16)v122;
-    v138 = (u16)((u32)v136 | (u32)v137);
-    store8(v16, v10);
-    v139 = v16 + 1u * 1u;
-    store8(v139, 0u);
-    v140 = v16 + 2u * 1u;
-    store16(v140, v138);
-    v141 = v16 + 4u * 1u;
-    store16(v141, v134);
-    v142 = v16 + 6u * 1u;
-    store16(v142, 0u);
-    v143 = v16 + 8u * 1u;
-    store_address(v143, v129);
-    v144 = v16 + 16u * 1u;
-    store64(v144, v130);
-    v145 = v17 + 6u * 1u;
-    memory_set(v145, 0u, 14u);
-    v146 = a1 + 384u * 1u;
-    v147 = load64(v146);
-    v148 = v10 > 2u;
-    v149 = v148 ? UINT32_C(262144) : UINT32_C(131072);
-    v150 = v113 > v115 ? (u8)((u32)v113 - (u32)v115) : 0u;
-    v151 = (u16)v93;
-    v152 = swap16(a2);
-    v153 = swap16(v111);
-    v154 = swap16(v103);
-    v155 = (u32)v150;
-    v156 = (u32)((u32)v155 << (8u & 31u));
-    v157 = (u32)((u32)v156 | (u32)v149);
-    v158 = (u32)((u32)v157 | (u32)v155);
-    v159 = swap16(v138);
-    store16(v17, 4621u);
-    v160 = v17 + 2u * 1u;
-    store16(v160, 13824u);
-    v161 = v17 + 4u * 1u;
-    store16(v161, v151);
-    v162 = v17 + 20u * 1u;
-    store64(v162, v147);
-    v163 = v17 + 28u * 1u;
-    store16(v163, v152);
-    v164 = v17 + 30u * 1u;
+    v92 = v18 + 72u * 1u;
+    store64(v92, 0u);
+    v93 = a3 + 4u * 1u;
+    v94 = load8(v93);
+    v95 = a3 + 20u * 1u;
+    v96 = load64(v95);
+    v97 = a3 + 28u * 1u;
+    v98 = load8(v97);
+    v99 = a3 + 29u * 1u;
+    v100 = load8(v99);
+    v101 = (u16)v98;
+    v102 = (u16)((u32)v101 << (8u & 15u));
+    v103 = (u16)v100;
+    v104 = (u16)((u32)v102 | (u32)v103);
+    v105 = a3 + 30u * 1u;
+    v106 = load8(v105);
+    v107 = a3 + 31u * 1u;
+    v108 = load8(v107);
+    v109 = (u16)v106;
+    v110 = (u16)((u32)v109 << (8u & 15u));
+    v111 = (u16)v108;
+    v112 = (u16)((u32)v110 | (u32)v111);
+    v113 = a3 + 44u * 1u;
+    v114 = load8(v113);
+    v115 = a3 + 45u * 1u;
+    v116 = load8(v115);
+    v117 = v12 == 0u;
+    v118 = v117 ? 52u : 54u;
+    v119 = v117 ? 53u : 55u;
+    v120 = a3 + v118 * 1u;
+    v121 = load8(v120);
+    v122 = a3 + v119 * 1u;
+    v123 = load8(v122);
+    v124 = a3 + 42u * 1u;
+    v125 = load8(v124);
+    v126 = a3 + 43u * 1u;
+    v127 = load8(v126);
+    v128 = a3 + 54u * 1u;
+    v129 = (u64)((u64)v86 + (u64)UINT64_C(18446744073709551562));
+    v130 = v117 ? v128 : ADDRESS(c155);
+    v131 = v117 ? v129 : 0u;
+    v132 = (u16)v125;
+    v133 = (u16)((u32)v132 << (8u & 15u));
+    v134 = (u16)v127;
+    v135 = (u16)((u32)v133 | (u32)v134);
+    v136 = (u16)v121;
+    v137 = (u16)((u32)v136 << (8u & 15u));
+    v138 = (u16)v123;
+    v139 = (u16)((u32)v137 | (u32)v138);
+    store8(v17, v11);
+    v140 = v17 + 1u * 1u;
+    store8(v140, 0u);
+    v141 = v17 + 2u * 1u;
+    store16(v141, v139);
+    v142 = v17 + 4u * 1u;
+    store16(v142, v135);
+    v143 = v17 + 6u * 1u;
+    store16(v143, 0u);
+    v144 = v17 + 8u * 1u;
+    store_address(v144, v130);
+    v145 = v17 + 16u * 1u;
+    store64(v145, v131);
+    v146 = v18 + 6u * 1u;
+    memory_set(v146, 0u, 14u);
+    v147 = a1 + 384u * 1u;
+    v148 = load64(v147);
+    v149 = v11 > 2u;
+    v150 = v149 ? UINT32_C(262144) : UINT32_C(131072);
+    v151 = v114 > v116 ? (u8)((u32)v114 - (u32)v116) : 0u;
+    v152 = (u16)v94;
+    v153 = swap16(a2);
+    v154 = swap16(v112);
+    v155 = swap16(v104);
+    v156 = (u32)v151;
+    v157 = (u32)((u32)v156 << (8u & 31u));
+    v158 = (u32)((u32)v157 | (u32)v150);
+    v159 = (u32)((u32)v158 | (u32)v156);
+    v160 = swap16(v139);
+    store16(v18, 4621u);
+    v161 = v18 + 2u * 1u;
+    store16(v161, 13824u);
+    v162 = v18 + 4u * 1u;
+    store16(v162, v152);
+    v163 = v18 + 20u * 1u;
+    store64(v163, v148);
+    v164 = v18 + 28u * 1u;
     store16(v164, v153);
-    v165 = v17 + 32u * 1u;
-    store16(v165, 32516u);
-    v166 = v17 + 34u * 1u;
-    store64(v166, v95);
-    v167 = v17 + 42u * 1u;
-    store16(v167, v154);
-    v168 = v17 + 44u * 1u;
-    store32(v168, v158);
-    v169 = v17 + 48u * 1u;
-    store16(v169, 256u);
-    v170 = v17 + 50u * 1u;
-    store16(v170, 512u);
-    v171 = v17 + 52u * 1u;
-    store16(v171, v159);
-    v172 = v17 + 54u * 1u;
-    store16(v172, v138);
-    v173 = v17 + 56u * 1u;
-    store16(v173, a2);
-    v174 = v17 + 58u * 1u;
-    v175 = v17 + 64u * 1u;
-    memory_set(v174, 0u, 6u);
-    store_address(v175, v20);
-    store8(v91, a5);
-    f66(a1, v16, v17);
-    v176 = load8(v174);
-    v177 = a1 + 392u * 1u;
-    v178 = load_address(v177);
-    v179 = a1 + 400u * 1u;
-    v180 = load64(v179);
-    v181 = v180 == 0u;
-    if (v181) { goto L44; }
-    else { v12 = v178; v13 = v180; v14 = 0u; goto L11; }
+    v165 = v18 + 30u * 1u;
+    store16(v165, v154);
+    v166 = v18 + 32u * 1u;
+    store16(v166, 32516u);
+    v167 = v18 + 34u * 1u;
+    store64(v167, v96);
+    v168 = v18 + 42u * 1u;
+    store16(v168, v155);
+    v169 = v18 + 44u * 1u;
+    store32(v169, v159);
+    v170 = v18 + 48u * 1u;
+    store16(v170, 256u);
+    v171 = v18 + 50u * 1u;
+    store16(v171, 512u);
+    v172 = v18 + 52u * 1u;
+    store16(v172, v160);
+    v173 = v18 + 54u * 1u;
+    store16(v173, v139);
+    v174 = v18 + 56u * 1u;
+    store16(v174, a2);
+    v175 = v18 + 58u * 1u;
+    v176 = v18 + 64u * 1u;
+    memory_set(v175, 0u, 6u);
+    store_address(v176, v21);
+    store8(v92, a5);
+    f59(a1, v17, v18);
+    v177 = load8(v175);
+    v178 = a1 + 392u * 1u;
+    v179 = load_address(v178);
+    v180 = a1 + 400u * 1u;
+    v181 = load64(v180);
+    v182 = v181 == 0u;
+    if (v182) { goto L44; }
+    else { v13 = v179; v14 = v181; v15 = 0u; goto L11; }
 L11:;
-    v182 = v12 + 2144u * 1u;
-    v183 = (u64)((u64)v13 + (u64)UINT64_C(18446744073709551615));
-    v184 = v12 + 2120u * 1u;
-    v185 = load16(v184);
-    v186 = v103 == v185;
-    if (v186) { goto L12; }
+    v183 = v13 + 2144u * 1u;
+    v184 = (u64)((u64)v14 + (u64)UINT64_C(18446744073709551615));
+    v185 = v13 + 2120u * 1u;
+    v186 = load16(v185);
+    v187 = v104 == v186;
+    if (v187) { goto L12; }
     else { goto L13; }
 L12:;
-    v187 = v12 + 2112u * 1u;
-    v188 = load64(v187);
-    v189 = v95 == v188;
-    if (v189) { goto L14; }
+    v188 = v13 + 2112u * 1u;
+    v189 = load64(v188);
+    v190 = v96 == v189;
+    if (v190) { goto L14; }
     else { goto L13; }
 L13:;
-    v190 = (u64)((u64)v14 + (u64)1u);
-    v191 = v183 == 0u;
-    if (v191) { goto L44; }
-    else { v12 = v182; v13 = v183; v14 = v190; goto L11; }
+    v191 = (u64)((u64)v15 + (u64)1u);
+    v192 = v184 == 0u;
+    if (v192) { goto L44; }
+    else { v13 = v183; v14 = v184; v15 = v191; goto L11; }
 L14:;
-    v192 = (u64)((u64)v14 * (u64)2144u);
-    v193 = v178 + v192 * 1u;
-    v194 = v193 + 2137u * 1u;
-    store8(v194, 1u);
-    v195 = v193 + 2122u * 1u;
-    store16(v195, v111);
-    v196 = v193 + 2128u * 1u;
-    store8(v196, v10);
-    v197 = v193 + 2124u * 1u;
-    store16(v197, v138);
-    v198 = v193 + 2126u * 1u;
-    store16(v198, v134);
-    v199 = v130 == 0u;
-    v200 = v193 + 1424u * 1u;
-    v201 = load64(v200);
-    v202 = v201 == 0u;
-    v203 = v199 ? v202 : 0u;
-    if (v203) { goto L20; }
+    v193 = (u64)((u64)v15 * (u64)2144u);
+    v194 = v179 + v193 * 1u;
+    v195 = v194 + 2137u * 1u;
+    store8(v195, 1u);
+    v196 = v194 + 2122u * 1u;
+    store16(v196, v112);
+    v197 = v194 + 2128u * 1u;
+    store8(v197, v11);
+    v198 = v194 + 2124u * 1u;
+    store16(v198, v139);
+    v199 = v194 + 2126u * 1u;
+    store16(v199, v135);
+    v200 = v131 == 0u;
+    v201 = v194 + 1424u * 1u;
+    v202 = load64(v201);
+    v203 = v202 == 0u;
+    v204 = v200 ? v203 : 0u;
+    if (v204) { goto L20; }
     else { goto L15; }
 L15:;
-    v204 = v201 == v130;
-    if (v204) { goto L16; }
+    v205 = v202 == v131;
+    if (v205) { goto L16; }
     else { goto L19; }
 L16:;
-    v205 = (u64)v193;
-    v206 = (u64)v129;
-    v207 = (u64)((u64)v205 - (u64)v206);
-    v208 = v207 < v130;
-    if (v208) { v15 = 0u; goto L18; }
+    v206 = (u64)v194;
+    v207 = (u64)v130;
+    v208 = (u64)((u64)v206 - (u64)v207);
+    v209 = v208 < v131;
+    if (v209) { v16 = 0u; goto L18; }
     else { goto L17; }
 L17:;
-    memory_move(v193, v129, v130);
+    memory_move(v194, v130, v131);
     goto L20;
 L18:;
-    v209 = v193 + v15 * 1u;
-    v210 = v129 + v15 * 1u;
-    v211 = load8(v210);
-    store8(v209, v211);
-    v212 = (u64)((u64)v15 + (u64)1u);
-    v213 = v212 == v130;
-    if (v213) { goto L20; }
-    else { v15 = v212; goto L18; }
+    v210 = v194 + v16 * 1u;
+    v211 = v130 + v16 * 1u;
+    v212 = load8(v211);
+    store8(v210, v212);
+    v213 = (u64)((u64)v16 + (u64)1u);
+    v214 = v213 == v131;
+    if (v214) { goto L20; }
+    else { v16 = v213; goto L18; }
 L19:;
-    f50(v193, v129, v130);
+    f43(v194, v130, v131);
     goto L20;
 L20:;
-    v214 = v193 + 2129u * 1u;
-    store8(v214, v176);
-    v215 = v193 + 1432u * 1u;
-    v216 = load64(v23);
-    v217 = v216 == 1u;
-    if (v217) { goto L21; }
+    v215 = v194 + 2129u * 1u;
+    store8(v215, v177);
+    v216 = v194 + 1432u * 1u;
+    v217 = load64(v24);
+    v218 = v217 == 1u;
+    if (v218) { goto L21; }
     else { goto L35; }
 L21:;
-    v218 = load_address(v20);
-    v219 = v218 + 2u * 1u;
-    v220 = load16(v219);
-    v221 = (u64)v220;
-    v222 = v218 + 4u * 1u;
-    v223 = load8(v215);
-    v224 = v223 == 0u;
-    v225 = v193 + 1440u * 1u;
-    v226 = (u8)(v220);
-    if (v224) { goto L22; }
+    v219 = load_address(v21);
+    v220 = v219 + 2u * 1u;
+    v221 = load16(v220);
+    v222 = (u64)v221;
+    v223 = v219 + 4u * 1u;
+    v224 = load8(v216);
+    v225 = v224 == 0u;
+    v226 = v194 + 1440u * 1u;
+    v227 = (u8)(v221);
+    if (v225) { goto L22; }
     else { goto L29; }
 L22:;
-    v227 = v193 + 1456u * 1u;
-    v228 = v193 + 1441u * 1u;
-    memory_set(v228, 0u, 7u);
-    v229 = v193 + 1448u * 1u;
-    store8(v225, v226);
-    store64(v229, 1u);
-    v230 = v193 + 2096u * 1u;
-    v231 = load64(v230);
-    v232 = v231 == v221;
-    if (v232) { goto L23; }
+    v228 = v194 + 1456u * 1u;
+    v229 = v194 + 1441u * 1u;
+    memory_set(v229, 0u, 7u);
+    v230 = v194 + 1448u * 1u;
+    store8(v226, v227);
+    store64(v230, 1u);
+    v231 = v194 + 2096u * 1u;
+    v232 = load64(v231);
+    v233 = v232 == v222;
+    if (v233) { goto L23; }
     else { goto L28; }
 L23:;
-    switch (v220) {
+    switch (v221) {
     case 54u: goto L24;
     case 56u: goto L25;
     case 80u: goto L26;
     default: goto L27;
     }
 L24:;
-    memory_move(v227, v222, 54u);
+    memory_move(v228, v223, 54u);
     goto L44;
 L25:;
-    memory_move(v227, v222, 56u);
+    memory_move(v228, v223, 56u);
     goto L44;
 L26:;
-    memory_move(v227, v222, 80u);
+    memory_move(v228, v223, 80u);
     goto L44;
 L27:;
-    f51(v227, v222, v221);
+    f44(v228, v223, v222);
     goto L44;
 L28:;
-    f52(v227, v222, v221);
+    f45(v228, v223, v222);
     goto L44;
 L29:;
-    v233 = v193 + 1464u * 1u;
-    v234 = v193 + 1488u * 1u;
-    v235 = v193 + 1448u * 1u;
-    v236 = load_address(v225);
-    store8(v236, v226);
-    store64(v235, 1u);
-    v237 = load_address(v233);
-    switch (v220) {
+    v234 = v194 + 1464u * 1u;
+    v235 = v194 + 1488u * 1u;
+    v236 = v194 + 1448u * 1u;
+    v237 = load_address(v226);
+    store8(v237, v227);
+    store64(v236, 1u);
+    v238 = load_address(v234);
+    switch (v221) {
     case 54u: goto L30;
     case 56u: goto L31;
     case 80u: goto L32;
     default: goto L33;
     }
 L30:;
-    memory_move(v237, v222, 54u);
+    memory_move(v238, v223, 54u);
     goto L34;
 L31:;
-    memory_move(v237, v222, 56u);
+    memory_move(v238, v223, 56u);
     goto L34;
 L32:;
-    memory_move(v237, v222, 80u);
+    memory_move(v238, v223, 80u);
     goto L34;
 L33:;
-    f51(v237, v222, v221);
+    f44(v238, v223, v222);
     goto L34;
 L34:;
-    store64(v234, v221);
+    store64(v235, v222);
     goto L44;
 L35:;
-    v238 = load8(v215);
-    v239 = v238 == 0u;
-    v240 = v193 + 1448u * 1u;
-    v241 = load64(v240);
-    v242 = v241 == 0u;
-    if (v239) { goto L36; }
+    v239 = load8(v216);
+    v240 = v239 == 0u;
+    v241 = v194 + 1448u * 1u;
+    v242 = load64(v241);
+    v243 = v242 == 0u;
+    if (v240) { goto L36; }
     else { goto L40; }
 L36:;
-    v243 = v193 + 1456u * 1u;
-    if (v242) { goto L38; }
+    v244 = v194 + 1456u * 1u;
+    if (v243) { goto L38; }
     else { goto L37; }
 L37:;
-    v244 = v193 + 1440u * 1u;
-    memory_set(v244, 0u, v241);
-    store64(v240, 0u);
+    v245 = v194 + 1440u * 1u;
+    memory_set(v245, 0u, v242);
+    store64(v241, 0u);
     goto L38;
 L38:;
-    v245 = v193 + 2096u * 1u;
-    v246 = load64(v245);
-    v247 = v246 == 0u;
-    if (v247) { goto L43; }
+    v246 = v194 + 2096u * 1u;
+    v247 = load64(v246);
+    v248 = v247 == 0u;
+    if (v248) { goto L43; }
     else { goto L39; }
 L39:;
-    memory_set(v243, 0u, v246);
-    store64(v245, 0u);
+    memory_set(v244, 0u, v247);
+    store64(v246, 0u);
     goto L43;
 L40:;
-    v248 = v193 + 1488u * 1u;
-    if (v242) { goto L42; }
+    v249 = v194 + 1488u * 1u;
+    if (v243) { goto L42; }
     else { goto L41; }
 L41:;
-    store64(v240, 0u);
+    store64(v241, 0u);
     goto L42;
 L42:;
-    store64(v248, 0u);
+    store64(v249, 0u);
     goto L43;
 L43:;
-    f53(v20, v215);
+    f46(v21, v216);
     goto L44;
 L44:;
-    v249 = load64(v23);
-    store8(v21, 5u);
-    v250 = v21 + 1u * 1u;
-    store8(v250, 0u);
-    v251 = v21 + 8u * 1u;
-    store64(v251, v249);
-    v252 = v21 + 16u * 1u;
-    memory_set(v252, 0u, 76u);
+    v250 = load64(v24);
+    memory_set(a8, 0u, 68u);
+    store8(a0, 5u);
+    v251 = a0 + 1u * 1u;
+    store8(v251, 0u);
+    v252 = a0 + 8u * 1u;
+    store64(v252, v250);
     goto L45;
 L45:;
-    memory_cpy(a0, v21, 96u);
     return;
 L46:;
-    f44(v21, a1, a2, a3, a4, a6, a7);
+    f38(v22, a1, a2, a3, a4, a6, a7, a8);
+    v253 = load8(v22);
+    store8(a0, v253);
+    v254 = a0 + 1u * 1u;
+    v255 = v22 + 1u * 1u;
+    v256 = load8(v255);
+    store8(v254, v256);
+    v257 = a0 + 8u * 1u;
+    v258 = v22 + 8u * 1u;
+    v259 = load64(v258);
+    store64(v257, v259);
     goto L45;
 }
 
-static u8 f65(address a0, address a1, u64 a2, address a3) {
+static u8 f58(address a0, address a1, u64 a2, address a3) {
     address v4, v19, v20, v21, v26, v28, v31, v34, v36, v38, v40, v42, v44, v54, v55, v56;
     address v57, v58, v59, v62, v64, v66, v68, v70, v117, v118, v119;
     u64 v5, v32, v33, v43, v45, v80, v83, v99, v100, v101, v102, v108, v109, v111, v112, v114;
@@ -13806,7 +12778,7 @@ static u8 f65(address a0, address a1, u64 a2, address a3) {
     v19 = ADDRESS(block0);
     v20 = ADDRESS(block1);
     v21 = ADDRESS(block2);
-    v22 = f60(a0, a3);
+    v22 = f53(a0, a3);
     v23 = v22.m0;
     v24 = v23 == 1u;
     if (v24) { goto L1; }
@@ -13860,7 +12832,7 @@ L3:;
     v59 = v21 + 16u * 1u;
     store64(v59, v5);
     memory_set(v20, 0u, 12u);
-    f59(v20, a1, a2, v21);
+    f52(v20, a1, a2, v21);
     v60 = load8(v20);
     v61 = v60 == 1u;
     if (v61) { goto L4; }
@@ -14137,7 +13109,7 @@ L60:;
     store8(v118, v15);
     v119 = v19 + 3u * 1u;
     store8(v119, v16);
-    v120 = f35(v19, v4, v5);
+    v120 = f24(v19, v4, v5);
     v17 = v120; goto L61;
 L61:;
     v18 = v17; goto L62;
@@ -14145,7 +13117,7 @@ L62:;
     return v18;
 }
 
-static void f66(address a0, address a1, address a2) {
+static void f59(address a0, address a1, address a2) {
     address v3, v10, v11, v12, v15, v17, v18, v19, v20, v21, v22, v23, v24, v28, v30, v31;
     address v33, v34, v36, v38, v40, v41, v44, v45, v46, v49, v51, v52, v54, v55, v57, v59;
     address v61, v62, v65, v66, v67, v70, v72, v73, v75, v76, v78, v80, v82, v83, v86, v87;
@@ -14275,7 +13247,7 @@ L22:;
     v45 = v44 + 2u * 1u;
     store16(v45, 60u);
     v46 = v44 + 4u * 1u;
-    f34(a2, v32, v37, v39, v46);
+    f31(a2, v32, v37, v39, v46);
     v47 = load64(v41);
     v48 = (u64)((u64)v47 + (u64)1u);
     store64(v41, v48);
@@ -14308,7 +13280,7 @@ L25:;
     v66 = v65 + 2u * 1u;
     store16(v66, 60u);
     v67 = v65 + 4u * 1u;
-    f34(a2, v53, v58, v60, v67);
+    f31(a2, v53, v58, v60, v67);
     v68 = load64(v62);
     v69 = (u64)((u64)v68 + (u64)1u);
     store64(v62, v69);
@@ -14359,21 +13331,21 @@ L28:;
     v87 = v86 + 2u * 1u;
     store16(v87, 60u);
     v88 = v86 + 4u * 1u;
-    f34(a2, v74, v79, v81, v88);
+    f31(a2, v74, v79, v81, v88);
     v89 = load64(v83);
     v90 = (u64)((u64)v89 + (u64)1u);
     store64(v83, v90);
     goto L23;
 L29:;
-    f67(a0, v8, a2);
+    f60(a0, v8, a2);
     goto L23;
 L30:;
     v91 = (u8)v27;
-    f68(a0, v11, a1, v91, a2);
+    f61(a0, v11, a1, v91, a2);
     goto L23;
 }
 
-static void f67(address a0, u8 a1, address a2) {
+static void f60(address a0, u8 a1, address a2) {
     address v3, v5, v7, v8, v10, v11, v13, v15, v17, v18, v21, v22, v23, v26, v28, v29;
     address v31, v32, v34, v36, v38, v39, v42, v43, v44;
     u8 v4, v6, v27;
@@ -14407,14 +13379,14 @@ L1:;
     v22 = v21 + 2u * 1u;
     store16(v22, 60u);
     v23 = v21 + 4u * 1u;
-    f34(a2, v9, v14, v16, v23);
+    f31(a2, v9, v14, v16, v23);
     v24 = load64(v18);
     v25 = (u64)((u64)v24 + (u64)1u);
     store64(v18, v25);
     goto L3;
 L2:;
     memory_set(v3, 0u, 144u);
-    f39(a0, a1, v3);
+    f36(a0, a1, v3);
     v26 = a2 + 72u * 1u;
     v27 = load8(v26);
     v28 = a2 + 58u * 1u;
@@ -14437,7 +13409,7 @@ L2:;
     v43 = v42 + 2u * 1u;
     store16(v43, 60u);
     v44 = v42 + 4u * 1u;
-    f34(a2, v30, v35, v37, v44);
+    f31(a2, v30, v35, v37, v44);
     v45 = load64(v39);
     v46 = (u64)((u64)v45 + (u64)1u);
     store64(v39, v46);
@@ -14446,7 +13418,7 @@ L3:;
     return;
 }
 
-static void f68(address a0, address a1, address a2, u8 a3, address a4) {
+static void f61(address a0, address a1, address a2, u8 a3, address a4) {
     u16 v5, v6, v9, v10, v12, v20, v21, v35, v39, v43, v47, v58, v61, v75, v79, v81;
     u16 v85, v86, v94;
     u64 v7, v17, v19, v31, v32, v37, v45, v52, v54, v55, v66, v68, v69, v77, v83, v89;
@@ -14636,7 +13608,7 @@ L31:;
     store16(v92, 60u);
     v93 = v91 + 4u * 1u;
     v94 = (u16)(v7);
-    f34(a4, v94, v10, v86, v93);
+    f31(a4, v94, v10, v86, v93);
     v95 = load64(v88);
     v96 = (u64)((u64)v95 + (u64)1u);
     store64(v88, v96);
@@ -14648,39 +13620,37 @@ L32:;
     return;
 }
 
-static void f69(address a0, address a1, u16 a2, address a3, u64 a4, address a5, u64 a6, address a7, u64 a8) {
-    u8 v9, v10, v11, v12, v24, v26, v27, v28, v29, v39, v40, v41, v42, v44, v45, v46;
-    u8 v48, v50, v56, v58, v59, v61, v63, v68, v70, v71, v73, v77, v81, v83, v84, v85;
-    u8 v86, v87, v88, v90, v92, v94, v96, v107, v111, v113, v115, v117, v136, v141, v142, v144;
-    u8 v145, v146, v148, v150, v151, v154, v155, v156, v157, v159, v160, v165, v166, v167, v169, v170;
-    u8 v172, v173, v176, v181, v185, v191, v194, v195, v196, v201, v205, v208, v209, v218, v219, v223;
-    u8 v224, v225, v226, v234, v236, v237, v239, v241, v247, v249, v285, v288, v290, v298, v299, v300;
-    u8 v302, v303, v304, v306, v308, v314, v316, v317, v319, v321, v326, v328, v329, v331, v335, v339;
-    u8 v341, v342, v343, v344, v345, v346, v348, v350, v352, v354, v363, v367, v369, v371, v373, v392;
-    u8 v397, v398, v400, v401, v402, v404, v406, v407, v410, v411, v412, v413, v415, v416, v421, v422;
-    u8 v423, v425, v427, v429, v431, v462, v464;
-    u64 v13, v15, v16, v17, v19, v20, v22, v23, v25, v55, v74, v75, v78, v79, v80, v82;
-    u64 v99, v100, v101, v102, v108, v109, v119, v121, v138, v140, v153, v161, v163, v178, v180, v182;
-    u64 v186, v188, v192, v193, v199, v200, v202, v206, v217, v221, v222, v227, v228, v262, v282, v283;
-    u64 v284, v289, v294, v313, v332, v333, v336, v337, v338, v340, v355, v356, v357, v358, v364, v365;
-    u64 v375, v377, v394, v396, v409, v417, v419, v454, v467, v469;
-    address v14, v18, v30, v31, v32, v33, v34, v35, v36, v37, v38, v43, v47, v49, v60, v62;
-    address v69, v72, v76, v89, v91, v93, v95, v97, v98, v103, v104, v105, v106, v110, v112, v114;
-    address v116, v118, v120, v130, v131, v132, v133, v134, v135, v137, v139, v143, v147, v149, v152, v158;
-    address v162, v168, v171, v174, v175, v177, v183, v184, v187, v197, v198, v203, v204, v207, v215, v216;
-    address v220, v233, v235, v238, v240, v246, v248, v263, v266, v267, v268, v269, v270, v271, v272, v273;
-    address v274, v275, v276, v277, v278, v279, v280, v281, v286, v287, v295, v296, v297, v301, v305, v307;
-    address v318, v320, v327, v330, v334, v347, v349, v351, v353, v359, v360, v361, v362, v366, v368, v370;
-    address v372, v374, v376, v386, v387, v388, v389, v390, v391, v393, v395, v399, v403, v405, v408, v414;
-    address v418, v424, v426, v428, v430, v440, v441, v442, v443, v444, v445, v446, v447, v448, v449, v450;
-    address v452, v453, v455, v456, v457, v458, v459, v460, v461, v463, v465, v466, v468, v470, v472, v473;
-    address v475, v476, v477, v478, v479, v480, v481;
-    u16 v21, v51, v52, v53, v54, v57, v64, v65, v66, v67, v122, v123, v124, v125, v126, v127;
-    u16 v128, v129, v164, v179, v189, v190, v210, v211, v212, v213, v214, v229, v230, v231, v232, v242;
-    u16 v243, v244, v245, v250, v251, v252, v253, v254, v255, v256, v257, v261, v264, v265, v291, v292;
-    u16 v293, v309, v310, v311, v312, v315, v322, v323, v324, v325, v378, v379, v380, v381, v382, v383;
-    u16 v384, v385, v420, v432, v433, v434, v435, v436, v437, v438, v439;
-    u32 v258, v259, v260, v451, v471, v474;
+static void f62(address a0, address a1, u16 a2, address a3, u64 a4, address a5, u64 a6, address a7, u64 a8, address a9) {
+    u8 v10, v11, v12, v13, v25, v27, v28, v30, v31, v32, v33, v42, v43, v44, v45, v47;
+    u8 v48, v49, v51, v53, v59, v61, v62, v64, v66, v71, v73, v74, v76, v80, v84, v86;
+    u8 v87, v88, v89, v90, v91, v93, v95, v97, v99, v110, v114, v116, v118, v120, v139, v144;
+    u8 v145, v147, v148, v149, v151, v153, v154, v157, v158, v159, v160, v162, v163, v168, v169, v170;
+    u8 v172, v173, v175, v176, v179, v184, v188, v194, v197, v198, v199, v204, v208, v211, v212, v221;
+    u8 v222, v226, v227, v228, v229, v237, v239, v240, v242, v244, v250, v252, v288, v291, v293, v300;
+    u8 v301, v302, v304, v305, v306, v308, v310, v316, v318, v319, v321, v323, v328, v330, v331, v333;
+    u8 v337, v341, v343, v344, v345, v346, v347, v348, v350, v352, v354, v356, v365, v369, v371, v373;
+    u8 v375, v394, v399, v400, v402, v403, v404, v406, v408, v409, v412, v413, v414, v415, v417, v418;
+    u8 v423, v424, v425, v427, v429, v431, v433, v454, v456;
+    u64 v14, v16, v17, v18, v20, v21, v23, v24, v26, v29, v58, v77, v78, v81, v82, v83;
+    u64 v85, v102, v103, v104, v105, v111, v112, v122, v124, v141, v143, v156, v164, v166, v181, v183;
+    u64 v185, v189, v191, v195, v196, v202, v203, v205, v209, v220, v224, v225, v230, v231, v265, v285;
+    u64 v286, v287, v292, v297, v315, v334, v335, v338, v339, v340, v342, v357, v358, v359, v360, v366;
+    u64 v367, v377, v379, v396, v398, v411, v419, v421, v453, v458;
+    address v15, v19, v34, v35, v36, v37, v38, v39, v40, v41, v46, v50, v52, v63, v65, v72;
+    address v75, v79, v92, v94, v96, v98, v100, v101, v106, v107, v108, v109, v113, v115, v117, v119;
+    address v121, v123, v133, v134, v135, v136, v137, v138, v140, v142, v146, v150, v152, v155, v161, v165;
+    address v171, v174, v177, v178, v180, v186, v187, v190, v200, v201, v206, v207, v210, v218, v219, v223;
+    address v236, v238, v241, v243, v249, v251, v266, v269, v270, v271, v272, v273, v274, v275, v276, v277;
+    address v278, v279, v280, v281, v282, v283, v284, v289, v290, v298, v299, v303, v307, v309, v320, v322;
+    address v329, v332, v336, v349, v351, v353, v355, v361, v362, v363, v364, v368, v370, v372, v374, v376;
+    address v378, v388, v389, v390, v391, v392, v393, v395, v397, v401, v405, v407, v410, v416, v420, v426;
+    address v428, v430, v432, v442, v443, v444, v445, v446, v447, v448, v449, v450, v451, v452, v455, v457;
+    u16 v22, v54, v55, v56, v57, v60, v67, v68, v69, v70, v125, v126, v127, v128, v129, v130;
+    u16 v131, v132, v167, v182, v192, v193, v213, v214, v215, v216, v217, v232, v233, v234, v235, v245;
+    u16 v246, v247, v248, v253, v254, v255, v256, v257, v258, v259, v260, v264, v267, v268, v294, v295;
+    u16 v296, v311, v312, v313, v314, v317, v324, v325, v326, v327, v380, v381, v382, v383, v384, v385;
+    u16 v386, v387, v422, v434, v435, v436, v437, v438, v439, v440, v441;
+    u32 v261, v262, v263;
     u64 block0[3];
     u64 block1[1];
     u64 block2[3];
@@ -14688,764 +13658,719 @@ static void f69(address a0, address a1, u16 a2, address a3, u64 a4, address a5, 
     u64 block4[3];
     u64 block5[1];
     u64 block6[3];
-    u64 block7[1];
-    u64 block8[12];
-    v30 = ADDRESS(block0);
-    v31 = ADDRESS(block1);
-    v32 = ADDRESS(block2);
-    v33 = ADDRESS(block3);
-    v34 = ADDRESS(block4);
-    v35 = ADDRESS(block5);
-    v36 = ADDRESS(block6);
-    v37 = ADDRESS(block7);
-    v38 = ADDRESS(block8);
-    memory_set(v37, 0u, 6u);
-    memory_set(v38, 0u, 96u);
-    memory_set(v35, 0u, 3u);
-    v39 = a4 < 54u;
-    if (v39) { goto L6; }
+    u64 block7[2];
+    v34 = ADDRESS(block0);
+    v35 = ADDRESS(block1);
+    v36 = ADDRESS(block2);
+    v37 = ADDRESS(block3);
+    v38 = ADDRESS(block4);
+    v39 = ADDRESS(block5);
+    v40 = ADDRESS(block6);
+    v41 = ADDRESS(block7);
+    memory_set(v41, 0u, 16u);
+    memory_set(v39, 0u, 3u);
+    v42 = a4 < 54u;
+    if (v42) { goto L6; }
     else { goto L1; }
 L1:;
-    v40 = load8(a3);
-    v41 = (u8)((u32)v40 & (u32)15u);
-    v42 = v41 == 13u;
-    if (v42) { goto L2; }
+    v43 = load8(a3);
+    v44 = (u8)((u32)v43 & (u32)15u);
+    v45 = v44 == 13u;
+    if (v45) { goto L2; }
     else { goto L6; }
 L2:;
-    v43 = a3 + 1u * 1u;
-    v44 = load8(v43);
-    v45 = (u8)((u32)v44 & (u32)15u);
-    v46 = v45 == 2u;
-    if (v46) { goto L3; }
+    v46 = a3 + 1u * 1u;
+    v47 = load8(v46);
+    v48 = (u8)((u32)v47 & (u32)15u);
+    v49 = v48 == 2u;
+    if (v49) { goto L3; }
     else { goto L6; }
 L3:;
-    v47 = a3 + 2u * 1u;
-    v48 = load8(v47);
-    v49 = a3 + 3u * 1u;
-    v50 = load8(v49);
-    v51 = (u16)v48;
-    v52 = (u16)((u32)v51 << (8u & 15u));
-    v53 = (u16)v50;
-    v54 = (u16)((u32)v52 | (u32)v53);
-    v55 = (u64)v54;
-    v56 = a4 < v55;
-    v57 = (u16)((u32)v54 + (u32)64063u);
-    v58 = v57 < 64117u;
-    v59 = (u8)(((u32)v58 | (u32)v56) & UINT64_C(1));
-    if (v59) { goto L6; }
+    v50 = a3 + 2u * 1u;
+    v51 = load8(v50);
+    v52 = a3 + 3u * 1u;
+    v53 = load8(v52);
+    v54 = (u16)v51;
+    v55 = (u16)((u32)v54 << (8u & 15u));
+    v56 = (u16)v53;
+    v57 = (u16)((u32)v55 | (u32)v56);
+    v58 = (u64)v57;
+    v59 = a4 < v58;
+    v60 = (u16)((u32)v57 + (u32)64063u);
+    v61 = v60 < 64117u;
+    v62 = (u8)(((u32)v61 | (u32)v59) & UINT64_C(1));
+    if (v62) { goto L6; }
     else { goto L4; }
 L4:;
-    v60 = a3 + 48u * 1u;
-    v61 = load8(v60);
-    v62 = a3 + 49u * 1u;
-    v63 = load8(v62);
-    v64 = (u16)v61;
-    v65 = (u16)((u32)v64 << (8u & 15u));
-    v66 = (u16)v63;
-    v67 = (u16)((u32)v65 | (u32)v66);
-    v68 = v67 == 1u;
-    if (v68) { goto L5; }
+    v63 = a3 + 48u * 1u;
+    v64 = load8(v63);
+    v65 = a3 + 49u * 1u;
+    v66 = load8(v65);
+    v67 = (u16)v64;
+    v68 = (u16)((u32)v67 << (8u & 15u));
+    v69 = (u16)v66;
+    v70 = (u16)((u32)v68 | (u32)v69);
+    v71 = v70 == 1u;
+    if (v71) { goto L5; }
     else { goto L6; }
 L5:;
-    v69 = a3 + 46u * 1u;
-    v70 = load8(v69);
-    v71 = (u8)((u32)v70 & (u32)15u);
-    v72 = a3 + 50u * 1u;
+    v72 = a3 + 46u * 1u;
     v73 = load8(v72);
-    v74 = (u64)v73;
-    v75 = (u64)((u64)v74 << (8u & 63u));
-    v76 = a3 + 51u * 1u;
-    v77 = load8(v76);
-    v78 = (u64)v77;
-    v79 = (u64)((u64)v75 | (u64)v78);
-    v80 = (u64)((u64)v79 + (u64)52u);
-    v81 = v80 == v55;
-    v82 = (u64)((u64)v55 & (u64)1u);
-    v83 = v82 == 0u;
-    v84 = (u8)(((u32)v83 & (u32)v81) & UINT64_C(1));
-    v85 = v71 < 5u;
-    v86 = v84 ? v85 : 0u;
-    if (v86) { v9 = v50; v10 = v48; v11 = v71; v12 = 0u; goto L9; }
+    v74 = (u8)((u32)v73 & (u32)15u);
+    v75 = a3 + 50u * 1u;
+    v76 = load8(v75);
+    v77 = (u64)v76;
+    v78 = (u64)((u64)v77 << (8u & 63u));
+    v79 = a3 + 51u * 1u;
+    v80 = load8(v79);
+    v81 = (u64)v80;
+    v82 = (u64)((u64)v78 | (u64)v81);
+    v83 = (u64)((u64)v82 + (u64)52u);
+    v84 = v83 == v58;
+    v85 = (u64)((u64)v58 & (u64)1u);
+    v86 = v85 == 0u;
+    v87 = (u8)(((u32)v86 & (u32)v84) & UINT64_C(1));
+    v88 = v74 < 5u;
+    v89 = v87 ? v88 : 0u;
+    if (v89) { v10 = v53; v11 = v51; v12 = v74; v13 = 0u; goto L9; }
     else { goto L6; }
 L6:;
-    f8(v35, a3, a4);
-    v87 = load8(v35);
-    v88 = v87 == 0u;
-    if (v88) { goto L7; }
+    f8(v39, a3, a4);
+    v90 = load8(v39);
+    v91 = v90 == 0u;
+    if (v91) { goto L7; }
     else { goto L8; }
 L7:;
-    v89 = v35 + 1u * 1u;
-    v90 = load8(v89);
-    v91 = v35 + 2u * 1u;
-    v92 = load8(v91);
-    v93 = a3 + 2u * 1u;
-    v94 = load8(v93);
-    v95 = a3 + 3u * 1u;
-    v96 = load8(v95);
-    v9 = v96; v10 = v94; v11 = v90; v12 = v92; goto L9;
+    v92 = v39 + 1u * 1u;
+    v93 = load8(v92);
+    v94 = v39 + 2u * 1u;
+    v95 = load8(v94);
+    v96 = a3 + 2u * 1u;
+    v97 = load8(v96);
+    v98 = a3 + 3u * 1u;
+    v99 = load8(v98);
+    v10 = v99; v11 = v97; v12 = v93; v13 = v95; goto L9;
 L8:;
     goto L47;
 L9:;
-    v97 = a3 + 2u * 1u;
-    v98 = a3 + 3u * 1u;
-    v99 = (u64)v10;
-    v100 = (u64)((u64)v99 << (8u & 63u));
-    v101 = (u64)v9;
-    v102 = (u64)((u64)v100 | (u64)v101);
-    store_address(v36, a3);
-    v103 = v36 + 8u * 1u;
-    store64(v103, v102);
-    v104 = v36 + 16u * 1u;
-    store8(v104, v11);
-    v105 = v36 + 17u * 1u;
-    store8(v105, v12);
-    v106 = v36 + 18u * 1u;
-    memory_set(v106, 0u, 6u);
-    v107 = v12 == 0u;
-    v108 = v107 ? 52u : 54u;
-    v109 = v107 ? 53u : 55u;
-    v110 = a3 + v108 * 1u;
-    v111 = load8(v110);
-    v112 = a3 + v109 * 1u;
-    v113 = load8(v112);
-    v114 = a3 + 42u * 1u;
-    v115 = load8(v114);
-    v116 = a3 + 43u * 1u;
-    v117 = load8(v116);
-    v118 = a3 + 54u * 1u;
-    v119 = (u64)((u64)v102 + (u64)UINT64_C(18446744073709551562));
-    v120 = v107 ? v118 : ADDRESS(c155);
-    v121 = v107 ? v119 : 0u;
-    v122 = (u16)v115;
-    v123 = (u16)((u32)v122 << (8u & 15u));
-    v124 = (u16)v117;
-    v125 = (u16)((u32)v123 | (u32)v124);
-    v126 = (u16)v111;
-    v127 = (u16)((u32)v126 << (8u & 15u));
-    v128 = (u16)v113;
-    v129 = (u16)((u32)v127 | (u32)v128);
-    store8(v34, v11);
-    v130 = v34 + 1u * 1u;
-    store8(v130, 0u);
-    v131 = v34 + 2u * 1u;
-    store16(v131, v129);
-    v132 = v34 + 4u * 1u;
-    store16(v132, v125);
-    v133 = v34 + 6u * 1u;
-    store16(v133, 0u);
-    v134 = v34 + 8u * 1u;
-    store_address(v134, v120);
-    v135 = v34 + 16u * 1u;
-    store64(v135, v121);
-    v136 = f70(v34);
-    if (v136) { goto L10; }
+    v100 = a3 + 2u * 1u;
+    v101 = a3 + 3u * 1u;
+    v102 = (u64)v11;
+    v103 = (u64)((u64)v102 << (8u & 63u));
+    v104 = (u64)v10;
+    v105 = (u64)((u64)v103 | (u64)v104);
+    store_address(v40, a3);
+    v106 = v40 + 8u * 1u;
+    store64(v106, v105);
+    v107 = v40 + 16u * 1u;
+    store8(v107, v12);
+    v108 = v40 + 17u * 1u;
+    store8(v108, v13);
+    v109 = v40 + 18u * 1u;
+    memory_set(v109, 0u, 6u);
+    v110 = v13 == 0u;
+    v111 = v110 ? 52u : 54u;
+    v112 = v110 ? 53u : 55u;
+    v113 = a3 + v111 * 1u;
+    v114 = load8(v113);
+    v115 = a3 + v112 * 1u;
+    v116 = load8(v115);
+    v117 = a3 + 42u * 1u;
+    v118 = load8(v117);
+    v119 = a3 + 43u * 1u;
+    v120 = load8(v119);
+    v121 = a3 + 54u * 1u;
+    v122 = (u64)((u64)v105 + (u64)UINT64_C(18446744073709551562));
+    v123 = v110 ? v121 : ADDRESS(c155);
+    v124 = v110 ? v122 : 0u;
+    v125 = (u16)v118;
+    v126 = (u16)((u32)v125 << (8u & 15u));
+    v127 = (u16)v120;
+    v128 = (u16)((u32)v126 | (u32)v127);
+    v129 = (u16)v114;
+    v130 = (u16)((u32)v129 << (8u & 15u));
+    v131 = (u16)v116;
+    v132 = (u16)((u32)v130 | (u32)v131);
+    store8(v38, v12);
+    v133 = v38 + 1u * 1u;
+    store8(v133, 0u);
+    v134 = v38 + 2u * 1u;
+    store16(v134, v132);
+    v135 = v38 + 4u * 1u;
+    store16(v135, v128);
+    v136 = v38 + 6u * 1u;
+    store16(v136, 0u);
+    v137 = v38 + 8u * 1u;
+    store_address(v137, v123);
+    v138 = v38 + 16u * 1u;
+    store64(v138, v124);
+    v139 = f63(v38);
+    if (v139) { goto L10; }
     else { goto L16; }
 L10:;
-    v137 = a3 + 34u * 1u;
-    v138 = load64(v137);
-    v139 = a1 + 384u * 1u;
-    v140 = load64(v139);
-    v141 = load8(a3);
-    v142 = (u8)((u32)v141 >> (4u & 7u));
-    v143 = a3 + 5u * 1u;
-    v144 = load8(v143);
-    v145 = (u8)((u32)v142 | (u32)v144);
-    v146 = v145 == 0u;
-    if (v146) { goto L11; }
+    v140 = a3 + 34u * 1u;
+    v141 = load64(v140);
+    v142 = a1 + 384u * 1u;
+    v143 = load64(v142);
+    v144 = load8(a3);
+    v145 = (u8)((u32)v144 >> (4u & 7u));
+    v146 = a3 + 5u * 1u;
+    v147 = load8(v146);
+    v148 = (u8)((u32)v145 | (u32)v147);
+    v149 = v148 == 0u;
+    if (v149) { goto L11; }
     else { goto L16; }
 L11:;
-    v147 = a3 + 4u * 1u;
-    v148 = load8(v147);
-    v149 = a1 + 8u * 1u;
-    v150 = load8(v149);
-    v151 = v148 == v150;
-    if (v151) { goto L12; }
+    v150 = a3 + 4u * 1u;
+    v151 = load8(v150);
+    v152 = a1 + 8u * 1u;
+    v153 = load8(v152);
+    v154 = v151 == v153;
+    if (v154) { goto L12; }
     else { goto L16; }
 L12:;
-    v152 = a3 + 20u * 1u;
-    v153 = load64(v152);
-    v154 = v153 == v140;
-    if (v154) { goto L16; }
+    v155 = a3 + 20u * 1u;
+    v156 = load64(v155);
+    v157 = v156 == v143;
+    if (v157) { goto L16; }
     else { goto L13; }
 L13:;
-    v155 = v138 == v140;
-    v156 = v138 == UINT64_C(18446744073709551615);
-    v157 = (u8)(((u32)v156 | (u32)v155) & UINT64_C(1));
-    if (v157) { goto L14; }
+    v158 = v141 == v143;
+    v159 = v141 == UINT64_C(18446744073709551615);
+    v160 = (u8)(((u32)v159 | (u32)v158) & UINT64_C(1));
+    if (v160) { goto L14; }
     else { goto L16; }
 L14:;
-    switch (v125) {
+    switch (v128) {
     case 65535u: goto L17;
     case 0u: goto L16;
     default: goto L15;
     }
 L15:;
-    v158 = a1 + 240u * 1u;
-    v159 = load8(v158);
-    v160 = v159 == 0u;
-    v161 = v160 ? 376u : 256u;
-    v162 = a1 + v161 * 1u;
-    v163 = load64(v162);
-    v164 = (u16)(v163);
-    v165 = v125 > v164;
-    if (v165) { goto L16; }
+    v161 = a1 + 240u * 1u;
+    v162 = load8(v161);
+    v163 = v162 == 0u;
+    v164 = v163 ? 376u : 256u;
+    v165 = a1 + v164 * 1u;
+    v166 = load64(v165);
+    v167 = (u16)(v166);
+    v168 = v128 > v167;
+    if (v168) { goto L16; }
     else { goto L17; }
 L16:;
     goto L47;
 L17:;
-    v166 = f71(a1, v36);
-    v167 = v166 == 0u;
-    if (v167) { goto L18; }
+    v169 = f64(a1, v40);
+    v170 = v169 == 0u;
+    if (v170) { goto L18; }
     else { goto L47; }
 L18:;
-    if (v155) { v20 = 0u; v21 = v129; v22 = v153; v23 = v138; v24 = v148; goto L42; }
+    if (v158) { v21 = 0u; v22 = v132; v23 = v156; v24 = v141; v25 = v151; goto L42; }
     else { goto L19; }
 L19:;
-    v168 = a3 + 45u * 1u;
-    v169 = load8(v168);
-    v170 = v169 == 0u;
-    if (v170) { v20 = 0u; v21 = v129; v22 = v153; v23 = v140; v24 = v148; goto L42; }
-    else { goto L20; }
-L20:;
-    v171 = a1 + 240u * 1u;
+    v171 = a3 + 45u * 1u;
     v172 = load8(v171);
     v173 = v172 == 0u;
-    v174 = a1 + 248u * 1u;
-    if (v173) { v13 = 376u; v14 = v174; goto L22; }
+    if (v173) { v21 = 0u; v22 = v132; v23 = v156; v24 = v143; v25 = v151; goto L42; }
+    else { goto L20; }
+L20:;
+    v174 = a1 + 240u * 1u;
+    v175 = load8(v174);
+    v176 = v175 == 0u;
+    v177 = a1 + 248u * 1u;
+    if (v176) { v14 = 376u; v15 = v177; goto L22; }
     else { goto L21; }
 L21:;
-    v175 = load_address(v174);
-    v13 = 256u; v14 = v175; goto L22;
+    v178 = load_address(v177);
+    v14 = 256u; v15 = v178; goto L22;
 L22:;
-    v176 = a2 == 0u;
-    if (v176) { v20 = 0u; v21 = v129; v22 = v153; v23 = v140; v24 = v148; goto L42; }
+    v179 = a2 == 0u;
+    if (v179) { v21 = 0u; v22 = v132; v23 = v156; v24 = v143; v25 = v151; goto L42; }
     else { goto L23; }
 L23:;
-    v177 = a1 + v13 * 1u;
-    v178 = load64(v177);
-    v179 = (u16)((u32)a2 + (u32)65535u);
-    v180 = (u64)v179;
-    v181 = v178 > v180;
-    if (v181) { goto L24; }
-    else { v20 = 0u; v21 = v129; v22 = v153; v23 = v140; v24 = v148; goto L42; }
+    v180 = a1 + v14 * 1u;
+    v181 = load64(v180);
+    v182 = (u16)((u32)a2 + (u32)65535u);
+    v183 = (u64)v182;
+    v184 = v181 > v183;
+    if (v184) { goto L24; }
+    else { v21 = 0u; v22 = v132; v23 = v156; v24 = v143; v25 = v151; goto L42; }
 L24:;
-    v182 = (u64)((u64)v180 << (4u & 63u));
-    v183 = v14 + v182 * 1u;
-    v184 = v183 + 8u * 1u;
-    v185 = load8(v184);
-    switch (v185) {
+    v185 = (u64)((u64)v183 << (4u & 63u));
+    v186 = v15 + v185 * 1u;
+    v187 = v186 + 8u * 1u;
+    v188 = load8(v187);
+    switch (v188) {
     case 4u: goto L26;
     case 5u: goto L26;
     case 7u: goto L26;
     case 8u: goto L26;
-    case 0u: v20 = 0u; v21 = v129; v22 = v153; v23 = v140; v24 = v148; goto L42;
-    case 1u: v20 = 0u; v21 = v129; v22 = v153; v23 = v140; v24 = v148; goto L42;
-    case 2u: v20 = 0u; v21 = v129; v22 = v153; v23 = v140; v24 = v148; goto L42;
-    case 3u: v20 = 0u; v21 = v129; v22 = v153; v23 = v140; v24 = v148; goto L42;
-    case 6u: v20 = 0u; v21 = v129; v22 = v153; v23 = v140; v24 = v148; goto L42;
+    case 0u: v21 = 0u; v22 = v132; v23 = v156; v24 = v143; v25 = v151; goto L42;
+    case 1u: v21 = 0u; v22 = v132; v23 = v156; v24 = v143; v25 = v151; goto L42;
+    case 2u: v21 = 0u; v22 = v132; v23 = v156; v24 = v143; v25 = v151; goto L42;
+    case 3u: v21 = 0u; v22 = v132; v23 = v156; v24 = v143; v25 = v151; goto L42;
+    case 6u: v21 = 0u; v22 = v132; v23 = v156; v24 = v143; v25 = v151; goto L42;
     default: goto L25;
     }
 L25:;
     UNREACHABLE;
 L26:;
-    v186 = v173 ? 376u : 256u;
-    v187 = a1 + v186 * 1u;
-    v188 = load64(v187);
-    v189 = (u16)(v188);
-    v190 = (u16)((u32)v189 + (u32)1u);
-    v191 = v190 > 1u;
-    if (v191) { goto L27; }
-    else { v20 = 0u; v21 = v129; v22 = v153; v23 = v140; v24 = v148; goto L42; }
+    v189 = v176 ? 376u : 256u;
+    v190 = a1 + v189 * 1u;
+    v191 = load64(v190);
+    v192 = (u16)(v191);
+    v193 = (u16)((u32)v192 + (u32)1u);
+    v194 = v193 > 1u;
+    if (v194) { goto L27; }
+    else { v21 = 0u; v22 = v132; v23 = v156; v24 = v143; v25 = v151; goto L42; }
 L27:;
-    v192 = (u64)a2;
-    v193 = (u64)v190;
-    v15 = 0u; v16 = 1u; goto L28;
+    v195 = (u64)a2;
+    v196 = (u64)v193;
+    v16 = 0u; v17 = 1u; goto L28;
 L28:;
-    v194 = v16 == v192;
-    if (v194) { v19 = v15; goto L40; }
+    v197 = v17 == v195;
+    if (v197) { v20 = v16; goto L40; }
     else { goto L29; }
 L29:;
-    v195 = load8(v171);
-    v196 = v195 == 0u;
-    if (v196) { v17 = 376u; v18 = v174; goto L31; }
+    v198 = load8(v174);
+    v199 = v198 == 0u;
+    if (v199) { v18 = 376u; v19 = v177; goto L31; }
     else { goto L30; }
 L30:;
-    v197 = load_address(v174);
-    v17 = 256u; v18 = v197; goto L31;
+    v200 = load_address(v177);
+    v18 = 256u; v19 = v200; goto L31;
 L31:;
-    v198 = a1 + v17 * 1u;
-    v199 = load64(v198);
-    v200 = (u64)((u64)v16 + (u64)UINT64_C(18446744073709551615));
-    v201 = v199 > v200;
-    if (v201) { goto L32; }
-    else { v19 = v15; goto L40; }
+    v201 = a1 + v18 * 1u;
+    v202 = load64(v201);
+    v203 = (u64)((u64)v17 + (u64)UINT64_C(18446744073709551615));
+    v204 = v202 > v203;
+    if (v204) { goto L32; }
+    else { v20 = v16; goto L40; }
 L32:;
-    v202 = (u64)((u64)v200 << (4u & 63u));
-    v203 = v18 + v202 * 1u;
-    v204 = v203 + 8u * 1u;
-    v205 = load8(v204);
-    switch (v205) {
+    v205 = (u64)((u64)v203 << (4u & 63u));
+    v206 = v19 + v205 * 1u;
+    v207 = v206 + 8u * 1u;
+    v208 = load8(v207);
+    switch (v208) {
     case 4u: goto L34;
     case 5u: goto L34;
     case 7u: goto L34;
     case 8u: goto L34;
-    case 0u: v19 = v15; goto L40;
-    case 1u: v19 = v15; goto L40;
-    case 2u: v19 = v15; goto L40;
-    case 3u: v19 = v15; goto L40;
-    case 6u: v19 = v15; goto L40;
+    case 0u: v20 = v16; goto L40;
+    case 1u: v20 = v16; goto L40;
+    case 2u: v20 = v16; goto L40;
+    case 3u: v20 = v16; goto L40;
+    case 6u: v20 = v16; goto L40;
     default: goto L33;
     }
 L33:;
     UNREACHABLE;
 L34:;
-    v206 = (u64)((u64)v15 * (u64)1476u);
-    v207 = a7 + v206 * 1u;
-    v208 = load8(v97);
-    v209 = load8(v98);
-    v210 = (u16)v208;
-    v211 = (u16)((u32)v210 << (8u & 15u));
-    v212 = (u16)v209;
-    v213 = (u16)((u32)v211 | (u32)v212);
-    v214 = (u16)(v16);
-    store16(v207, v214);
-    v215 = v207 + 2u * 1u;
-    store16(v215, v213);
-    v216 = v207 + 4u * 1u;
-    switch (v213) {
+    v209 = (u64)((u64)v16 * (u64)1476u);
+    v210 = a7 + v209 * 1u;
+    v211 = load8(v100);
+    v212 = load8(v101);
+    v213 = (u16)v211;
+    v214 = (u16)((u32)v213 << (8u & 15u));
+    v215 = (u16)v212;
+    v216 = (u16)((u32)v214 | (u32)v215);
+    v217 = (u16)(v17);
+    store16(v210, v217);
+    v218 = v210 + 2u * 1u;
+    store16(v218, v216);
+    v219 = v210 + 4u * 1u;
+    switch (v216) {
     case 54u: goto L35;
     case 56u: goto L36;
     case 80u: goto L37;
     default: goto L38;
     }
 L35:;
-    memory_move(v216, a3, 54u);
+    memory_move(v219, a3, 54u);
     goto L39;
 L36:;
-    memory_move(v216, a3, 56u);
+    memory_move(v219, a3, 56u);
     goto L39;
 L37:;
-    memory_move(v216, a3, 80u);
+    memory_move(v219, a3, 80u);
     goto L39;
 L38:;
-    v217 = (u64)v213;
-    f51(v216, a3, v217);
+    v220 = (u64)v216;
+    f44(v219, a3, v220);
     goto L39;
 L39:;
-    v218 = load8(v168);
-    v219 = (u8)((u32)v218 + (u32)255u);
-    v220 = v207 + 49u * 1u;
-    store8(v220, v219);
-    v221 = (u64)((u64)v15 + (u64)1u);
-    v19 = v221; goto L40;
+    v221 = load8(v171);
+    v222 = (u8)((u32)v221 + (u32)255u);
+    v223 = v210 + 49u * 1u;
+    store8(v223, v222);
+    v224 = (u64)((u64)v16 + (u64)1u);
+    v20 = v224; goto L40;
 L40:;
-    v222 = (u64)((u64)v16 + (u64)1u);
-    v223 = v222 == v193;
-    if (v223) { goto L41; }
-    else { v15 = v19; v16 = v222; goto L28; }
+    v225 = (u64)((u64)v17 + (u64)1u);
+    v226 = v225 == v196;
+    if (v226) { goto L41; }
+    else { v16 = v20; v17 = v225; goto L28; }
 L41:;
-    v224 = load8(v110);
-    v225 = load8(v112);
-    v226 = load8(v147);
-    v227 = load64(v139);
-    v228 = load64(v152);
-    v229 = (u16)v224;
-    v230 = (u16)((u32)v229 << (8u & 15u));
-    v231 = (u16)v225;
-    v232 = (u16)((u32)v230 | (u32)v231);
-    v20 = v19; v21 = v232; v22 = v228; v23 = v227; v24 = v226; goto L42;
+    v227 = load8(v113);
+    v228 = load8(v115);
+    v229 = load8(v150);
+    v230 = load64(v142);
+    v231 = load64(v155);
+    v232 = (u16)v227;
+    v233 = (u16)((u32)v232 << (8u & 15u));
+    v234 = (u16)v228;
+    v235 = (u16)((u32)v233 | (u32)v234);
+    v21 = v20; v22 = v235; v23 = v231; v24 = v230; v25 = v229; goto L42;
 L42:;
-    v233 = a3 + 44u * 1u;
-    v234 = load8(v233);
-    v235 = a3 + 45u * 1u;
-    v236 = load8(v235);
-    v237 = v234 > v236 ? (u8)((u32)v234 - (u32)v236) : 0u;
-    v238 = a3 + 30u * 1u;
+    v236 = a3 + 44u * 1u;
+    v237 = load8(v236);
+    v238 = a3 + 45u * 1u;
     v239 = load8(v238);
-    v240 = a3 + 31u * 1u;
-    v241 = load8(v240);
-    v242 = (u16)v239;
-    v243 = (u16)((u32)v242 << (8u & 15u));
-    v244 = (u16)v241;
-    v245 = (u16)((u32)v243 | (u32)v244);
-    v246 = a3 + 28u * 1u;
-    v247 = load8(v246);
-    v248 = a3 + 29u * 1u;
-    v249 = load8(v248);
-    v250 = (u16)v247;
-    v251 = (u16)((u32)v250 << (8u & 15u));
-    v252 = (u16)v249;
-    v253 = (u16)((u32)v251 | (u32)v252);
-    v254 = (u16)v24;
-    v255 = swap16(a2);
-    v256 = swap16(v245);
-    v257 = swap16(v253);
-    v258 = (u32)v237;
-    v259 = (u32)((u32)v258 * (u32)257u);
-    v260 = (u32)((u32)v259 | (u32)UINT32_C(131072));
-    v261 = swap16(v21);
-    v262 = (u64)((u64)v20 * (u64)1476u);
-    v263 = a7 + v262 * 1u;
-    store16(v263, a2);
-    v264 = (u16)(a6);
-    v265 = (u16)((u32)v264 + (u32)54u);
-    v266 = v263 + 2u * 1u;
-    store16(v266, v265);
-    v267 = v263 + 4u * 1u;
-    v268 = v263 + 58u * 1u;
-    store16(v267, 4621u);
-    v269 = v263 + 6u * 1u;
-    store16(v269, 13824u);
-    v270 = v263 + 8u * 1u;
-    store16(v270, v254);
-    v271 = v263 + 10u * 1u;
-    memory_set(v271, 0u, 14u);
-    v272 = v263 + 24u * 1u;
-    store64(v272, v23);
-    v273 = v263 + 32u * 1u;
-    store16(v273, v255);
-    v274 = v263 + 34u * 1u;
-    store16(v274, v256);
-    v275 = v263 + 36u * 1u;
-    store16(v275, 32516u);
-    v276 = v263 + 38u * 1u;
-    store64(v276, v22);
-    v277 = v263 + 46u * 1u;
-    store16(v277, v257);
-    v278 = v263 + 48u * 1u;
-    store32(v278, v260);
-    v279 = v263 + 52u * 1u;
-    store16(v279, 256u);
-    v280 = v263 + 54u * 1u;
-    store16(v280, 512u);
-    v281 = v263 + 56u * 1u;
-    store16(v281, v261);
-    v282 = (u64)v268;
-    v283 = (u64)a5;
-    v284 = (u64)((u64)v282 - (u64)v283);
-    v285 = v284 < a6;
-    if (v285) { v25 = 0u; goto L44; }
+    v240 = v237 > v239 ? (u8)((u32)v237 - (u32)v239) : 0u;
+    v241 = a3 + 30u * 1u;
+    v242 = load8(v241);
+    v243 = a3 + 31u * 1u;
+    v244 = load8(v243);
+    v245 = (u16)v242;
+    v246 = (u16)((u32)v245 << (8u & 15u));
+    v247 = (u16)v244;
+    v248 = (u16)((u32)v246 | (u32)v247);
+    v249 = a3 + 28u * 1u;
+    v250 = load8(v249);
+    v251 = a3 + 29u * 1u;
+    v252 = load8(v251);
+    v253 = (u16)v250;
+    v254 = (u16)((u32)v253 << (8u & 15u));
+    v255 = (u16)v252;
+    v256 = (u16)((u32)v254 | (u32)v255);
+    v257 = (u16)v25;
+    v258 = swap16(a2);
+    v259 = swap16(v248);
+    v260 = swap16(v256);
+    v261 = (u32)v240;
+    v262 = (u32)((u32)v261 * (u32)257u);
+    v263 = (u32)((u32)v262 | (u32)UINT32_C(131072));
+    v264 = swap16(v22);
+    v265 = (u64)((u64)v21 * (u64)1476u);
+    v266 = a7 + v265 * 1u;
+    store16(v266, a2);
+    v267 = (u16)(a6);
+    v268 = (u16)((u32)v267 + (u32)54u);
+    v269 = v266 + 2u * 1u;
+    store16(v269, v268);
+    v270 = v266 + 4u * 1u;
+    v271 = v266 + 58u * 1u;
+    store16(v270, 4621u);
+    v272 = v266 + 6u * 1u;
+    store16(v272, 13824u);
+    v273 = v266 + 8u * 1u;
+    store16(v273, v257);
+    v274 = v266 + 10u * 1u;
+    memory_set(v274, 0u, 14u);
+    v275 = v266 + 24u * 1u;
+    store64(v275, v24);
+    v276 = v266 + 32u * 1u;
+    store16(v276, v258);
+    v277 = v266 + 34u * 1u;
+    store16(v277, v259);
+    v278 = v266 + 36u * 1u;
+    store16(v278, 32516u);
+    v279 = v266 + 38u * 1u;
+    store64(v279, v23);
+    v280 = v266 + 46u * 1u;
+    store16(v280, v260);
+    v281 = v266 + 48u * 1u;
+    store32(v281, v263);
+    v282 = v266 + 52u * 1u;
+    store16(v282, 256u);
+    v283 = v266 + 54u * 1u;
+    store16(v283, 512u);
+    v284 = v266 + 56u * 1u;
+    store16(v284, v264);
+    v285 = (u64)v271;
+    v286 = (u64)a5;
+    v287 = (u64)((u64)v285 - (u64)v286);
+    v288 = v287 < a6;
+    if (v288) { v26 = 0u; goto L44; }
     else { goto L43; }
 L43:;
-    memory_move(v268, a5, a6);
+    memory_move(v271, a5, a6);
     goto L45;
 L44:;
-    v286 = v268 + v25 * 1u;
-    v287 = a5 + v25 * 1u;
-    v288 = load8(v287);
-    store8(v286, v288);
-    v289 = (u64)((u64)v25 + (u64)1u);
-    v290 = v289 == a6;
-    if (v290) { goto L45; }
-    else { v25 = v289; goto L44; }
+    v289 = v271 + v26 * 1u;
+    v290 = a5 + v26 * 1u;
+    v291 = load8(v290);
+    store8(v289, v291);
+    v292 = (u64)((u64)v26 + (u64)1u);
+    v293 = v292 == a6;
+    if (v293) { goto L45; }
+    else { v26 = v292; goto L44; }
 L45:;
-    v291 = swap16(v265);
-    store16(v269, v291);
-    store16(v273, v255);
-    v292 = (u16)((u32)v264 + (u32)2u);
-    v293 = swap16(v292);
-    store16(v280, v293);
-    v294 = (u64)((u64)v20 + (u64)1u);
-    store8(a0, 9u);
-    v295 = a0 + 1u * 1u;
-    v296 = a0 + 8u * 1u;
-    memory_set(v295, 0u, 7u);
-    store64(v296, v294);
-    v297 = a0 + 16u * 1u;
-    memory_set(v297, 0u, 80u);
-    goto L46;
+    v294 = swap16(v268);
+    store16(v272, v294);
+    store16(v276, v258);
+    v295 = (u16)((u32)v267 + (u32)2u);
+    v296 = swap16(v295);
+    store16(v283, v296);
+    v297 = (u64)((u64)v21 + (u64)1u);
+    memory_set(a9, 0u, 68u);
+    v27 = 9u; v28 = 0u; v29 = v297; goto L46;
 L46:;
+    store8(a0, v27);
+    v298 = a0 + 1u * 1u;
+    store8(v298, v28);
+    v299 = a0 + 8u * 1u;
+    store64(v299, v29);
     return;
 L47:;
-    memory_set(v33, 0u, 40u);
-    memory_set(v31, 0u, 3u);
-    if (v39) { goto L53; }
+    memory_set(v37, 0u, 40u);
+    memory_set(v35, 0u, 3u);
+    if (v42) { goto L53; }
     else { goto L48; }
 L48:;
-    v298 = load8(a3);
-    v299 = (u8)((u32)v298 & (u32)15u);
-    v300 = v299 == 13u;
-    if (v300) { goto L49; }
+    v300 = load8(a3);
+    v301 = (u8)((u32)v300 & (u32)15u);
+    v302 = v301 == 13u;
+    if (v302) { goto L49; }
     else { goto L53; }
 L49:;
-    v301 = a3 + 1u * 1u;
-    v302 = load8(v301);
-    v303 = (u8)((u32)v302 & (u32)15u);
-    v304 = v303 == 2u;
-    if (v304) { goto L50; }
+    v303 = a3 + 1u * 1u;
+    v304 = load8(v303);
+    v305 = (u8)((u32)v304 & (u32)15u);
+    v306 = v305 == 2u;
+    if (v306) { goto L50; }
     else { goto L53; }
 L50:;
-    v305 = a3 + 2u * 1u;
-    v306 = load8(v305);
-    v307 = a3 + 3u * 1u;
+    v307 = a3 + 2u * 1u;
     v308 = load8(v307);
-    v309 = (u16)v306;
-    v310 = (u16)((u32)v309 << (8u & 15u));
+    v309 = a3 + 3u * 1u;
+    v310 = load8(v309);
     v311 = (u16)v308;
-    v312 = (u16)((u32)v310 | (u32)v311);
-    v313 = (u64)v312;
-    v314 = a4 < v313;
-    v315 = (u16)((u32)v312 + (u32)64063u);
-    v316 = v315 < 64117u;
-    v317 = (u8)(((u32)v316 | (u32)v314) & UINT64_C(1));
-    if (v317) { goto L53; }
+    v312 = (u16)((u32)v311 << (8u & 15u));
+    v313 = (u16)v310;
+    v314 = (u16)((u32)v312 | (u32)v313);
+    v315 = (u64)v314;
+    v316 = a4 < v315;
+    v317 = (u16)((u32)v314 + (u32)64063u);
+    v318 = v317 < 64117u;
+    v319 = (u8)(((u32)v318 | (u32)v316) & UINT64_C(1));
+    if (v319) { goto L53; }
     else { goto L51; }
 L51:;
-    v318 = a3 + 48u * 1u;
-    v319 = load8(v318);
-    v320 = a3 + 49u * 1u;
+    v320 = a3 + 48u * 1u;
     v321 = load8(v320);
-    v322 = (u16)v319;
-    v323 = (u16)((u32)v322 << (8u & 15u));
+    v322 = a3 + 49u * 1u;
+    v323 = load8(v322);
     v324 = (u16)v321;
-    v325 = (u16)((u32)v323 | (u32)v324);
-    v326 = v325 == 1u;
-    if (v326) { goto L52; }
+    v325 = (u16)((u32)v324 << (8u & 15u));
+    v326 = (u16)v323;
+    v327 = (u16)((u32)v325 | (u32)v326);
+    v328 = v327 == 1u;
+    if (v328) { goto L52; }
     else { goto L53; }
 L52:;
-    v327 = a3 + 46u * 1u;
-    v328 = load8(v327);
-    v329 = (u8)((u32)v328 & (u32)15u);
-    v330 = a3 + 50u * 1u;
-    v331 = load8(v330);
-    v332 = (u64)v331;
-    v333 = (u64)((u64)v332 << (8u & 63u));
-    v334 = a3 + 51u * 1u;
-    v335 = load8(v334);
-    v336 = (u64)v335;
-    v337 = (u64)((u64)v333 | (u64)v336);
-    v338 = (u64)((u64)v337 + (u64)52u);
-    v339 = v338 == v313;
-    v340 = (u64)((u64)v313 & (u64)1u);
-    v341 = v340 == 0u;
-    v342 = (u8)(((u32)v341 & (u32)v339) & UINT64_C(1));
-    v343 = v329 < 5u;
-    v344 = v342 ? v343 : 0u;
-    if (v344) { v26 = v308; v27 = v306; v28 = v329; v29 = 0u; goto L55; }
+    v329 = a3 + 46u * 1u;
+    v330 = load8(v329);
+    v331 = (u8)((u32)v330 & (u32)15u);
+    v332 = a3 + 50u * 1u;
+    v333 = load8(v332);
+    v334 = (u64)v333;
+    v335 = (u64)((u64)v334 << (8u & 63u));
+    v336 = a3 + 51u * 1u;
+    v337 = load8(v336);
+    v338 = (u64)v337;
+    v339 = (u64)((u64)v335 | (u64)v338);
+    v340 = (u64)((u64)v339 + (u64)52u);
+    v341 = v340 == v315;
+    v342 = (u64)((u64)v315 & (u64)1u);
+    v343 = v342 == 0u;
+    v344 = (u8)(((u32)v343 & (u32)v341) & UINT64_C(1));
+    v345 = v331 < 5u;
+    v346 = v344 ? v345 : 0u;
+    if (v346) { v30 = v310; v31 = v308; v32 = v331; v33 = 0u; goto L55; }
     else { goto L53; }
 L53:;
-    f8(v31, a3, a4);
-    v345 = load8(v31);
-    v346 = v345 == 0u;
-    if (v346) { goto L54; }
+    f8(v35, a3, a4);
+    v347 = load8(v35);
+    v348 = v347 == 0u;
+    if (v348) { goto L54; }
     else { goto L64; }
 L54:;
-    v347 = v31 + 1u * 1u;
-    v348 = load8(v347);
-    v349 = v31 + 2u * 1u;
+    v349 = v35 + 1u * 1u;
     v350 = load8(v349);
-    v351 = a3 + 2u * 1u;
+    v351 = v35 + 2u * 1u;
     v352 = load8(v351);
-    v353 = a3 + 3u * 1u;
+    v353 = a3 + 2u * 1u;
     v354 = load8(v353);
-    v26 = v354; v27 = v352; v28 = v348; v29 = v350; goto L55;
+    v355 = a3 + 3u * 1u;
+    v356 = load8(v355);
+    v30 = v356; v31 = v354; v32 = v350; v33 = v352; goto L55;
 L55:;
-    v355 = (u64)v27;
-    v356 = (u64)((u64)v355 << (8u & 63u));
-    v357 = (u64)v26;
-    v358 = (u64)((u64)v356 | (u64)v357);
-    store_address(v32, a3);
-    v359 = v32 + 8u * 1u;
-    store64(v359, v358);
-    v360 = v32 + 16u * 1u;
-    store8(v360, v28);
-    v361 = v32 + 17u * 1u;
-    store8(v361, v29);
-    v362 = v32 + 18u * 1u;
-    memory_set(v362, 0u, 6u);
-    v363 = v29 == 0u;
-    v364 = v363 ? 52u : 54u;
-    v365 = v363 ? 53u : 55u;
-    v366 = a3 + v364 * 1u;
-    v367 = load8(v366);
-    v368 = a3 + v365 * 1u;
+    v357 = (u64)v31;
+    v358 = (u64)((u64)v357 << (8u & 63u));
+    v359 = (u64)v30;
+    v360 = (u64)((u64)v358 | (u64)v359);
+    store_address(v36, a3);
+    v361 = v36 + 8u * 1u;
+    store64(v361, v360);
+    v362 = v36 + 16u * 1u;
+    store8(v362, v32);
+    v363 = v36 + 17u * 1u;
+    store8(v363, v33);
+    v364 = v36 + 18u * 1u;
+    memory_set(v364, 0u, 6u);
+    v365 = v33 == 0u;
+    v366 = v365 ? 52u : 54u;
+    v367 = v365 ? 53u : 55u;
+    v368 = a3 + v366 * 1u;
     v369 = load8(v368);
-    v370 = a3 + 42u * 1u;
+    v370 = a3 + v367 * 1u;
     v371 = load8(v370);
-    v372 = a3 + 43u * 1u;
+    v372 = a3 + 42u * 1u;
     v373 = load8(v372);
-    v374 = a3 + 54u * 1u;
-    v375 = (u64)((u64)v358 + (u64)UINT64_C(18446744073709551562));
-    v376 = v363 ? v374 : ADDRESS(c155);
-    v377 = v363 ? v375 : 0u;
-    v378 = (u16)v371;
-    v379 = (u16)((u32)v378 << (8u & 15u));
+    v374 = a3 + 43u * 1u;
+    v375 = load8(v374);
+    v376 = a3 + 54u * 1u;
+    v377 = (u64)((u64)v360 + (u64)UINT64_C(18446744073709551562));
+    v378 = v365 ? v376 : ADDRESS(c155);
+    v379 = v365 ? v377 : 0u;
     v380 = (u16)v373;
-    v381 = (u16)((u32)v379 | (u32)v380);
-    v382 = (u16)v367;
-    v383 = (u16)((u32)v382 << (8u & 15u));
+    v381 = (u16)((u32)v380 << (8u & 15u));
+    v382 = (u16)v375;
+    v383 = (u16)((u32)v381 | (u32)v382);
     v384 = (u16)v369;
-    v385 = (u16)((u32)v383 | (u32)v384);
-    store8(v30, v28);
-    v386 = v30 + 1u * 1u;
-    store8(v386, 0u);
-    v387 = v30 + 2u * 1u;
-    store16(v387, v385);
-    v388 = v30 + 4u * 1u;
-    store16(v388, v381);
-    v389 = v30 + 6u * 1u;
-    store16(v389, 0u);
-    v390 = v30 + 8u * 1u;
-    store_address(v390, v376);
-    v391 = v30 + 16u * 1u;
-    store64(v391, v377);
-    v392 = f70(v30);
-    if (v392) { goto L56; }
+    v385 = (u16)((u32)v384 << (8u & 15u));
+    v386 = (u16)v371;
+    v387 = (u16)((u32)v385 | (u32)v386);
+    store8(v34, v32);
+    v388 = v34 + 1u * 1u;
+    store8(v388, 0u);
+    v389 = v34 + 2u * 1u;
+    store16(v389, v387);
+    v390 = v34 + 4u * 1u;
+    store16(v390, v383);
+    v391 = v34 + 6u * 1u;
+    store16(v391, 0u);
+    v392 = v34 + 8u * 1u;
+    store_address(v392, v378);
+    v393 = v34 + 16u * 1u;
+    store64(v393, v379);
+    v394 = f63(v34);
+    if (v394) { goto L56; }
     else { goto L62; }
 L56:;
-    v393 = a3 + 34u * 1u;
-    v394 = load64(v393);
-    v395 = a1 + 384u * 1u;
+    v395 = a3 + 34u * 1u;
     v396 = load64(v395);
-    v397 = load8(a3);
-    v398 = (u8)((u32)v397 >> (4u & 7u));
-    v399 = a3 + 5u * 1u;
-    v400 = load8(v399);
-    v401 = (u8)((u32)v398 | (u32)v400);
-    v402 = v401 == 0u;
-    if (v402) { goto L57; }
+    v397 = a1 + 384u * 1u;
+    v398 = load64(v397);
+    v399 = load8(a3);
+    v400 = (u8)((u32)v399 >> (4u & 7u));
+    v401 = a3 + 5u * 1u;
+    v402 = load8(v401);
+    v403 = (u8)((u32)v400 | (u32)v402);
+    v404 = v403 == 0u;
+    if (v404) { goto L57; }
     else { goto L62; }
 L57:;
-    v403 = a3 + 4u * 1u;
-    v404 = load8(v403);
-    v405 = a1 + 8u * 1u;
+    v405 = a3 + 4u * 1u;
     v406 = load8(v405);
-    v407 = v404 == v406;
-    if (v407) { goto L58; }
+    v407 = a1 + 8u * 1u;
+    v408 = load8(v407);
+    v409 = v406 == v408;
+    if (v409) { goto L58; }
     else { goto L62; }
 L58:;
-    v408 = a3 + 20u * 1u;
-    v409 = load64(v408);
-    v410 = v409 == v396;
-    if (v410) { goto L62; }
+    v410 = a3 + 20u * 1u;
+    v411 = load64(v410);
+    v412 = v411 == v398;
+    if (v412) { goto L62; }
     else { goto L59; }
 L59:;
-    v411 = v394 == v396;
-    v412 = v394 == UINT64_C(18446744073709551615);
-    v413 = (u8)(((u32)v412 | (u32)v411) & UINT64_C(1));
-    if (v413) { goto L60; }
+    v413 = v396 == v398;
+    v414 = v396 == UINT64_C(18446744073709551615);
+    v415 = (u8)(((u32)v414 | (u32)v413) & UINT64_C(1));
+    if (v415) { goto L60; }
     else { goto L62; }
 L60:;
-    switch (v381) {
+    switch (v383) {
     case 65535u: goto L63;
     case 0u: goto L62;
     default: goto L61;
     }
 L61:;
-    v414 = a1 + 240u * 1u;
-    v415 = load8(v414);
-    v416 = v415 == 0u;
-    v417 = v416 ? 376u : 256u;
-    v418 = a1 + v417 * 1u;
-    v419 = load64(v418);
-    v420 = (u16)(v419);
-    v421 = v381 > v420;
-    if (v421) { goto L62; }
+    v416 = a1 + 240u * 1u;
+    v417 = load8(v416);
+    v418 = v417 == 0u;
+    v419 = v418 ? 376u : 256u;
+    v420 = a1 + v419 * 1u;
+    v421 = load64(v420);
+    v422 = (u16)(v421);
+    v423 = v383 > v422;
+    if (v423) { goto L62; }
     else { goto L63; }
 L62:;
     goto L66;
 L63:;
-    v422 = f71(a1, v32);
-    v423 = v422 == 1u;
-    if (v423) { goto L65; }
+    v424 = f64(a1, v36);
+    v425 = v424 == 1u;
+    if (v425) { goto L65; }
     else { goto L66; }
 L64:;
     goto L66;
 L65:;
-    v424 = a3 + 28u * 1u;
-    v425 = load8(v424);
-    v426 = a3 + 29u * 1u;
+    v426 = a3 + 28u * 1u;
     v427 = load8(v426);
-    v428 = a3 + 30u * 1u;
+    v428 = a3 + 29u * 1u;
     v429 = load8(v428);
-    v430 = a3 + 31u * 1u;
+    v430 = a3 + 30u * 1u;
     v431 = load8(v430);
-    v432 = (u16)v429;
-    v433 = (u16)((u32)v432 << (8u & 15u));
+    v432 = a3 + 31u * 1u;
+    v433 = load8(v432);
     v434 = (u16)v431;
-    v435 = (u16)((u32)v433 | (u32)v434);
-    v436 = (u16)v425;
-    v437 = (u16)((u32)v436 << (8u & 15u));
+    v435 = (u16)((u32)v434 << (8u & 15u));
+    v436 = (u16)v433;
+    v437 = (u16)((u32)v435 | (u32)v436);
     v438 = (u16)v427;
-    v439 = (u16)((u32)v437 | (u32)v438);
-    store64(v33, v409);
-    v440 = v33 + 8u * 1u;
-    store16(v440, v439);
-    v441 = v33 + 10u * 1u;
-    store16(v441, v435);
-    v442 = v33 + 12u * 1u;
-    store32(v442, 0u);
-    v443 = v33 + 16u * 1u;
-    store8(v443, v28);
-    v444 = v33 + 17u * 1u;
-    store8(v444, 0u);
-    v445 = v33 + 18u * 1u;
-    store16(v445, v385);
-    v446 = v33 + 20u * 1u;
-    store16(v446, v381);
-    v447 = v33 + 22u * 1u;
-    store16(v447, 0u);
-    v448 = v33 + 24u * 1u;
-    store_address(v448, v376);
-    v449 = v33 + 32u * 1u;
-    store64(v449, v377);
-    f72(a1, v33, a5, a6);
-    f44(v38, a1, a2, a3, a4, a7, a8);
-    v450 = v38 + 24u * 1u;
-    v451 = load32(v450);
-    v452 = v38 + 28u * 1u;
-    v453 = v38 + 8u * 1u;
-    v454 = load64(v453);
-    store8(a0, 5u);
-    v455 = a0 + 1u * 1u;
-    store8(v455, 0u);
-    v456 = a0 + 2u * 1u;
-    memory_cpy(v456, v37, 6u);
-    v457 = a0 + 8u * 1u;
-    store64(v457, v454);
-    v458 = a0 + 16u * 1u;
-    store64(v458, 0u);
-    v459 = a0 + 24u * 1u;
-    store32(v459, v451);
-    v460 = a0 + 28u * 1u;
-    memory_cpy(v460, v452, 64u);
-    v461 = a0 + 92u * 1u;
-    store32(v461, 0u);
-    goto L46;
+    v439 = (u16)((u32)v438 << (8u & 15u));
+    v440 = (u16)v429;
+    v441 = (u16)((u32)v439 | (u32)v440);
+    store64(v37, v411);
+    v442 = v37 + 8u * 1u;
+    store16(v442, v441);
+    v443 = v37 + 10u * 1u;
+    store16(v443, v437);
+    v444 = v37 + 12u * 1u;
+    store32(v444, 0u);
+    v445 = v37 + 16u * 1u;
+    store8(v445, v32);
+    v446 = v37 + 17u * 1u;
+    store8(v446, 0u);
+    v447 = v37 + 18u * 1u;
+    store16(v447, v387);
+    v448 = v37 + 20u * 1u;
+    store16(v448, v383);
+    v449 = v37 + 22u * 1u;
+    store16(v449, 0u);
+    v450 = v37 + 24u * 1u;
+    store_address(v450, v378);
+    v451 = v37 + 32u * 1u;
+    store64(v451, v379);
+    f65(a1, v37, a5, a6);
+    f38(v41, a1, a2, a3, a4, a7, a8, a9);
+    v452 = v41 + 8u * 1u;
+    v453 = load64(v452);
+    v27 = 5u; v28 = 0u; v29 = v453; goto L46;
 L66:;
-    f44(v38, a1, a2, a3, a4, a7, a8);
-    v462 = load8(v38);
-    v463 = v38 + 1u * 1u;
-    v464 = load8(v463);
-    v465 = v38 + 2u * 1u;
-    v466 = v38 + 8u * 1u;
-    v467 = load64(v466);
-    v468 = v38 + 16u * 1u;
-    v469 = load64(v468);
-    v470 = v38 + 24u * 1u;
-    v471 = load32(v470);
-    v472 = v38 + 28u * 1u;
-    v473 = v38 + 92u * 1u;
-    v474 = load32(v473);
-    store8(a0, v462);
-    v475 = a0 + 1u * 1u;
-    store8(v475, v464);
-    v476 = a0 + 2u * 1u;
-    memory_cpy(v476, v465, 6u);
-    v477 = a0 + 8u * 1u;
-    store64(v477, v467);
-    v478 = a0 + 16u * 1u;
-    store64(v478, v469);
-    v479 = a0 + 24u * 1u;
-    store32(v479, v471);
-    v480 = a0 + 28u * 1u;
-    memory_cpy(v480, v472, 64u);
-    v481 = a0 + 92u * 1u;
-    store32(v481, v474);
-    goto L46;
+    f38(v41, a1, a2, a3, a4, a7, a8, a9);
+    v454 = load8(v41);
+    v455 = v41 + 1u * 1u;
+    v456 = load8(v455);
+    v457 = v41 + 8u * 1u;
+    v458 = load64(v457);
+    v27 = v454; v28 = v456; v29 = v458; goto L46;
 }
 
-static u8 f70(address a0) {
+static u8 f63(address a0) {
     u8 v1, v2, v3;
     address v4;
     u16 v5;
@@ -15486,7 +14411,7 @@ L3:;
     return v1;
 }
 
-static u8 f71(address a0, address a1) {
+static u8 f64(address a0, address a1) {
     address v2, v5, v6, v7, v8, v10, v12, v17, v20, v22, v24, v30, v31, v33, v39, v41;
     address v46, v48, v50, v52, v59, v60, v61, v62, v63, v64;
     u64 v3, v9, v18, v21, v44, v45, v51, v53;
@@ -15572,14 +14497,14 @@ L3:;
     store_address(v63, v2);
     v64 = v6 + 16u * 1u;
     store64(v64, v3);
-    v65 = f47(v17, v5, v38, v6);
+    v65 = f41(v17, v5, v38, v6);
     v66 = v65.m0;
     v4 = v66; goto L4;
 L4:;
     return v4;
 }
 
-static void f72(address a0, address a1, address a2, u64 a3) {
+static void f65(address a0, address a1, address a2, u64 a3) {
     u8 v4, v9;
     address v5, v6, v7, v8, v10, v11, v12, v13, v14, v15, v17, v18, v19, v20;
     u16 v16;
@@ -15622,11 +14547,11 @@ L3:;
     store8(v19, 0u);
     v20 = v8 + 10u * 1u;
     memory_cpy(v20, v6, 150u);
-    f62(a0, a1, v16, v17, v8, 1u);
+    f55(a0, a1, v16, v17, v8, 1u);
     return;
 }
 
-static void f73(address a0, address a1, u64 a2) {
+static void f66(address a0, address a1, u64 a2) {
     u64 v3, v4, v5, v6, v7, v9, v12, v14, v16, v17, v19, v21, v23, v24, v25, v28;
     u64 v29, v32, v41, v42, v43, v44, v46;
     address v8, v11, v13, v18, v20, v27, v30, v31, v33, v34, v36, v39, v40;
@@ -15705,7 +14630,7 @@ L10:;
     goto L12;
 L11:;
     v41 = (u64)v35;
-    f51(v40, v36, v41);
+    f44(v40, v36, v41);
     goto L12;
 L12:;
     v42 = load64(v27);
@@ -15723,7 +14648,7 @@ L14:;
     return;
 }
 
-static void f74(address a0, address a1, u8 a2, address a3) {
+static void f67(address a0, address a1, u8 a2, address a3) {
     address v4, v27, v28, v29, v30, v31, v33, v34, v35, v36, v37, v38, v39, v40, v50, v51;
     address v52, v78, v79, v80, v82, v83, v85, v86, v90, v92, v93, v96, v97, v98, v103, v104;
     address v106, v107, v108, v109, v112, v113, v114, v119, v120, v124, v126, v127, v130, v132, v133, v135;
@@ -15992,7 +14917,7 @@ L48:;
     store8(v79, v17);
     v80 = v27 + 3u * 1u;
     store8(v80, v18);
-    v81 = f35(v27, v51, v53);
+    v81 = f24(v27, v51, v53);
     if (v81) { goto L51; }
     else { v19 = 3u; goto L49; }
 L49:;
@@ -16001,7 +14926,7 @@ L49:;
 L50:;
     goto L51;
 L51:;
-    f36(a0, v12, v13, a1);
+    f32(a0, v12, v13, a1);
     if (v8) { goto L53; }
     else { v25 = 0u; v26 = 0u; goto L68; }
 L52:;
@@ -16025,7 +14950,7 @@ L52:;
     v97 = v96 + 2u * 1u;
     store16(v97, 60u);
     v98 = v96 + 4u * 1u;
-    f34(a3, v84, v89, v91, v98);
+    f31(a3, v84, v89, v91, v98);
     v99 = load64(v93);
     v100 = (u64)((u64)v99 + (u64)1u);
     store64(v93, v100);
@@ -16162,10 +15087,10 @@ L66:;
     store64(v138, v160);
     goto L69;
 L67:;
-    f75(a0, v12, a3);
+    f68(a0, v12, a3);
     goto L69;
 L68:;
-    f76(a0, v29, a1, v26, v25, a3);
+    f69(a0, v29, a1, v26, v25, a3);
     goto L69;
 L69:;
     return;
@@ -16187,14 +15112,14 @@ L70:;
     v173 = v172 + 2u * 1u;
     store16(v173, 60u);
     v174 = v172 + 4u * 1u;
-    f34(a3, v163, 2u, v167, v174);
+    f31(a3, v163, 2u, v167, v174);
     v175 = load64(v169);
     v176 = (u64)((u64)v175 + (u64)1u);
     store64(v169, v176);
     goto L69;
 }
 
-static void f75(address a0, u8 a1, address a2) {
+static void f68(address a0, u8 a1, address a2) {
     u64 v3, v4, v5, v6, v11, v19, v20, v27, v28, v29, v34, v36, v37, v38, v43, v52;
     u64 v53, v55, v63, v64, v71, v72, v73, v78, v80, v81, v82, v87, v96, v97;
     address v7, v9, v10, v12, v13, v15, v16, v17, v18, v21, v24, v25, v26, v31, v32, v40;
@@ -16283,7 +15208,7 @@ L7:;
     goto L15;
 L8:;
     memory_set(v7, 0u, 144u);
-    f39(a0, a1, v7);
+    f36(a0, a1, v7);
     v54 = v7 + 136u * 1u;
     v55 = load64(v54);
     v56 = a2 + 58u * 1u;
@@ -16360,7 +15285,7 @@ L15:;
     return;
 }
 
-static void f76(address a0, address a1, address a2, u8 a3, u8 a4, address a5) {
+static void f69(address a0, address a1, address a2, u8 a3, u8 a4, address a5) {
     u16 v6, v7, v21, v29, v30, v48, v50, v51, v59, v64, v82, v83, v100, v101, v107, v108;
     u16 v109, v110, v114, v142, v160, v161, v180, v198, v200, v201, v206, v224, v225;
     u64 v8, v9, v10, v12, v13, v14, v17, v18, v26, v28, v40, v42, v43, v44, v54, v55;
@@ -16434,7 +15359,7 @@ L5:;
     store16(v57, 60u);
     v58 = v56 + 4u * 1u;
     v59 = (u16)(v8);
-    f34(a5, v59, v50, v51, v58);
+    f31(a5, v59, v50, v51, v58);
     v60 = load64(v53);
     v61 = (u64)((u64)v60 + (u64)1u);
     store64(v53, v61);
@@ -16774,7 +15699,7 @@ L41:;
     return;
 }
 
-static void f77(address a0, address a1) {
+static void f70(address a0, address a1) {
     u64 v2, v3, v4, v5, v6, v8, v17, v21, v26, v28, v29, v30, v33, v34, v35, v40;
     u64 v42, v43, v46, v47, v48, v53, v55, v56, v59, v60, v61, v66, v68, v69, v72, v73;
     u64 v74, v79, v81, v84, v86, v88, v89, v90;
@@ -16963,7 +15888,7 @@ L27:;
     memory_move(v87, v22, 80u);
     goto L29;
 L28:;
-    f51(v87, v22, v21);
+    f44(v87, v22, v21);
     goto L29;
 L29:;
     v88 = load64(v12);
@@ -16979,7 +15904,7 @@ L31:;
     return;
 }
 
-static void f78(address a0, u64 a1, address a2, address a3, u16 a4, address a5) {
+static void f71(address a0, u64 a1, address a2, address a3, u16 a4, address a5) {
     u64 v6, v8, v15, v17, v19, v22, v40, v41;
     address v7, v9, v11, v12, v13, v14, v16, v20, v21, v23, v25, v26, v28, v34, v36, v38;
     address v39;
@@ -17025,7 +15950,7 @@ L5:;
     memory_move(v26, v7, 80u);
     goto L7;
 L6:;
-    f51(v26, v7, v19);
+    f44(v26, v7, v19);
     goto L7;
 L7:;
     v27 = load8(a3);
@@ -17061,7 +15986,7 @@ L10:;
     return;
 }
 
-static void f79(address a0, address a1, address a2) {
+static void f72(address a0, address a1, address a2) {
     address v3, v15, v16, v17, v20, v22, v23, v24, v25, v26, v27, v28, v29, v30, v31, v33;
     address v34, v36, v38, v39, v42, v43, v44, v49, v50, v52, v53, v54, v56, v57, v60, v61;
     address v62, v65, v67, v68, v70, v71, v72, v73, v76, v77, v78, v79, v84, v85, v90, v92;
@@ -17185,7 +16110,7 @@ L22:;
     v43 = v42 + 2u * 1u;
     store16(v43, 60u);
     v44 = v42 + 4u * 1u;
-    f34(a2, v32, v35, v37, v44);
+    f31(a2, v32, v35, v37, v44);
     v45 = load64(v39);
     v46 = (u64)((u64)v45 + (u64)1u);
     store64(v39, v46);
@@ -17224,7 +16149,7 @@ L28:;
     v61 = v60 + 2u * 1u;
     store16(v61, 60u);
     v62 = v60 + 4u * 1u;
-    f34(a2, v51, 6u, v55, v62);
+    f31(a2, v51, 6u, v55, v62);
     v63 = load64(v57);
     v64 = (u64)((u64)v63 + (u64)1u);
     store64(v57, v64);
@@ -17312,14 +16237,14 @@ L38:;
     store64(v73, v95);
     goto L23;
 L39:;
-    f75(a0, v8, a2);
+    f68(a0, v8, a2);
     goto L23;
 L40:;
-    f76(a0, v16, a1, v14, v13, a2);
+    f69(a0, v16, a1, v14, v13, a2);
     goto L23;
 }
 
-static struct s2 f80(address a0, address a1, u64 a2) {
+static struct s2 f73(address a0, address a1, u64 a2) {
     u64 v3, v4, v14, v16, v19, v23, v24, v25, v27, v30, v32, v34, v58, v59, v60, v65;
     u64 v67;
     u8 v5, v8, v9, v17, v21, v22, v31, v33, v35, v36, v38, v39, v41, v42, v61, v64;
@@ -17334,7 +16259,7 @@ static struct s2 f80(address a0, address a1, u64 a2) {
     if (v9) { goto L1; }
     else { goto L2; }
 L1:;
-    v10 = f81(a0, a1, a2);
+    v10 = f74(a0, a1, a2);
     v6 = v10; goto L9;
 L2:;
     v11 = a0 + 450u * 1u;
@@ -17349,7 +16274,7 @@ L2:;
 L3:;
     v18 = a1 + v16 * 1u;
     v19 = (u64)((u64)a2 - (u64)v16);
-    v20 = f81(a0, v18, v19);
+    v20 = f74(a0, v18, v19);
     v21 = v20.m0;
     v22 = v21 == 1u;
     if (v22) { goto L4; }
@@ -17437,7 +16362,7 @@ L9:;
     return v6;
 }
 
-static struct s2 f81(address a0, address a1, u64 a2) {
+static struct s2 f74(address a0, address a1, u64 a2) {
     u64 v3, v5, v6, v8, v9, v10, v11, v12, v13, v16, v17, v21, v25, v26, v27, v29;
     u64 v30, v32, v33, v34, v35, v38, v40, v43, v47, v48, v49, v50, v51, v52, v60, v64;
     u64 v65, v69, v71, v75, v78, v82, v83, v84, v85, v86, v90, v91, v94, v102, v103, v106;
@@ -17729,7 +16654,7 @@ L34:;
     v207 = a0 + 384u * 1u;
     v208 = (u64)((u64)a2 + (u64)UINT64_C(18446744073709551604));
     memory_set(v56, 0u, 1176u);
-    f82(v56, a0);
+    f75(v56, a0);
     v209 = v56 + 1168u * 1u;
     v210 = load64(v209);
     v211 = v208 < v210;
@@ -18157,7 +17082,7 @@ L73:;
     return v466;
 }
 
-static void f82(address a0, address a1) {
+static void f75(address a0, address a1) {
     u64 v2, v4, v6, v7, v8, v9, v10, v13, v14, v15, v39, v70, v71, v74, v75, v79;
     u64 v80, v81, v105, v139, v140, v141, v165, v193, v197, v201, v205, v207, v210, v214, v216, v218;
     u64 v230, v231, v233, v234, v236, v237, v241, v242;
@@ -18551,7 +17476,7 @@ L21:;
     return;
 }
 
-static void f83(address a0, address a1) {
+static void f76(address a0, address a1) {
     u64 v2, v4, v5, v14, v23, v32, v41, v50, v53, v138, v140, v141, v142, v143, v145, v148;
     u64 v152, v161, v170, v179, v188, v197, v206, v215, v225, v229, v230, v231, v232, v234, v237, v238;
     u64 v241;
@@ -18860,7 +17785,7 @@ L9:;
     v231 = (u64)((u64)v230 & (u64)1u);
     v232 = (u64)((u64)v231 + (u64)v230);
     v233 = v55 + 136u * 1u;
-    f30(v55, v232);
+    f33(v55, v232);
     v234 = load64(v233);
     v235 = v55 + 1u * 1u;
     v236 = v235 + v53 * 1u;
@@ -19051,7 +17976,7 @@ L13:;
     return;
 }
 
-static void f84(address a0, address a1) {
+static void f77(address a0, address a1) {
     u64 v2, v5, v6, v8, v21, v24, v27, v29, v31, v32, v34, v37, v42, v46, v47, v48;
     u64 v49, v51, v54, v55, v58;
     address v3, v4, v7, v9, v10, v11, v12, v13, v14, v15, v18, v19, v20, v30, v35, v36;
@@ -19137,7 +18062,7 @@ L10:;
     v48 = (u64)((u64)v47 & (u64)1u);
     v49 = (u64)((u64)v48 + (u64)v47);
     v50 = v11 + 136u * 1u;
-    f30(v11, v49);
+    f33(v11, v49);
     v51 = load64(v50);
     v52 = v11 + 1u * 1u;
     v53 = v52 + v8 * 1u;
@@ -19199,830 +18124,755 @@ L16:;
     goto L15;
 }
 
-static u32 f85(address a0, u16 a1, address a2, u64 a3, address a4, u8 a5, address a6, u64 a7, address a8) {
-    u8 v9, v10, v11, v13, v19, v23, v24, v69, v70, v72, v74, v81, v82, v83, v84, v85;
-    u8 v86, v88, v89, v90, v92, v94, v100, v102, v103, v105, v107, v112, v114, v115, v117, v121;
-    u8 v125, v127, v128, v129, v130, v131, v132, v134, v136, v137, v138, v142, v144, v149, v151, v152;
-    u8 v153, v154, v155, v157, v158, v159, v161, v163, v169, v171, v172, v174, v176, v181, v183, v184;
-    u8 v186, v190, v194, v196, v197, v198, v199, v200, v201, v206, v207, v208, v209, v211, v212, v213;
-    u8 v215, v217, v223, v225, v226, v228, v230, v235, v237, v238, v240, v244, v248, v250, v251, v252;
-    u8 v253, v254, v255, v257, v259, v265, v267, v272, v277, v278, v283, v284, v286, v287, v289, v290;
-    u8 v291, v292, v293, v295, v296, v299, v300, v301, v312, v313, v324, v328, v332, v340, v342, v343;
-    u8 v350, v353, v355, v364, v370, v374, v385, v389, v390, v391, v392, v393, v407, v411, v423, v427;
-    u8 v436, v438, v439, v440;
-    address v12, v32, v40, v41, v42, v43, v44, v45, v46, v47, v48, v49, v50, v51, v52, v53;
-    address v54, v55, v56, v57, v58, v59, v60, v61, v62, v63, v64, v65, v66, v67, v68, v71;
-    address v73, v75, v76, v77, v79, v80, v87, v91, v93, v104, v106, v113, v116, v120, v133, v135;
-    address v141, v143, v150, v156, v160, v162, v173, v175, v182, v185, v189, v202, v205, v210, v214, v216;
-    address v227, v229, v236, v239, v243, v256, v258, v264, v266, v273, v275, v279, v280, v281, v285, v288;
-    address v294, v297, v302, v303, v305, v307, v311, v315, v320, v325, v326, v329, v330, v331, v335, v336;
-    address v344, v345, v346, v347, v348, v349, v351, v354, v356, v362, v363, v365, v367, v368, v369, v371;
-    address v372, v375, v376, v378, v380, v381, v382, v383, v384, v386, v387, v388, v394, v399, v400, v402;
-    address v404, v405, v406, v408, v409, v412, v413, v415, v417, v418, v419, v421, v424, v425, v428, v429;
-    address v430, v435, v437;
-    u64 v14, v15, v16, v17, v18, v20, v21, v22, v25, v26, v27, v28, v29, v30, v31, v33;
-    u64 v34, v35, v36, v37, v38, v78, v99, v118, v119, v122, v123, v124, v126, v139, v140, v168;
-    u64 v187, v188, v191, v192, v193, v195, v204, v222, v241, v242, v245, v246, v247, v249, v274, v276;
-    u64 v282, v298, v304, v306, v308, v309, v310, v314, v316, v317, v318, v319, v322, v323, v327, v333;
-    u64 v334, v337, v338, v339, v341, v352, v357, v358, v359, v360, v361, v366, v373, v377, v379, v395;
-    u64 v396, v397, v398, v401, v403, v410, v414, v416, v420, v422, v426;
-    u32 v39, v431, v432, v433, v434, v441, v442;
-    u16 v95, v96, v97, v98, v101, v108, v109, v110, v111, v145, v146, v147, v148, v164, v165, v166;
-    u16 v167, v170, v177, v178, v179, v180, v203, v218, v219, v220, v221, v224, v231, v232, v233, v234;
-    u16 v260, v261, v262, v263, v268, v269, v270, v271, v321;
-    u64 block0[12];
-    u64 block1[12];
+static u32 f78(address a0, u16 a1, address a2, u64 a3, address a4, u8 a5, address a6, u64 a7, address a8) {
+    u8 v9, v10, v11, v13, v18, v19, v21, v22, v25, v26, v27, v28, v31, v32, v33, v34;
+    u8 v59, v60, v62, v64, v71, v72, v73, v74, v75, v76, v78, v79, v80, v82, v84, v90;
+    u8 v92, v93, v95, v97, v102, v104, v105, v107, v111, v115, v117, v118, v119, v120, v121, v122;
+    u8 v124, v126, v127, v128, v132, v134, v139, v141, v142, v143, v144, v145, v147, v148, v149, v151;
+    u8 v153, v159, v161, v162, v164, v166, v171, v173, v174, v176, v180, v184, v186, v187, v188, v189;
+    u8 v190, v191, v196, v197, v198, v199, v201, v202, v203, v205, v207, v213, v215, v216, v218, v220;
+    u8 v225, v227, v228, v230, v234, v238, v240, v241, v242, v243, v244, v245, v247, v249, v255, v257;
+    u8 v262, v267, v268, v273, v274, v276, v277, v279, v280, v281, v282, v283, v285, v286, v289, v290;
+    u8 v291, v302, v303, v314, v318, v322, v330, v332, v333, v340, v343, v345, v349, v351, v357, v360;
+    u8 v362, v367, v368, v369, v370, v371, v372, v374, v380, v383, v385, v388, v396, v398, v399, v400;
+    address v12, v17, v38, v39, v40, v41, v42, v43, v44, v45, v46, v47, v48, v49, v50, v51;
+    address v52, v53, v54, v55, v56, v57, v58, v61, v63, v65, v66, v67, v69, v70, v77, v81;
+    address v83, v94, v96, v103, v106, v110, v123, v125, v131, v133, v140, v146, v150, v152, v163, v165;
+    address v172, v175, v179, v192, v195, v200, v204, v206, v217, v219, v226, v229, v233, v246, v248, v254;
+    address v256, v263, v265, v269, v270, v271, v275, v278, v284, v287, v292, v293, v295, v297, v301, v305;
+    address v310, v315, v316, v319, v320, v321, v325, v326, v334, v335, v336, v337, v338, v339, v341, v344;
+    address v346, v348, v350, v352, v354, v355, v356, v358, v361, v363, v365, v366, v373, v375, v377, v378;
+    address v379, v381, v384, v386, v389, v390, v391, v392, v395, v397;
+    u64 v14, v15, v16, v20, v23, v24, v29, v30, v35, v36, v68, v89, v108, v109, v112, v113;
+    u64 v114, v116, v129, v130, v158, v177, v178, v181, v182, v183, v185, v194, v212, v231, v232, v235;
+    u64 v236, v237, v239, v264, v266, v272, v288, v294, v296, v298, v299, v300, v304, v306, v307, v308;
+    u64 v309, v312, v313, v317, v323, v324, v327, v328, v329, v331, v342, v347, v353, v359, v364, v376;
+    u64 v382, v387;
+    u32 v37, v393, v394, v401, v402;
+    u16 v85, v86, v87, v88, v91, v98, v99, v100, v101, v135, v136, v137, v138, v154, v155, v156;
+    u16 v157, v160, v167, v168, v169, v170, v193, v208, v209, v210, v211, v214, v221, v222, v223, v224;
+    u16 v250, v251, v252, v253, v258, v259, v260, v261, v311;
+    u64 block0[2];
+    u64 block1[2];
     u64 block2[3];
-    u64 block3[1];
-    u64 block4[9];
-    u64 block5[12];
-    u64 block6[9];
-    u64 block7[12];
-    u64 block8[12];
-    u64 block9[3];
-    u64 block10[1];
-    u64 block11[9];
-    u64 block12[12];
-    u64 block13[10];
-    u64 block14[48];
-    u64 block15[12];
-    u64 block16[48];
-    u64 block17[12];
-    u64 block18[3];
-    u64 block19[11];
-    u64 block20[6];
-    u64 block21[1];
-    u64 block22[1];
-    u64 block23[1];
-    u64 block24[4];
-    u64 block25[9];
-    u64 block26[9];
-    u64 block27[9];
-    v40 = ADDRESS(block0);
-    v41 = ADDRESS(block1);
-    v42 = ADDRESS(block2);
-    v43 = ADDRESS(block3);
-    v44 = ADDRESS(block4);
-    v45 = ADDRESS(block5);
-    v46 = ADDRESS(block6);
-    v47 = ADDRESS(block7);
-    v48 = ADDRESS(block8);
-    v49 = ADDRESS(block9);
-    v50 = ADDRESS(block10);
-    v51 = ADDRESS(block11);
-    v52 = ADDRESS(block12);
-    v53 = ADDRESS(block13);
-    v54 = ADDRESS(block14);
-    v55 = ADDRESS(block15);
-    v56 = ADDRESS(block16);
-    v57 = ADDRESS(block17);
-    v58 = ADDRESS(block18);
-    v59 = ADDRESS(block19);
-    v60 = ADDRESS(block20);
-    v61 = ADDRESS(block21);
-    v62 = ADDRESS(block22);
-    v63 = ADDRESS(block23);
-    v64 = ADDRESS(block24);
-    v65 = ADDRESS(block25);
-    v66 = ADDRESS(block26);
-    v67 = ADDRESS(block27);
-    memory_set(v67, 0u, 68u);
-    memory_set(a8, 0u, 88u);
-    memory_set(v64, 0u, 32u);
-    memory_set(v65, 0u, 68u);
-    memory_set(v66, 0u, 68u);
-    v68 = load_address(a0);
-    f20(v64, v68, a1, a4, a7);
-    v69 = load8(v64);
-    v70 = v69 == 0u;
-    if (v70) { goto L1; }
-    else { goto L97; }
+    u64 block3[2];
+    u64 block4[2];
+    u64 block5[2];
+    u64 block6[3];
+    u64 block7[2];
+    u64 block8[48];
+    u64 block9[2];
+    u64 block10[48];
+    u64 block11[2];
+    u64 block12[3];
+    u64 block13[11];
+    u64 block14[6];
+    u64 block15[1];
+    u64 block16[1];
+    u64 block17[1];
+    u64 block18[4];
+    v38 = ADDRESS(block0);
+    v39 = ADDRESS(block1);
+    v40 = ADDRESS(block2);
+    v41 = ADDRESS(block3);
+    v42 = ADDRESS(block4);
+    v43 = ADDRESS(block5);
+    v44 = ADDRESS(block6);
+    v45 = ADDRESS(block7);
+    v46 = ADDRESS(block8);
+    v47 = ADDRESS(block9);
+    v48 = ADDRESS(block10);
+    v49 = ADDRESS(block11);
+    v50 = ADDRESS(block12);
+    v51 = ADDRESS(block13);
+    v52 = ADDRESS(block14);
+    v53 = ADDRESS(block15);
+    v54 = ADDRESS(block16);
+    v55 = ADDRESS(block17);
+    v56 = ADDRESS(block18);
+    v57 = a8 + 16u * 1u;
+    memory_set(v56, 0u, 32u);
+    v58 = load_address(a0);
+    f20(v56, v58, a1, a4, a7);
+    v59 = load8(v56);
+    v60 = v59 == 0u;
+    if (v60) { goto L1; }
+    else { goto L96; }
 L1:;
-    v71 = v64 + 8u * 1u;
-    v72 = load8(v71);
-    v73 = v64 + 9u * 1u;
-    v74 = load8(v73);
-    v75 = v64 + 16u * 1u;
-    v76 = load_address(v75);
-    v77 = v64 + 24u * 1u;
-    v78 = load64(v77);
-    v79 = load_address(a0);
-    v80 = v79 + 448u * 1u;
-    v81 = load8(v80);
-    v82 = v81 == 1u;
-    if (v82) { goto L2; }
-    else { goto L37; }
+    v61 = v56 + 8u * 1u;
+    v62 = load8(v61);
+    v63 = v56 + 9u * 1u;
+    v64 = load8(v63);
+    v65 = v56 + 16u * 1u;
+    v66 = load_address(v65);
+    v67 = v56 + 24u * 1u;
+    v68 = load64(v67);
+    v69 = load_address(a0);
+    v70 = v69 + 448u * 1u;
+    v71 = load8(v70);
+    v72 = v71 == 1u;
+    if (v72) { goto L2; }
+    else { goto L36; }
 L2:;
-    v83 = a3 < 54u;
+    v73 = a3 < 54u;
     if (a5) { goto L3; }
     else { goto L15; }
 L3:;
-    memory_set(v63, 0u, 3u);
-    if (v83) { goto L9; }
+    memory_set(v55, 0u, 3u);
+    if (v73) { goto L9; }
     else { goto L4; }
 L4:;
-    v84 = load8(a2);
-    v85 = (u8)((u32)v84 & (u32)15u);
-    v86 = v85 == 13u;
-    if (v86) { goto L5; }
+    v74 = load8(a2);
+    v75 = (u8)((u32)v74 & (u32)15u);
+    v76 = v75 == 13u;
+    if (v76) { goto L5; }
     else { goto L9; }
 L5:;
-    v87 = a2 + 1u * 1u;
-    v88 = load8(v87);
-    v89 = (u8)((u32)v88 & (u32)15u);
-    v90 = v89 == 2u;
-    if (v90) { goto L6; }
+    v77 = a2 + 1u * 1u;
+    v78 = load8(v77);
+    v79 = (u8)((u32)v78 & (u32)15u);
+    v80 = v79 == 2u;
+    if (v80) { goto L6; }
     else { goto L9; }
 L6:;
-    v91 = a2 + 2u * 1u;
-    v92 = load8(v91);
-    v93 = a2 + 3u * 1u;
-    v94 = load8(v93);
-    v95 = (u16)v92;
-    v96 = (u16)((u32)v95 << (8u & 15u));
-    v97 = (u16)v94;
-    v98 = (u16)((u32)v96 | (u32)v97);
-    v99 = (u64)v98;
-    v100 = a3 < v99;
-    v101 = (u16)((u32)v98 + (u32)64063u);
-    v102 = v101 < 64117u;
-    v103 = (u8)(((u32)v102 | (u32)v100) & UINT64_C(1));
-    if (v103) { goto L9; }
+    v81 = a2 + 2u * 1u;
+    v82 = load8(v81);
+    v83 = a2 + 3u * 1u;
+    v84 = load8(v83);
+    v85 = (u16)v82;
+    v86 = (u16)((u32)v85 << (8u & 15u));
+    v87 = (u16)v84;
+    v88 = (u16)((u32)v86 | (u32)v87);
+    v89 = (u64)v88;
+    v90 = a3 < v89;
+    v91 = (u16)((u32)v88 + (u32)64063u);
+    v92 = v91 < 64117u;
+    v93 = (u8)(((u32)v92 | (u32)v90) & UINT64_C(1));
+    if (v93) { goto L9; }
     else { goto L7; }
 L7:;
-    v104 = a2 + 48u * 1u;
-    v105 = load8(v104);
-    v106 = a2 + 49u * 1u;
-    v107 = load8(v106);
-    v108 = (u16)v105;
-    v109 = (u16)((u32)v108 << (8u & 15u));
-    v110 = (u16)v107;
-    v111 = (u16)((u32)v109 | (u32)v110);
-    v112 = v111 == 1u;
-    if (v112) { goto L8; }
+    v94 = a2 + 48u * 1u;
+    v95 = load8(v94);
+    v96 = a2 + 49u * 1u;
+    v97 = load8(v96);
+    v98 = (u16)v95;
+    v99 = (u16)((u32)v98 << (8u & 15u));
+    v100 = (u16)v97;
+    v101 = (u16)((u32)v99 | (u32)v100);
+    v102 = v101 == 1u;
+    if (v102) { goto L8; }
     else { goto L9; }
 L8:;
-    v113 = a2 + 46u * 1u;
-    v114 = load8(v113);
-    v115 = (u8)((u32)v114 & (u32)15u);
-    v116 = a2 + 50u * 1u;
-    v117 = load8(v116);
-    v118 = (u64)v117;
-    v119 = (u64)((u64)v118 << (8u & 63u));
-    v120 = a2 + 51u * 1u;
-    v121 = load8(v120);
-    v122 = (u64)v121;
-    v123 = (u64)((u64)v119 | (u64)v122);
-    v124 = (u64)((u64)v123 + (u64)52u);
-    v125 = v124 == v99;
-    v126 = (u64)((u64)v99 & (u64)1u);
-    v127 = v126 == 0u;
-    v128 = (u8)(((u32)v127 & (u32)v125) & UINT64_C(1));
-    v129 = v115 < 5u;
-    v130 = v128 ? v129 : 0u;
-    if (v130) { v9 = v115; v10 = 1u; goto L12; }
+    v103 = a2 + 46u * 1u;
+    v104 = load8(v103);
+    v105 = (u8)((u32)v104 & (u32)15u);
+    v106 = a2 + 50u * 1u;
+    v107 = load8(v106);
+    v108 = (u64)v107;
+    v109 = (u64)((u64)v108 << (8u & 63u));
+    v110 = a2 + 51u * 1u;
+    v111 = load8(v110);
+    v112 = (u64)v111;
+    v113 = (u64)((u64)v109 | (u64)v112);
+    v114 = (u64)((u64)v113 + (u64)52u);
+    v115 = v114 == v89;
+    v116 = (u64)((u64)v89 & (u64)1u);
+    v117 = v116 == 0u;
+    v118 = (u8)(((u32)v117 & (u32)v115) & UINT64_C(1));
+    v119 = v105 < 5u;
+    v120 = v118 ? v119 : 0u;
+    if (v120) { v9 = v105; v10 = 1u; goto L12; }
     else { goto L9; }
 L9:;
-    f8(v63, a2, a3);
-    v131 = load8(v63);
-    v132 = v131 == 0u;
-    if (v132) { goto L10; }
+    f8(v55, a2, a3);
+    v121 = load8(v55);
+    v122 = v121 == 0u;
+    if (v122) { goto L10; }
     else { goto L11; }
 L10:;
-    v133 = v63 + 1u * 1u;
-    v134 = load8(v133);
-    v135 = v63 + 2u * 1u;
-    v136 = load8(v135);
-    v137 = v136 == 0u;
-    v9 = v134; v10 = v137; goto L12;
+    v123 = v55 + 1u * 1u;
+    v124 = load8(v123);
+    v125 = v55 + 2u * 1u;
+    v126 = load8(v125);
+    v127 = v126 == 0u;
+    v9 = v124; v10 = v127; goto L12;
 L11:;
-    goto L36;
+    goto L35;
 L12:;
-    v138 = v9 == 1u;
-    if (v138) { goto L13; }
-    else { goto L36; }
+    v128 = v9 == 1u;
+    if (v128) { goto L13; }
+    else { goto L35; }
 L13:;
-    v139 = v10 ? 52u : 54u;
-    v140 = v10 ? 53u : 55u;
-    v141 = a2 + v139 * 1u;
-    v142 = load8(v141);
-    v143 = a2 + v140 * 1u;
-    v144 = load8(v143);
-    v145 = (u16)v142;
-    v146 = (u16)((u32)v145 << (8u & 15u));
-    v147 = (u16)v144;
-    v148 = (u16)((u32)v146 | (u32)v147);
-    v149 = v148 == 8199u;
-    if (v149) { goto L35; }
+    v129 = v10 ? 52u : 54u;
+    v130 = v10 ? 53u : 55u;
+    v131 = a2 + v129 * 1u;
+    v132 = load8(v131);
+    v133 = a2 + v130 * 1u;
+    v134 = load8(v133);
+    v135 = (u16)v132;
+    v136 = (u16)((u32)v135 << (8u & 15u));
+    v137 = (u16)v134;
+    v138 = (u16)((u32)v136 | (u32)v137);
+    v139 = v138 == 8199u;
+    if (v139) { goto L95; }
     else { goto L14; }
 L14:;
-    v150 = a0 + 841u * 1u;
-    v151 = load8(v150);
-    v152 = (u8)((v151) & UINT64_C(1));
-    v11 = v152; v12 = v150; v13 = 1u; goto L39;
+    v140 = a0 + 841u * 1u;
+    v141 = load8(v140);
+    v142 = (u8)((v141) & UINT64_C(1));
+    v11 = v142; v12 = v140; v13 = 1u; goto L38;
 L15:;
-    memory_set(v61, 0u, 3u);
-    if (v83) { goto L21; }
+    memory_set(v53, 0u, 3u);
+    if (v73) { goto L21; }
     else { goto L16; }
 L16:;
-    v153 = load8(a2);
-    v154 = (u8)((u32)v153 & (u32)15u);
-    v155 = v154 == 13u;
-    if (v155) { goto L17; }
+    v143 = load8(a2);
+    v144 = (u8)((u32)v143 & (u32)15u);
+    v145 = v144 == 13u;
+    if (v145) { goto L17; }
     else { goto L21; }
 L17:;
-    v156 = a2 + 1u * 1u;
-    v157 = load8(v156);
-    v158 = (u8)((u32)v157 & (u32)15u);
-    v159 = v158 == 2u;
-    if (v159) { goto L18; }
+    v146 = a2 + 1u * 1u;
+    v147 = load8(v146);
+    v148 = (u8)((u32)v147 & (u32)15u);
+    v149 = v148 == 2u;
+    if (v149) { goto L18; }
     else { goto L21; }
 L18:;
-    v160 = a2 + 2u * 1u;
-    v161 = load8(v160);
-    v162 = a2 + 3u * 1u;
-    v163 = load8(v162);
-    v164 = (u16)v161;
-    v165 = (u16)((u32)v164 << (8u & 15u));
-    v166 = (u16)v163;
-    v167 = (u16)((u32)v165 | (u32)v166);
-    v168 = (u64)v167;
-    v169 = a3 < v168;
-    v170 = (u16)((u32)v167 + (u32)64063u);
-    v171 = v170 < 64117u;
-    v172 = (u8)(((u32)v171 | (u32)v169) & UINT64_C(1));
-    if (v172) { goto L21; }
+    v150 = a2 + 2u * 1u;
+    v151 = load8(v150);
+    v152 = a2 + 3u * 1u;
+    v153 = load8(v152);
+    v154 = (u16)v151;
+    v155 = (u16)((u32)v154 << (8u & 15u));
+    v156 = (u16)v153;
+    v157 = (u16)((u32)v155 | (u32)v156);
+    v158 = (u64)v157;
+    v159 = a3 < v158;
+    v160 = (u16)((u32)v157 + (u32)64063u);
+    v161 = v160 < 64117u;
+    v162 = (u8)(((u32)v161 | (u32)v159) & UINT64_C(1));
+    if (v162) { goto L21; }
     else { goto L19; }
 L19:;
-    v173 = a2 + 48u * 1u;
-    v174 = load8(v173);
-    v175 = a2 + 49u * 1u;
-    v176 = load8(v175);
-    v177 = (u16)v174;
-    v178 = (u16)((u32)v177 << (8u & 15u));
-    v179 = (u16)v176;
-    v180 = (u16)((u32)v178 | (u32)v179);
-    v181 = v180 == 1u;
-    if (v181) { goto L20; }
+    v163 = a2 + 48u * 1u;
+    v164 = load8(v163);
+    v165 = a2 + 49u * 1u;
+    v166 = load8(v165);
+    v167 = (u16)v164;
+    v168 = (u16)((u32)v167 << (8u & 15u));
+    v169 = (u16)v166;
+    v170 = (u16)((u32)v168 | (u32)v169);
+    v171 = v170 == 1u;
+    if (v171) { goto L20; }
     else { goto L21; }
 L20:;
-    v182 = a2 + 46u * 1u;
-    v183 = load8(v182);
-    v184 = (u8)((u32)v183 & (u32)15u);
-    v185 = a2 + 50u * 1u;
-    v186 = load8(v185);
-    v187 = (u64)v186;
-    v188 = (u64)((u64)v187 << (8u & 63u));
-    v189 = a2 + 51u * 1u;
-    v190 = load8(v189);
-    v191 = (u64)v190;
-    v192 = (u64)((u64)v188 | (u64)v191);
-    v193 = (u64)((u64)v192 + (u64)52u);
-    v194 = v193 == v168;
-    v195 = (u64)((u64)v168 & (u64)1u);
-    v196 = v195 == 0u;
-    v197 = (u8)(((u32)v196 & (u32)v194) & UINT64_C(1));
-    v198 = v184 < 5u;
-    v199 = v197 ? v198 : 0u;
-    if (v199) { goto L23; }
+    v172 = a2 + 46u * 1u;
+    v173 = load8(v172);
+    v174 = (u8)((u32)v173 & (u32)15u);
+    v175 = a2 + 50u * 1u;
+    v176 = load8(v175);
+    v177 = (u64)v176;
+    v178 = (u64)((u64)v177 << (8u & 63u));
+    v179 = a2 + 51u * 1u;
+    v180 = load8(v179);
+    v181 = (u64)v180;
+    v182 = (u64)((u64)v178 | (u64)v181);
+    v183 = (u64)((u64)v182 + (u64)52u);
+    v184 = v183 == v158;
+    v185 = (u64)((u64)v158 & (u64)1u);
+    v186 = v185 == 0u;
+    v187 = (u8)(((u32)v186 & (u32)v184) & UINT64_C(1));
+    v188 = v174 < 5u;
+    v189 = v187 ? v188 : 0u;
+    if (v189) { goto L23; }
     else { goto L21; }
 L21:;
-    f8(v61, a2, a3);
-    v200 = load8(v61);
-    v201 = v200 == 0u;
-    if (v201) { goto L23; }
+    f8(v53, a2, a3);
+    v190 = load8(v53);
+    v191 = v190 == 0u;
+    if (v191) { goto L23; }
     else { goto L22; }
 L22:;
     goto L34;
 L23:;
-    v202 = v79 + 452u * 1u;
-    v203 = load16(v202);
-    v204 = (u64)v203;
-    v205 = v79 + 454u * 1u;
-    memory_set(v62, 0u, 3u);
-    v206 = v203 < 54u;
-    if (v206) { goto L29; }
+    v192 = v69 + 452u * 1u;
+    v193 = load16(v192);
+    v194 = (u64)v193;
+    v195 = v69 + 454u * 1u;
+    memory_set(v54, 0u, 3u);
+    v196 = v193 < 54u;
+    if (v196) { goto L29; }
     else { goto L24; }
 L24:;
-    v207 = load8(v205);
-    v208 = (u8)((u32)v207 & (u32)15u);
-    v209 = v208 == 13u;
-    if (v209) { goto L25; }
+    v197 = load8(v195);
+    v198 = (u8)((u32)v197 & (u32)15u);
+    v199 = v198 == 13u;
+    if (v199) { goto L25; }
     else { goto L29; }
 L25:;
-    v210 = v79 + 455u * 1u;
-    v211 = load8(v210);
-    v212 = (u8)((u32)v211 & (u32)15u);
-    v213 = v212 == 2u;
-    if (v213) { goto L26; }
+    v200 = v69 + 455u * 1u;
+    v201 = load8(v200);
+    v202 = (u8)((u32)v201 & (u32)15u);
+    v203 = v202 == 2u;
+    if (v203) { goto L26; }
     else { goto L29; }
 L26:;
-    v214 = v79 + 456u * 1u;
-    v215 = load8(v214);
-    v216 = v79 + 457u * 1u;
-    v217 = load8(v216);
-    v218 = (u16)v215;
-    v219 = (u16)((u32)v218 << (8u & 15u));
-    v220 = (u16)v217;
-    v221 = (u16)((u32)v219 | (u32)v220);
-    v222 = (u64)v221;
-    v223 = v203 < v221;
-    v224 = (u16)((u32)v221 + (u32)64063u);
-    v225 = v224 < 64117u;
-    v226 = (u8)(((u32)v223 | (u32)v225) & UINT64_C(1));
-    if (v226) { goto L29; }
+    v204 = v69 + 456u * 1u;
+    v205 = load8(v204);
+    v206 = v69 + 457u * 1u;
+    v207 = load8(v206);
+    v208 = (u16)v205;
+    v209 = (u16)((u32)v208 << (8u & 15u));
+    v210 = (u16)v207;
+    v211 = (u16)((u32)v209 | (u32)v210);
+    v212 = (u64)v211;
+    v213 = v193 < v211;
+    v214 = (u16)((u32)v211 + (u32)64063u);
+    v215 = v214 < 64117u;
+    v216 = (u8)(((u32)v213 | (u32)v215) & UINT64_C(1));
+    if (v216) { goto L29; }
     else { goto L27; }
 L27:;
-    v227 = v79 + 502u * 1u;
-    v228 = load8(v227);
-    v229 = v79 + 503u * 1u;
-    v230 = load8(v229);
-    v231 = (u16)v228;
-    v232 = (u16)((u32)v231 << (8u & 15u));
-    v233 = (u16)v230;
-    v234 = (u16)((u32)v232 | (u32)v233);
-    v235 = v234 == 1u;
-    if (v235) { goto L28; }
+    v217 = v69 + 502u * 1u;
+    v218 = load8(v217);
+    v219 = v69 + 503u * 1u;
+    v220 = load8(v219);
+    v221 = (u16)v218;
+    v222 = (u16)((u32)v221 << (8u & 15u));
+    v223 = (u16)v220;
+    v224 = (u16)((u32)v222 | (u32)v223);
+    v225 = v224 == 1u;
+    if (v225) { goto L28; }
     else { goto L29; }
 L28:;
-    v236 = v79 + 500u * 1u;
-    v237 = load8(v236);
-    v238 = (u8)((u32)v237 & (u32)15u);
-    v239 = v79 + 504u * 1u;
-    v240 = load8(v239);
-    v241 = (u64)v240;
-    v242 = (u64)((u64)v241 << (8u & 63u));
-    v243 = v79 + 505u * 1u;
-    v244 = load8(v243);
-    v245 = (u64)v244;
-    v246 = (u64)((u64)v242 | (u64)v245);
-    v247 = (u64)((u64)v246 + (u64)52u);
-    v248 = v247 == v222;
-    v249 = (u64)((u64)v222 & (u64)1u);
-    v250 = v249 == 0u;
-    v251 = (u8)(((u32)v250 & (u32)v248) & UINT64_C(1));
-    v252 = v238 < 5u;
-    v253 = v251 ? v252 : 0u;
-    if (v253) { goto L31; }
+    v226 = v69 + 500u * 1u;
+    v227 = load8(v226);
+    v228 = (u8)((u32)v227 & (u32)15u);
+    v229 = v69 + 504u * 1u;
+    v230 = load8(v229);
+    v231 = (u64)v230;
+    v232 = (u64)((u64)v231 << (8u & 63u));
+    v233 = v69 + 505u * 1u;
+    v234 = load8(v233);
+    v235 = (u64)v234;
+    v236 = (u64)((u64)v232 | (u64)v235);
+    v237 = (u64)((u64)v236 + (u64)52u);
+    v238 = v237 == v212;
+    v239 = (u64)((u64)v212 & (u64)1u);
+    v240 = v239 == 0u;
+    v241 = (u8)(((u32)v240 & (u32)v238) & UINT64_C(1));
+    v242 = v228 < 5u;
+    v243 = v241 ? v242 : 0u;
+    if (v243) { goto L31; }
     else { goto L29; }
 L29:;
-    f8(v62, v205, v204);
-    v254 = load8(v62);
-    v255 = v254 == 0u;
-    if (v255) { goto L31; }
+    f8(v54, v195, v194);
+    v244 = load8(v54);
+    v245 = v244 == 0u;
+    if (v245) { goto L31; }
     else { goto L30; }
 L30:;
     goto L34;
 L31:;
-    v256 = a2 + 28u * 1u;
+    v246 = a2 + 28u * 1u;
+    v247 = load8(v246);
+    v248 = a2 + 29u * 1u;
+    v249 = load8(v248);
+    v250 = (u16)v247;
+    v251 = (u16)((u32)v250 << (8u & 15u));
+    v252 = (u16)v249;
+    v253 = (u16)((u32)v251 | (u32)v252);
+    v254 = v69 + 482u * 1u;
+    v255 = load8(v254);
+    v256 = v69 + 483u * 1u;
     v257 = load8(v256);
-    v258 = a2 + 29u * 1u;
-    v259 = load8(v258);
+    v258 = (u16)v255;
+    v259 = (u16)((u32)v258 << (8u & 15u));
     v260 = (u16)v257;
-    v261 = (u16)((u32)v260 << (8u & 15u));
-    v262 = (u16)v259;
-    v263 = (u16)((u32)v261 | (u32)v262);
-    v264 = v79 + 482u * 1u;
-    v265 = load8(v264);
-    v266 = v79 + 483u * 1u;
-    v267 = load8(v266);
-    v268 = (u16)v265;
-    v269 = (u16)((u32)v268 << (8u & 15u));
-    v270 = (u16)v267;
-    v271 = (u16)((u32)v269 | (u32)v270);
-    v272 = v263 == v271;
-    if (v272) { goto L32; }
+    v261 = (u16)((u32)v259 | (u32)v260);
+    v262 = v253 == v261;
+    if (v262) { goto L32; }
     else { goto L34; }
 L32:;
-    v273 = v79 + 474u * 1u;
-    v274 = load64(v273);
-    v275 = a2 + 20u * 1u;
-    v276 = load64(v275);
-    v277 = v276 == v274;
-    if (v277) { goto L33; }
+    v263 = v69 + 474u * 1u;
+    v264 = load64(v263);
+    v265 = a2 + 20u * 1u;
+    v266 = load64(v265);
+    v267 = v266 == v264;
+    if (v267) { goto L33; }
     else { goto L34; }
 L33:;
-    v278 = f86(a0, a2, a3);
-    if (v278) { goto L35; }
+    v268 = f79(a0, a2, a3);
+    if (v268) { goto L95; }
     else { goto L34; }
 L34:;
-    v279 = v79 + 424u * 1u;
-    v280 = load_address(v279);
-    v281 = v79 + 432u * 1u;
-    v282 = load64(v281);
-    f87(v60, v79, v280, v282, a2, a3);
-    v283 = load8(v60);
-    v284 = v283 == 1u;
-    if (v284) { goto L35; }
-    else { goto L37; }
+    v269 = v69 + 424u * 1u;
+    v270 = load_address(v269);
+    v271 = v69 + 432u * 1u;
+    v272 = load64(v271);
+    f80(v52, v69, v270, v272, a2, a3);
+    v273 = load8(v52);
+    v274 = v273 == 1u;
+    if (v274) { goto L95; }
+    else { goto L36; }
 L35:;
-    v39 = 123u; goto L99;
+    v275 = a0 + 841u * 1u;
+    v276 = load8(v275);
+    v277 = (u8)((v276) & UINT64_C(1));
+    v11 = v277; v12 = v275; v13 = 1u; goto L38;
 L36:;
-    v285 = a0 + 841u * 1u;
-    v286 = load8(v285);
-    v287 = (u8)((v286) & UINT64_C(1));
-    v11 = v287; v12 = v285; v13 = 1u; goto L39;
+    v278 = a0 + 841u * 1u;
+    v279 = load8(v278);
+    v280 = (u8)((v279) & UINT64_C(1));
+    v281 = (u8)(((u32)v280 ^ (u32)1u) & UINT64_C(1));
+    v282 = (u8)(((u32)a5 | (u32)v281) & UINT64_C(1));
+    if (v282) { v11 = v280; v12 = v278; v13 = 1u; goto L38; }
+    else { goto L37; }
 L37:;
-    v288 = a0 + 841u * 1u;
-    v289 = load8(v288);
-    v290 = (u8)((v289) & UINT64_C(1));
-    v291 = (u8)(((u32)v290 ^ (u32)1u) & UINT64_C(1));
-    v292 = (u8)(((u32)a5 | (u32)v291) & UINT64_C(1));
-    if (v292) { v11 = v290; v12 = v288; v13 = 1u; goto L39; }
-    else { goto L38; }
+    v283 = f79(a0, a2, a3);
+    v11 = 1u; v12 = v278; v13 = v283; goto L38;
 L38:;
-    v293 = f86(a0, a2, a3);
-    v11 = 1u; v12 = v288; v13 = v293; goto L39;
+    v284 = a0 + 843u * 1u;
+    v285 = load8(v284);
+    v286 = (u8)((v285) & UINT64_C(1));
+    if (v286) { goto L39; }
+    else { goto L97; }
 L39:;
-    v294 = a0 + 843u * 1u;
-    v295 = load8(v294);
-    v296 = (u8)((v295) & UINT64_C(1));
-    if (v296) { goto L40; }
-    else { goto L98; }
+    v287 = a0 + 816u * 1u;
+    v288 = load64(v287);
+    v289 = v288 != 0u;
+    v290 = (u8)(((u32)v13 ^ (u32)1u) & UINT64_C(1));
+    v291 = (u8)(((u32)v289 | (u32)v290) & UINT64_C(1));
+    if (v291) { goto L46; }
+    else { goto L40; }
 L40:;
-    v297 = a0 + 816u * 1u;
+    v292 = load_address(a0);
+    v293 = a0 + 784u * 1u;
+    v294 = load64(v293);
+    v295 = a0 + 808u * 1u;
+    v296 = load64(v295);
+    v297 = a0 + 800u * 1u;
     v298 = load64(v297);
-    v299 = v298 != 0u;
-    v300 = (u8)(((u32)v13 ^ (u32)1u) & UINT64_C(1));
-    v301 = (u8)(((u32)v299 | (u32)v300) & UINT64_C(1));
-    if (v301) { goto L47; }
-    else { goto L41; }
-L41:;
-    v302 = load_address(a0);
-    v303 = a0 + 784u * 1u;
-    v304 = load64(v303);
-    v305 = a0 + 808u * 1u;
+    v299 = (u64)((u64)v294 - (u64)v296);
+    v300 = (u64)((u64)v299 + (u64)v298);
+    v301 = v292 + 240u * 1u;
+    v302 = load8(v301);
+    v303 = v302 == 0u;
+    v304 = v303 ? 376u : 256u;
+    v305 = v292 + v304 * 1u;
     v306 = load64(v305);
-    v307 = a0 + 800u * 1u;
-    v308 = load64(v307);
-    v309 = (u64)((u64)v304 - (u64)v306);
-    v310 = (u64)((u64)v309 + (u64)v308);
-    v311 = v302 + 240u * 1u;
-    v312 = load8(v311);
-    v313 = v312 == 0u;
-    v314 = v313 ? 376u : 256u;
-    v315 = v302 + v314 * 1u;
-    v316 = load64(v315);
-    v317 = (u64)((u64)v316 << (1u & 63u));
-    v318 = (u64)((u64)v317 & (u64)UINT64_C(131070));
-    v319 = (u64)((u64)v318 + (u64)UINT64_C(18446744073709551615));
-    v320 = v302 + 416u * 1u;
-    v321 = load16(v320);
-    v322 = (u64)v321;
-    v323 = v322 > v319 ? v322 : v319;
-    v324 = v323 > v310;
-    if (v324) { goto L42; }
-    else { goto L48; }
+    v307 = (u64)((u64)v306 << (1u & 63u));
+    v308 = (u64)((u64)v307 & (u64)UINT64_C(131070));
+    v309 = (u64)((u64)v308 + (u64)UINT64_C(18446744073709551615));
+    v310 = v292 + 416u * 1u;
+    v311 = load16(v310);
+    v312 = (u64)v311;
+    v313 = v312 > v309 ? v312 : v309;
+    v314 = v313 > v300;
+    if (v314) { goto L41; }
+    else { v17 = v292; goto L48; }
+L41:;
+    v315 = v292 + 384u * 1u;
+    memory_set(v51, 0u, 88u);
+    f21(v51, v315);
+    v316 = v51 + 80u * 1u;
+    v317 = load64(v316);
+    v318 = v317 == 0u;
+    if (v318) { v16 = v309; goto L45; }
+    else { goto L42; }
 L42:;
-    v325 = v302 + 384u * 1u;
-    memory_set(v59, 0u, 88u);
-    f21(v59, v325);
-    v326 = v59 + 80u * 1u;
-    v327 = load64(v326);
-    v328 = v327 == 0u;
-    if (v328) { v16 = v319; goto L46; }
-    else { goto L43; }
+    v319 = v51 + 16u * 1u;
+    v320 = load_address(v51);
+    v14 = 0u; v15 = 0u; goto L43;
 L43:;
-    v329 = v59 + 16u * 1u;
-    v330 = load_address(v59);
-    v14 = 0u; v15 = 0u; goto L44;
+    v321 = v319 + v15 * 1u;
+    v322 = load8(v321);
+    v323 = (u64)v322;
+    v324 = (u64)((u64)v323 * (u64)2144u);
+    v325 = v320 + v324 * 1u;
+    v326 = v325 + 1448u * 1u;
+    v327 = load64(v326);
+    v328 = v14 > v327 ? v14 : v327;
+    v329 = (u64)((u64)v15 + (u64)1u);
+    v330 = v329 == v317;
+    if (v330) { goto L44; }
+    else { v14 = v328; v15 = v329; goto L43; }
 L44:;
-    v331 = v329 + v15 * 1u;
-    v332 = load8(v331);
-    v333 = (u64)v332;
-    v334 = (u64)((u64)v333 * (u64)2144u);
-    v335 = v330 + v334 * 1u;
-    v336 = v335 + 1448u * 1u;
-    v337 = load64(v336);
-    v338 = v14 > v337 ? v14 : v337;
-    v339 = (u64)((u64)v15 + (u64)1u);
-    v340 = v339 == v327;
-    if (v340) { goto L45; }
-    else { v14 = v338; v15 = v339; goto L44; }
+    v331 = v328 > v309 ? v328 : v309;
+    v16 = v331; goto L45;
 L45:;
-    v341 = v338 > v319 ? v338 : v319;
-    v16 = v341; goto L46;
+    v332 = v16 > v300;
+    if (v332) { goto L97; }
+    else { v17 = v292; goto L48; }
 L46:;
-    v342 = v16 > v310;
-    if (v342) { goto L98; }
-    else { goto L48; }
+    v333 = (u8)(((u32)v13 | (u32)v289) & UINT64_C(1));
+    if (v333) { goto L97; }
+    else { goto L47; }
 L47:;
-    v343 = (u8)(((u32)v13 | (u32)v299) & UINT64_C(1));
-    if (v343) { goto L98; }
-    else { goto L48; }
+    v334 = load_address(a0);
+    v17 = v334; goto L48;
 L48:;
     if (v13) { goto L58; }
     else { goto L49; }
 L49:;
-    v344 = load_address(a0);
-    v345 = a0 + 8u * 1u;
-    memory_cpy(v56, v344, 384u);
-    memory_move(v344, v345, 384u);
-    memory_cpy(v345, v56, 384u);
-    v346 = load_address(a0);
-    store64(v58, 0u);
-    store8(v58, v72);
-    v347 = v58 + 1u * 1u;
-    store8(v347, v74);
-    v348 = v58 + 8u * 1u;
-    store_address(v348, v76);
-    v349 = v58 + 16u * 1u;
-    store64(v349, v78);
-    v350 = f58(v346, a2, a3, v58);
-    if (v350) { goto L50; }
+    v335 = a0 + 8u * 1u;
+    memory_cpy(v48, v17, 384u);
+    memory_move(v17, v335, 384u);
+    memory_cpy(v335, v48, 384u);
+    v336 = load_address(a0);
+    store64(v50, 0u);
+    store8(v50, v62);
+    v337 = v50 + 1u * 1u;
+    store8(v337, v64);
+    v338 = v50 + 8u * 1u;
+    store_address(v338, v66);
+    v339 = v50 + 16u * 1u;
+    store64(v339, v68);
+    v340 = f51(v336, a2, a3, v50);
+    if (v340) { goto L50; }
     else { goto L51; }
 L50:;
-    memory_set(v55, 0u, 96u);
-    f44(v55, v346, a1, a2, a3, a6, a7);
-    v351 = v55 + 8u * 1u;
-    v352 = load64(v351);
-    v17 = 5u; v18 = v352; goto L57;
+    memory_set(v47, 0u, 16u);
+    f38(v47, v336, a1, a2, a3, a6, a7, v57);
+    v341 = v47 + 8u * 1u;
+    v342 = load64(v341);
+    v18 = 5u; v19 = 0u; v20 = v342; goto L57;
 L51:;
-    memory_set(v57, 0u, 96u);
-    switch (v72) {
+    memory_set(v49, 0u, 16u);
+    switch (v62) {
     case 0u: goto L52;
     case 1u: goto L53;
     case 2u: goto L54;
     default: goto L55;
     }
 L52:;
-    f44(v57, v346, a1, a2, a3, a6, a7);
+    f38(v49, v336, a1, a2, a3, a6, a7, v57);
     goto L56;
 L53:;
-    f64(v57, v346, a1, a2, a3, v74, a6, a7);
+    f57(v49, v336, a1, a2, a3, v64, a6, a7, v57);
     goto L56;
 L54:;
-    f69(v57, v346, a1, a2, a3, v76, v78, a6, a7);
+    f62(v49, v336, a1, a2, a3, v66, v68, a6, a7, v57);
     goto L56;
 L55:;
     UNREACHABLE;
 L56:;
-    v353 = load8(v57);
-    v354 = v57 + 1u * 1u;
-    v355 = load8(v354);
-    v356 = v57 + 8u * 1u;
-    v357 = load64(v356);
-    v358 = (u64)v353;
-    v359 = (u64)v355;
-    v360 = (u64)((u64)v359 << (8u & 63u));
-    v361 = (u64)((u64)v360 | (u64)v358);
-    v17 = v361; v18 = v357; goto L57;
+    v343 = load8(v49);
+    v344 = v49 + 1u * 1u;
+    v345 = load8(v344);
+    v346 = v49 + 8u * 1u;
+    v347 = load64(v346);
+    v18 = v343; v19 = v345; v20 = v347; goto L57;
 L57:;
-    v362 = load_address(a0);
-    memory_cpy(v54, v362, 384u);
-    memory_move(v362, v345, 384u);
-    memory_cpy(v345, v54, 384u);
-    memory_set(v67, 0u, 68u);
-    v36 = v17; v37 = v18; v38 = 0u; goto L86;
+    v348 = load_address(a0);
+    memory_cpy(v46, v348, 384u);
+    memory_move(v348, v335, 384u);
+    memory_cpy(v335, v46, 384u);
+    memory_set(v57, 0u, 68u);
+    v33 = v18; v34 = v19; v35 = v20; v36 = 0u; goto L84;
 L58:;
     if (v11) { goto L59; }
     else { goto L71; }
 L59:;
-    v363 = load_address(a0);
-    memory_set(v52, 0u, 96u);
+    memory_set(v45, 0u, 16u);
     if (a5) { goto L60; }
     else { goto L61; }
 L60:;
-    f22(v52, v363, a1, a2, a3, a6, a7);
-    v364 = load8(v52);
-    v365 = v52 + 8u * 1u;
-    v366 = load64(v365);
-    v22 = v366; v23 = v364; goto L70;
+    f22(v45, v17, a1, a2, a3, a6, a7, v57);
+    v349 = load8(v45);
+    v350 = v45 + 1u * 1u;
+    v351 = load8(v350);
+    v352 = v45 + 8u * 1u;
+    v353 = load64(v352);
+    v24 = v353; v25 = v351; v26 = v349; goto L70;
 L61:;
-    store64(v49, 0u);
-    store8(v49, v72);
-    v367 = v49 + 1u * 1u;
-    store8(v367, v74);
-    v368 = v49 + 8u * 1u;
-    store_address(v368, v76);
-    v369 = v49 + 16u * 1u;
-    store64(v369, v78);
-    v370 = f58(v363, a2, a3, v49);
-    if (v370) { goto L62; }
+    store64(v44, 0u);
+    store8(v44, v62);
+    v354 = v44 + 1u * 1u;
+    store8(v354, v64);
+    v355 = v44 + 8u * 1u;
+    store_address(v355, v66);
+    v356 = v44 + 16u * 1u;
+    store64(v356, v68);
+    v357 = f51(v17, a2, a3, v44);
+    if (v357) { goto L62; }
     else { goto L63; }
 L62:;
-    memory_set(v47, 0u, 96u);
-    f44(v47, v363, a1, a2, a3, a6, a7);
-    v371 = v47 + 24u * 1u;
-    v372 = v47 + 8u * 1u;
-    v373 = load64(v372);
-    memory_set(v50, 0u, 7u);
-    memory_cpy(v51, v371, 68u);
-    v19 = 5u; v20 = v373; v21 = 0u; goto L69;
+    memory_set(v42, 0u, 16u);
+    f38(v42, v17, a1, a2, a3, a6, a7, v57);
+    v358 = v42 + 8u * 1u;
+    v359 = load64(v358);
+    v21 = 5u; v22 = 0u; v23 = v359; goto L69;
 L63:;
-    memory_set(v48, 0u, 96u);
-    switch (v72) {
+    memory_set(v43, 0u, 16u);
+    switch (v62) {
     case 0u: goto L64;
     case 1u: goto L65;
     case 2u: goto L66;
     default: goto L67;
     }
 L64:;
-    f44(v48, v363, a1, a2, a3, a6, a7);
+    f38(v43, v17, a1, a2, a3, a6, a7, v57);
     goto L68;
 L65:;
-    f64(v48, v363, a1, a2, a3, v74, a6, a7);
+    f57(v43, v17, a1, a2, a3, v64, a6, a7, v57);
     goto L68;
 L66:;
-    f69(v48, v363, a1, a2, a3, v76, v78, a6, a7);
+    f62(v43, v17, a1, a2, a3, v66, v68, a6, a7, v57);
     goto L68;
 L67:;
     UNREACHABLE;
 L68:;
-    v374 = load8(v48);
-    v375 = v48 + 1u * 1u;
-    v376 = v48 + 8u * 1u;
-    v377 = load64(v376);
-    v378 = v48 + 16u * 1u;
-    v379 = load64(v378);
-    v380 = v48 + 24u * 1u;
-    memory_cpy(v50, v375, 7u);
-    memory_cpy(v51, v380, 68u);
-    v19 = v374; v20 = v377; v21 = v379; goto L69;
+    v360 = load8(v43);
+    v361 = v43 + 1u * 1u;
+    v362 = load8(v361);
+    v363 = v43 + 8u * 1u;
+    v364 = load64(v363);
+    v21 = v360; v22 = v362; v23 = v364; goto L69;
 L69:;
-    v381 = v52 + 1u * 1u;
-    memory_cpy(v381, v50, 7u);
-    v382 = v52 + 16u * 1u;
-    store64(v382, v21);
-    v383 = v52 + 24u * 1u;
-    memory_cpy(v383, v51, 68u);
-    v22 = v20; v23 = v19; goto L70;
+    v24 = v23; v25 = v22; v26 = v21; goto L70;
 L70:;
-    v384 = v52 + 1u * 1u;
-    v385 = load8(v384);
-    v386 = v52 + 16u * 1u;
-    memory_cpy(v53, v386, 76u);
-    v387 = a0 + 776u * 1u;
-    f73(v387, a6, v22);
-    v388 = a0 + 842u * 1u;
-    v389 = load8(v388);
-    v390 = (u8)((v389) & UINT64_C(1));
-    v391 = v23 == 5u;
-    v392 = (u8)(((u32)v391 | (u32)v390) & UINT64_C(1));
-    v393 = (u8)v392;
-    store8(v388, v393);
-    v394 = v53 + 8u * 1u;
-    v395 = (u64)v23;
-    v396 = (u64)v385;
-    v397 = (u64)((u64)v396 << (8u & 63u));
-    v398 = (u64)((u64)v397 | (u64)v395);
-    memory_cpy(v65, v394, 68u);
-    v32 = v65; v33 = v398; v34 = 0u; v35 = v22; goto L85;
+    v365 = a0 + 776u * 1u;
+    f66(v365, a6, v24);
+    v366 = a0 + 842u * 1u;
+    v367 = load8(v366);
+    v368 = (u8)((v367) & UINT64_C(1));
+    v369 = v26 == 5u;
+    v370 = (u8)(((u32)v369 | (u32)v368) & UINT64_C(1));
+    v371 = (u8)v370;
+    store8(v366, v371);
+    v33 = v26; v34 = v25; v35 = 0u; v36 = v24; goto L84;
 L71:;
-    v399 = load_address(a0);
-    memory_set(v45, 0u, 96u);
+    memory_set(v41, 0u, 16u);
     if (a5) { goto L72; }
     else { goto L73; }
 L72:;
-    f22(v45, v399, a1, a2, a3, a6, a7);
-    v400 = v45 + 8u * 1u;
-    v401 = load64(v400);
-    v402 = v45 + 16u * 1u;
-    v403 = load64(v402);
-    v27 = v403; v28 = v401; goto L82;
+    f22(v41, v17, a1, a2, a3, a6, a7, v57);
+    v372 = load8(v41);
+    v373 = v41 + 1u * 1u;
+    v374 = load8(v373);
+    v375 = v41 + 8u * 1u;
+    v376 = load64(v375);
+    v30 = v376; v31 = v374; v32 = v372; goto L82;
 L73:;
-    store64(v42, 0u);
-    store8(v42, v72);
-    v404 = v42 + 1u * 1u;
-    store8(v404, v74);
-    v405 = v42 + 8u * 1u;
-    store_address(v405, v76);
-    v406 = v42 + 16u * 1u;
-    store64(v406, v78);
-    v407 = f58(v399, a2, a3, v42);
-    if (v407) { goto L74; }
+    store64(v40, 0u);
+    store8(v40, v62);
+    v377 = v40 + 1u * 1u;
+    store8(v377, v64);
+    v378 = v40 + 8u * 1u;
+    store_address(v378, v66);
+    v379 = v40 + 16u * 1u;
+    store64(v379, v68);
+    v380 = f51(v17, a2, a3, v40);
+    if (v380) { goto L74; }
     else { goto L75; }
 L74:;
-    memory_set(v40, 0u, 96u);
-    f44(v40, v399, a1, a2, a3, a6, a7);
-    v408 = v40 + 24u * 1u;
-    v409 = v40 + 8u * 1u;
-    v410 = load64(v409);
-    memory_set(v43, 0u, 7u);
-    memory_cpy(v44, v408, 68u);
-    v24 = 5u; v25 = v410; v26 = 0u; goto L81;
+    memory_set(v38, 0u, 16u);
+    f38(v38, v17, a1, a2, a3, a6, a7, v57);
+    v381 = v38 + 8u * 1u;
+    v382 = load64(v381);
+    v27 = 5u; v28 = 0u; v29 = v382; goto L81;
 L75:;
-    memory_set(v41, 0u, 96u);
-    switch (v72) {
+    memory_set(v39, 0u, 16u);
+    switch (v62) {
     case 0u: goto L76;
     case 1u: goto L77;
     case 2u: goto L78;
     default: goto L79;
     }
 L76:;
-    f44(v41, v399, a1, a2, a3, a6, a7);
+    f38(v39, v17, a1, a2, a3, a6, a7, v57);
     goto L80;
 L77:;
-    f64(v41, v399, a1, a2, a3, v74, a6, a7);
+    f57(v39, v17, a1, a2, a3, v64, a6, a7, v57);
     goto L80;
 L78:;
-    f69(v41, v399, a1, a2, a3, v76, v78, a6, a7);
+    f62(v39, v17, a1, a2, a3, v66, v68, a6, a7, v57);
     goto L80;
 L79:;
     UNREACHABLE;
 L80:;
-    v411 = load8(v41);
-    v412 = v41 + 1u * 1u;
-    v413 = v41 + 8u * 1u;
-    v414 = load64(v413);
-    v415 = v41 + 16u * 1u;
-    v416 = load64(v415);
-    v417 = v41 + 24u * 1u;
-    memory_cpy(v43, v412, 7u);
-    memory_cpy(v44, v417, 68u);
-    v24 = v411; v25 = v414; v26 = v416; goto L81;
+    v383 = load8(v39);
+    v384 = v39 + 1u * 1u;
+    v385 = load8(v384);
+    v386 = v39 + 8u * 1u;
+    v387 = load64(v386);
+    v27 = v383; v28 = v385; v29 = v387; goto L81;
 L81:;
-    store8(v45, v24);
-    v418 = v45 + 1u * 1u;
-    memory_cpy(v418, v43, 7u);
-    v419 = v45 + 24u * 1u;
-    memory_cpy(v419, v44, 68u);
-    v27 = v26; v28 = v25; goto L82;
+    v30 = v29; v31 = v28; v32 = v27; goto L82;
 L82:;
-    v420 = load64(v45);
-    v421 = v45 + 24u * 1u;
-    memory_cpy(v46, v421, 68u);
-    v422 = (u64)((u64)v420 & (u64)255u);
-    v423 = v422 == 5u;
-    if (v423) { goto L83; }
-    else { v29 = v420; v30 = v28; v31 = v27; goto L84; }
+    v388 = v32 == 5u;
+    if (v388) { goto L83; }
+    else { v33 = v32; v34 = v31; v35 = v30; v36 = 0u; goto L84; }
 L83:;
-    v424 = a0 + 776u * 1u;
-    f73(v424, a6, v28);
+    v389 = a0 + 776u * 1u;
+    f66(v389, a6, v30);
     store8(v12, 1u);
-    v425 = a0 + 842u * 1u;
-    store8(v425, 1u);
-    v426 = (u64)((u64)v420 & (u64)65285u);
-    v29 = v426; v30 = 0u; v31 = v28; goto L84;
+    v390 = a0 + 842u * 1u;
+    store8(v390, 1u);
+    store64(a8, 0u);
+    v391 = a8 + 8u * 1u;
+    store64(v391, v30);
+    goto L89;
 L84:;
-    memory_cpy(v66, v46, 68u);
-    v32 = v66; v33 = v29; v34 = v30; v35 = v31; goto L85;
-L85:;
-    memory_cpy(v67, v32, 68u);
-    v36 = v33; v37 = v34; v38 = v35; goto L86;
-L86:;
-    v427 = (u8)(v36);
-    store64(a8, v37);
-    v428 = a8 + 8u * 1u;
-    store64(v428, v38);
-    v429 = a8 + 16u * 1u;
-    memory_cpy(v429, v67, 68u);
-    v430 = a8 + 84u * 1u;
-    store32(v430, 0u);
-    switch (v427) {
-    case 0u: goto L87;
-    case 9u: goto L95;
-    case 1u: v39 = 1u; goto L99;
-    case 2u: goto L88;
-    case 3u: goto L89;
-    case 4u: goto L90;
-    case 5u: goto L91;
-    case 6u: goto L92;
-    case 7u: goto L93;
-    case 8u: goto L94;
-    default: goto L96;
+    store64(a8, v35);
+    v392 = a8 + 8u * 1u;
+    store64(v392, v36);
+    switch (v33) {
+    case 0u: goto L85;
+    case 9u: goto L93;
+    case 1u: v37 = 1u; goto L98;
+    case 2u: goto L86;
+    case 3u: goto L87;
+    case 4u: goto L88;
+    case 5u: goto L89;
+    case 6u: goto L90;
+    case 7u: goto L91;
+    case 8u: goto L92;
+    default: goto L94;
     }
+L85:;
+    v393 = (u32)v34;
+    v394 = (u32)((u32)v393 + (u32)16u);
+    v37 = v394; goto L98;
+L86:;
+    v37 = 2u; goto L98;
 L87:;
-    v431 = (u32)(v36);
-    v432 = (u32)((u32)v431 >> (8u & 31u));
-    v433 = (u32)((u32)v432 & (u32)255u);
-    v434 = (u32)((u32)v433 + (u32)16u);
-    v39 = v434; goto L99;
+    v37 = 3u; goto L98;
 L88:;
-    v39 = 2u; goto L99;
+    v37 = 4u; goto L98;
 L89:;
-    v39 = 3u; goto L99;
+    v37 = 5u; goto L98;
 L90:;
-    v39 = 4u; goto L99;
+    v37 = 6u; goto L98;
 L91:;
-    v39 = 5u; goto L99;
+    v37 = 7u; goto L98;
 L92:;
-    v39 = 6u; goto L99;
+    v37 = 8u; goto L98;
 L93:;
-    v39 = 7u; goto L99;
+    v37 = 9u; goto L98;
 L94:;
-    v39 = 8u; goto L99;
-L95:;
-    v39 = 9u; goto L99;
-L96:;
     UNREACHABLE;
+L95:;
+    v37 = 123u; goto L98;
+L96:;
+    v395 = v56 + 1u * 1u;
+    v396 = load8(v395);
+    v397 = v56 + 2u * 1u;
+    v398 = load8(v397);
+    v399 = v396 == 0u;
+    v400 = v398 == 0u;
+    v401 = v400 ? 33u : 34u;
+    v402 = v399 ? v401 : 121u;
+    v37 = v402; goto L98;
 L97:;
-    v435 = v64 + 1u * 1u;
-    v436 = load8(v435);
-    v437 = v64 + 2u * 1u;
-    v438 = load8(v437);
-    v439 = v436 == 0u;
-    v440 = v438 == 0u;
-    v441 = v440 ? 33u : 34u;
-    v442 = v439 ? v441 : 121u;
-    v39 = v442; goto L99;
+    v37 = 118u; goto L98;
 L98:;
-    v39 = 118u; goto L99;
-L99:;
-    return v39;
+    return v37;
 }
 
-static u8 f86(address a0, address a1, u64 a2) {
+static u8 f79(address a0, address a1, u64 a2) {
     u8 v3, v7, v8, v9, v10, v12, v13, v14, v16, v18, v24, v26, v27, v29, v31, v36;
     u8 v38, v39, v41, v45, v49, v51, v52, v53, v54, v55, v56, v62, v66, v68, v75, v82;
     u8 v85, v86;
@@ -20157,7 +19007,7 @@ L14:;
     else { v4 = v78; v5 = v79; goto L12; }
 }
 
-static void f87(address a0, address a1, address a2, u64 a3, address a4, u64 a5) {
+static void f80(address a0, address a1, address a2, u64 a3, address a4, u64 a5) {
     u8 v6, v7, v8, v9, v12, v13, v14, v15, v17, v18, v19, v21, v23, v29, v31, v32;
     u8 v34, v36, v41, v43, v44, v46, v50, v54, v56, v57, v58, v59, v60, v61, v63, v65;
     u8 v67, v69, v78, v82, v84, v86, v88, v89, v93, v95, v97, v99;
@@ -20267,7 +19117,7 @@ L8:;
     store8(v76, v9);
     v77 = v11 + 18u * 1u;
     memory_set(v77, 0u, 6u);
-    v78 = f65(a1, a2, a3, v11);
+    v78 = f58(a1, a2, a3, v11);
     if (v78) { goto L12; }
     else { goto L11; }
 L9:;
@@ -20346,7 +19196,7 @@ L12:;
     goto L9;
 }
 
-static u64 f88(u8 a0, u8 a1) {
+static u64 f81(u8 a0, u8 a1) {
     u64 v2, v4, v5, v6, v12, v17, v18, v19, v20;
     address v3, v7, v8, v9, v10, v13, v15;
     u8 v11, v14, v16;
@@ -20448,7 +19298,7 @@ L22:;
     return v20;
 }
 
-static void f89(address a0, address a1, address a2, u64 a3, address a4) {
+static void f82(address a0, address a1, address a2, u64 a3, address a4) {
     u64 v5, v7, v10, v11, v13, v14, v16, v20, v21, v22, v79, v82, v88, v89, v90, v91;
     u64 v93, v95, v98, v99, v102, v302, v316, v317, v324, v325;
     address v6, v28, v29, v30, v31, v33, v35, v37, v39, v41, v44, v49, v52, v53, v80, v81;
@@ -20471,7 +19321,7 @@ static void f89(address a0, address a1, address a2, u64 a3, address a4) {
     u8 v285, v286, v287, v288, v290, v292, v293, v294, v295, v296, v297, v298, v299, v300, v301, v303;
     u8 v305, v306, v307, v309, v310, v311, v318, v320, v322, v323, v326;
     struct s1 v17, v120, v126, v131, v157, v304, v308;
-    struct s4 v107, v112;
+    struct s3 v107, v112;
     u16 v110, v115, v116, v118;
     u64 block0[3];
     u64 block1[17];
@@ -20595,7 +19445,7 @@ L13:;
     else { goto L21; }
 L14:;
     memory_set(v28, 0u, 24u);
-    f27(v28, v29, v13);
+    f25(v28, v29, v13);
     v85 = load8(v28);
     v86 = v85 == 0u;
     if (v86) { goto L15; }
@@ -20613,7 +19463,7 @@ L15:;
     if (v94) { v14 = v91; goto L17; }
     else { goto L16; }
 L16:;
-    f30(a4, v91);
+    f33(a4, v91);
     v95 = load64(v92);
     v14 = v95; goto L17;
 L17:;
@@ -20656,7 +19506,7 @@ L24:;
     default: v23 = v34; v24 = 3u; v25 = 1u; v26 = v32; v27 = v36; goto L71;
     }
 L25:;
-    v107 = f90(127u, a2, a3);
+    v107 = f83(127u, a2, a3);
     v108 = v107.m0;
     v109 = (u8)((v108) & UINT64_C(1));
     if (v109) { goto L26; }
@@ -20666,7 +19516,7 @@ L26:;
     v111 = (u8)(v110);
     v18 = 0u; v19 = v111; v20 = 1u; goto L66;
 L27:;
-    v112 = f90(32767u, a2, a3);
+    v112 = f83(32767u, a2, a3);
     v113 = v112.m0;
     v114 = (u8)((v113) & UINT64_C(1));
     if (v114) { goto L28; }
@@ -20679,7 +19529,7 @@ L28:;
     v119 = (u8)(v118);
     v18 = v119; v19 = v117; v20 = 2u; goto L66;
 L29:;
-    v120 = f91(a2, a3);
+    v120 = f84(a2, a3);
     v121 = v120.m0;
     v122 = (u8)((v121) & UINT64_C(1));
     if (v122) { goto L30; }
@@ -20690,7 +19540,7 @@ L30:;
     v125 = v124 ? v42 : 0u;
     v18 = 0u; v19 = v125; v20 = 1u; goto L66;
 L31:;
-    v126 = f91(a2, a3);
+    v126 = f84(a2, a3);
     v127 = v126.m0;
     v128 = (u8)((v127) & UINT64_C(1));
     if (v128) { goto L32; }
@@ -20700,7 +19550,7 @@ L32:;
     v130 = (u8)((u32)v129 & (u32)1u);
     v18 = 0u; v19 = v130; v20 = 1u; goto L66;
 L33:;
-    v131 = f93(a2, a3);
+    v131 = f86(a2, a3);
     v132 = v131.m0;
     v133 = v132 == 1u;
     v134 = v131.m1;
@@ -20965,7 +19815,7 @@ L60:;
     if (v303) { v15 = 254u; goto L39; }
     else { v16 = v302; goto L59; }
 L61:;
-    v304 = f93(a2, a3);
+    v304 = f86(a2, a3);
     v17 = v304; goto L62;
 L62:;
     v305 = v17.m0;
@@ -20976,7 +19826,7 @@ L63:;
     v307 = v17.m1;
     v18 = 0u; v19 = v307; v20 = 1u; goto L66;
 L64:;
-    v308 = f93(a2, a3);
+    v308 = f86(a2, a3);
     v309 = v308.m0;
     v310 = v309 == 1u;
     if (v310) { goto L65; }
@@ -21029,7 +19879,7 @@ L71:;
     return;
 }
 
-static struct s4 f90(u16 a0, address a1, u64 a2) {
+static struct s3 f83(u16 a0, address a1, u64 a2) {
     u64 v3, v5, v6, v7, v8, v48, v50, v60, v62, v63, v65, v66, v71, v79, v81, v82;
     u64 v84, v85;
     u32 v4, v15, v20, v22, v23, v24, v28, v30, v31, v32, v33, v34, v38, v39, v40, v41;
@@ -21039,7 +19889,7 @@ static struct s4 f90(u16 a0, address a1, u64 a2) {
     u8 v80, v83, v86, v87, v88, v91;
     u16 v10, v11, v49, v69, v70, v89, v90;
     address v17, v25, v35, v47, v54, v73;
-    struct s4 v92, v93;
+    struct s3 v92, v93;
     v13 = a2 == 0u;
     if (v13) { v9 = 0u; v10 = 0u; goto L20; }
     else { goto L1; }
@@ -21176,14 +20026,14 @@ L20:;
     v91 = (u8)v9;
     v11 = v10; v12 = v91; goto L21;
 L21:;
-    v92 = (struct s4){ 0 };
+    v92 = (struct s3){ 0 };
     v92.m0 = v12;
     v93 = v92;
     v93.m1 = v11;
     return v93;
 }
 
-static struct s1 f91(address a0, u64 a1) {
+static struct s1 f84(address a0, u64 a1) {
     u64 v2, v3, v4, v34, v58, v60, v61, v63, v64;
     u8 v5, v6, v8, v9, v10, v11, v12, v13, v15, v16, v17, v18, v19, v20, v22, v23;
     u8 v24, v25, v26, v27, v28, v29, v30, v31, v32, v33, v35, v37, v39, v40, v41, v42;
@@ -21305,7 +20155,7 @@ L14:;
     return v70;
 }
 
-static void f92(address a0, u8 a1, u8 a2) {
+static void f85(address a0, u8 a1, u8 a2) {
     u64 v3, v5, v9, v12, v14, v18, v20, v21, v24, v26, v27, v30, v32;
     address v4, v10, v11, v13, v19, v22, v23, v25, v28, v29, v31, v33, v34;
     u8 v6, v7, v8, v15, v16, v17;
@@ -21400,7 +20250,7 @@ L18:;
     UNREACHABLE;
 }
 
-static struct s1 f93(address a0, u64 a1) {
+static struct s1 f86(address a0, u64 a1) {
     u8 v2, v3, v4, v7, v8, v9, v10, v11, v12, v13, v15, v16, v18, v20, v21, v22;
     u8 v23, v24, v25, v26, v27, v28, v29, v30, v31, v32, v33, v34, v35, v36, v37, v38;
     u8 v39, v40, v41, v42, v43, v44, v45, v47, v48, v49, v50, v51, v53, v56, v60, v61;
@@ -21528,11 +20378,11 @@ L20:;
     return v67;
 }
 
-static struct s5 f94(address a0) {
+static struct s4 f87(address a0) {
     u64 v1, v10;
     address v2, v4, v6, v9;
     u8 v3, v5, v7;
-    struct s5 v8, v11, v12;
+    struct s4 v8, v11, v12;
     v3 = load8(a0);
     switch (v3) {
     case 0u: goto L1;
@@ -21595,7 +20445,7 @@ L1:;
     v5 = load8(v4);
     v6 = a0 + 1u * 1u;
     v7 = load8(v6);
-    v8 = f95(v7, v5);
+    v8 = f88(v7, v5);
     v9 = v8.m0;
     v10 = v8.m1;
     v1 = v10; v2 = v9; goto L53;
@@ -21702,7 +20552,7 @@ L51:;
 L52:;
     v1 = 13u; v2 = ADDRESS(c265); goto L53;
 L53:;
-    v11 = (struct s5){ 0 };
+    v11 = (struct s4){ 0 };
     v11.m0 = v2;
     v12 = v11;
     v12.m1 = v1;
@@ -21711,10 +20561,10 @@ L54:;
     UNREACHABLE;
 }
 
-static struct s5 f95(u8 a0, u8 a1) {
+static struct s4 f88(u8 a0, u8 a1) {
     u64 v2, v4, v6, v7;
     address v3, v5, v8, v9;
-    struct s5 v10, v11;
+    struct s4 v10, v11;
     switch (a0) {
     case 0u: v2 = 13u; v3 = ADDRESS(c266); goto L34;
     case 1u: goto L1;
@@ -21825,7 +20675,7 @@ L33:;
     v9 = load_address(v8);
     v2 = v6; v3 = v9; goto L34;
 L34:;
-    v10 = (struct s5){ 0 };
+    v10 = (struct s4){ 0 };
     v10.m0 = v3;
     v11 = v10;
     v11.m1 = v2;
@@ -21834,7 +20684,7 @@ L35:;
     UNREACHABLE;
 }
 
-static u64 f96(u16 a0, address a1) {
+static u64 f89(u16 a0, address a1) {
     u64 v2, v4, v12, v22;
     address v3, v6, v8, v13, v16, v19;
     u8 v5, v7, v9, v10, v11, v14, v15, v17, v18, v20, v21, v23;
@@ -21945,7 +20795,7 @@ L27:;
     UNREACHABLE;
 }
 
-static void f97(u8 a0, u8 a1, address a2) {
+static void f90(u8 a0, u8 a1, address a2) {
     u64 v3, v4, v5, v6, v7, v14, v19, v21, v23, v27, v29, v30, v31, v36, v42, v44;
     u64 v46, v50, v52, v53, v56, v64, v66, v74;
     address v8, v11, v12, v13, v15, v18, v20, v26, v28, v33, v34, v38, v41, v43, v49, v51;
@@ -21955,7 +20805,7 @@ static void f97(u8 a0, u8 a1, address a2) {
     u64 block0[3];
     v8 = ADDRESS(block0);
     memory_set(v8, 0u, 24u);
-    f92(v8, a0, a1);
+    f85(v8, a0, a1);
     v9 = load8(v8);
     v10 = v9 == 1u;
     if (v10) { goto L1; }
@@ -22085,13 +20935,13 @@ L18:;
     return;
 }
 
-static struct s5 f98(u16 a0, address a1, u64 a2) {
+static struct s4 f91(u16 a0, address a1, u64 a2) {
     u8 v3, v4, v9, v11, v12, v17, v22, v25, v27, v30, v31, v32, v33, v36, v38, v40;
     u8 v45, v48, v49, v51, v52;
     u64 v5, v6, v8, v10, v13, v14, v15, v16, v19, v21, v24, v26, v28, v29, v35, v37;
     u64 v41, v42, v43, v44, v47, v50, v54, v58, v59;
     address v7, v18, v23, v34, v39, v46, v53, v55, v56, v57, v60, v61;
-    struct s5 v20, v62, v63;
+    struct s4 v20, v62, v63;
     switch (a0) {
     case 0u: v3 = 0u; v4 = 0u; goto L21;
     case 2u: goto L1;
@@ -22169,7 +21019,7 @@ L19:;
 L20:;
     v3 = 11u; v4 = 4u; goto L21;
 L21:;
-    v10 = f88(v3, v4);
+    v10 = f81(v3, v4);
     v11 = a2 == v10;
     if (v11) { goto L23; }
     else { v7 = ADDRESS(c155); v8 = 0u; goto L53; }
@@ -22243,7 +21093,7 @@ L41:;
 L42:;
     v5 = 6u; v6 = 8u; goto L49;
 L43:;
-    v20 = f99(a1, a2);
+    v20 = f92(a1, a2);
     v21 = v20.m1;
     v22 = v21 == 0u;
     if (v22) { v7 = ADDRESS(c155); v8 = 0u; goto L53; }
@@ -22309,21 +21159,21 @@ L52:;
     v61 = load_address(v60);
     v7 = v61; v8 = 1u; goto L53;
 L53:;
-    v62 = (struct s5){ 0 };
+    v62 = (struct s4){ 0 };
     v62.m0 = v7;
     v63 = v62;
     v63.m1 = v8;
     return v63;
 }
 
-static struct s5 f99(address a0, u64 a1) {
+static struct s4 f92(address a0, u64 a1) {
     u64 v2, v3, v5, v7, v11, v13, v16, v20, v21, v23, v24, v26, v29, v31, v34, v36;
     u64 v40, v41, v43, v44, v47, v50, v52, v58, v60, v63, v66, v68, v71, v73;
     address v4, v6, v9, v10, v15, v18, v25, v28, v30, v33, v35, v38, v45, v46, v49, v51;
     address v54, v55, v57, v62, v65, v70, v72;
     u8 v8, v12, v14, v17, v19, v22, v27, v32, v37, v39, v42, v48, v53, v56, v59, v61;
     u8 v64, v67, v69;
-    struct s5 v74, v75;
+    struct s4 v74, v75;
     v8 = a1 < 3u;
     if (v8) { v2 = 0u; v3 = 0u; v4 = ADDRESS(c155); goto L4; }
     else { goto L1; }
@@ -22417,14 +21267,14 @@ L9:;
     v73 = v69 ? 0u : v71;
     v6 = v72; v7 = v73; goto L10;
 L10:;
-    v74 = (struct s5){ 0 };
+    v74 = (struct s4){ 0 };
     v74.m0 = v6;
     v75 = v74;
     v75.m1 = v7;
     return v75;
 }
 
-static void f100(address a0, u8 a1, u8 a2, address a3, u64 a4) {
+static void f93(address a0, u8 a1, u8 a2, address a3, u64 a4) {
     u64 v5, v7, v8, v10, v11, v13, v14, v16, v17, v18, v20, v22, v24, v25, v26, v28;
     u64 v30, v33, v35, v36, v40, v42, v43, v44, v45, v49, v50, v52, v53, v54, v55, v56;
     u64 v58, v59, v60, v62, v63, v64, v75, v76, v78, v79, v80, v81, v82, v85, v87, v88;
@@ -22446,7 +21296,7 @@ static void f100(address a0, u8 a1, u8 a2, address a3, u64 a4) {
     address v290, v297, v300, v302, v305, v307, v310, v317, v318, v321, v323, v326, v327, v329, v334, v336;
     address v342, v345, v350, v352, v356, v363, v372, v373, v380, v381, v384, v391, v394, v406, v429, v430;
     address v431;
-    struct s5 v31, v135, v136, v278, v279, v338, v339, v340, v341;
+    struct s4 v31, v135, v136, v278, v279, v338, v339, v340, v341;
     u8 v34, v37, v38, v39, v41, v57, v61, v65, v66, v67, v68, v69, v70, v71, v72, v73;
     u8 v74, v77, v83, v84, v86, v91, v93, v99, v102, v104, v105, v107, v110, v116, v122, v127;
     u8 v131, v137, v141, v143, v146, v150, v152, v155, v157, v160, v164, v168, v170, v173, v175, v178;
@@ -22611,7 +21461,7 @@ L16:;
     v132 = a3 + 2u * 1u;
     v133 = v131 ? ADDRESS(c155) : v132;
     v134 = a4 > 2u ? (u64)((u64)a4 - (u64)2u) : 0u;
-    v135 = (struct s5){ 0 };
+    v135 = (struct s4){ 0 };
     v135.m0 = v133;
     v136 = v135;
     v136.m1 = v134;
@@ -22821,7 +21671,7 @@ L40:;
     v275 = v272 > 4u ? (u64)((u64)v272 - (u64)4u) : 0u;
     v276 = v273 ? ADDRESS(c155) : v274;
     v277 = v273 ? 0u : v275;
-    v278 = (struct s5){ 0 };
+    v278 = (struct s4){ 0 };
     v278.m0 = v276;
     v279 = v278;
     v279.m1 = v277;
@@ -22906,16 +21756,16 @@ L48:;
     v337 = v333 ? 0u : v335;
     v21 = v336; v22 = v337; goto L49;
 L49:;
-    v338 = (struct s5){ 0 };
+    v338 = (struct s4){ 0 };
     v338.m0 = v21;
     v339 = v338;
     v339.m1 = v22;
     v31 = v339; goto L60;
 L50:;
-    v340 = f99(a3, a4);
+    v340 = f92(a3, a4);
     v31 = v340; goto L60;
 L51:;
-    v341 = f99(a3, a4);
+    v341 = f92(a3, a4);
     v342 = v341.m0;
     v343 = v341.m1;
     v344 = v343 == 0u;
@@ -23055,7 +21905,7 @@ L66:;
     UNREACHABLE;
 }
 
-static void f101(u64 a0, address a1) {
+static void f94(u64 a0, address a1) {
     u64 v2, v3, v4, v5, v6, v7, v8, v11, v12, v13, v14, v20, v28, v30, v42, v44;
     u64 v45, v57, v68, v70, v72, v80, v85, v87, v89, v93;
     address v9, v21, v23, v25, v26, v27, v31, v33, v35, v36, v43, v46, v48, v50, v51, v58;
@@ -23202,7 +22052,7 @@ L13:;
     return;
 }
 
-static struct s5 f102(address a0, u64 a1) {
+static struct s4 f95(address a0, u64 a1) {
     u64 v2, v3, v4, v5, v6, v7, v8, v10, v11, v12, v13, v19, v27, v29, v41, v43;
     u64 v44, v56, v67, v69, v71, v79, v82;
     u8 v9, v21, v23, v31, v33, v36, v37, v38, v39, v40, v46, v48, v58, v60, v64, v65;
@@ -23210,7 +22060,7 @@ static struct s5 f102(address a0, u64 a1) {
     u16 v14, v15, v16, v17, v18, v28, v51, v52, v53, v54, v55, v70;
     address v20, v22, v24, v25, v26, v30, v32, v34, v35, v42, v45, v47, v49, v50, v57, v59;
     address v61, v62, v63, v68, v72, v74, v76, v77, v80, v81;
-    struct s5 v83, v84;
+    struct s4 v83, v84;
     v8 = (i64)a1 < 0 ? (u64)(0u - (u64)a1) : a1;
     v9 = v8 > 9999u;
     if (v9) { v2 = v8; v3 = 40u; goto L1; }
@@ -23327,19 +22177,19 @@ L10:;
 L11:;
     v81 = a0 + v7 * 1u;
     v82 = (u64)((u64)40u - (u64)v7);
-    v83 = (struct s5){ 0 };
+    v83 = (struct s4){ 0 };
     v83.m0 = v81;
     v84 = v83;
     v84.m1 = v82;
     return v84;
 }
 
-static struct s4 f103(address a0, u64 a1) {
+static struct s3 f96(address a0, u64 a1) {
     u64 v2, v4, v5, v8, v12, v27;
     address v3, v9, v14, v16;
     u8 v6, v11, v13, v15, v17, v18, v19, v20, v21, v22, v23, v24, v25, v26, v28;
     u16 v7, v10;
-    struct s4 v29, v30;
+    struct s3 v29, v30;
     v2 = 0u; goto L1;
 L1:;
     v8 = (u64)((u64)v2 << (1u & 63u));
@@ -23440,20 +22290,20 @@ L25:;
     if (v28) { v6 = 0u; v7 = 0u; goto L26; }
     else { v2 = v27; goto L1; }
 L26:;
-    v29 = (struct s4){ 0 };
+    v29 = (struct s3){ 0 };
     v29.m0 = v6;
     v30 = v29;
     v30.m1 = v7;
     return v30;
 }
 
-static struct s4 f104(address a0, u64 a1) {
+static struct s3 f97(address a0, u64 a1) {
     u8 v2, v3, v4, v5, v7, v8, v9, v11, v12, v13, v14, v15, v16, v17, v18, v19;
     u8 v20, v21, v22, v23, v24, v25, v26, v27, v29, v31, v32, v33, v34, v35, v36, v37;
     u8 v38, v39, v40, v41, v42, v43, v44, v45, v46, v47;
     u16 v6, v48, v49, v50, v51;
     address v10, v28, v30;
-    struct s4 v52, v53;
+    struct s3 v52, v53;
     v8 = a1 == 4u;
     if (v8) { goto L1; }
     else { v6 = 0u; v7 = 0u; goto L22; }
@@ -23563,14 +22413,14 @@ L21:;
     v51 = (u16)((u32)v49 | (u32)v50);
     v6 = v51; v7 = 1u; goto L22;
 L22:;
-    v52 = (struct s4){ 0 };
+    v52 = (struct s3){ 0 };
     v52.m0 = v7;
     v53 = v52;
     v53.m1 = v6;
     return v53;
 }
 
-static void f105(address a0, address a1, u64 a2) {
+static void f98(address a0, address a1, u64 a2) {
     u8 v3, v6, v7, v8, v11, v12, v13, v18, v20, v21, v23, v24, v26, v29, v31, v32;
     u8 v33, v34, v35, v36, v37, v38, v39, v40, v41, v42, v43, v44, v45, v46, v47, v50;
     u8 v60, v62, v63, v64, v65, v66, v67, v68, v69, v70, v71, v72, v73, v74, v75, v76;
@@ -23760,7 +22610,7 @@ L34:;
     v3 = v13; v4 = v14; goto L5;
 }
 
-static u32 f106(address a0, u64 a1, address a2, u64 a3) {
+static u32 f99(address a0, u64 a1, address a2, u64 a3) {
     u32 v4, v6, v7, v9, v13, v14, v15, v17, v18, v19, v20, v22, v23, v24, v25, v27;
     u32 v28, v29, v30, v32, v33, v34, v35, v37, v38, v39, v40, v42, v43, v44, v45, v47;
     u32 v48, v49, v50, v52, v53, v54, v60, v61, v62, v64, v65, v66, v67, v69, v70, v71;
@@ -23880,7 +22730,7 @@ L4:;
     return v104;
 }
 
-static void f107(address a0, address a1, u64 a2) {
+static void f100(address a0, address a1, u64 a2) {
     u32 v3, v31, v32, v33, v34, v35, v36, v37, v38, v39, v40, v41, v73, v74, v75, v77;
     u32 v78, v79, v80, v82, v83, v84, v85, v87, v88, v89, v90, v92, v93, v94, v95, v97;
     u32 v98, v99, v100, v102, v103, v104, v105, v107, v108, v109, v110, v112, v113, v114, v117, v118;
@@ -23914,7 +22764,7 @@ L1:;
     if (v19) { goto L4; }
     else { goto L2; }
 L2:;
-    v20 = f43(a1, 4u, ADDRESS(c332), 4u);
+    v20 = f28(a1, 4u, ADDRESS(c332), 4u);
     if (v20) { goto L5; }
     else { goto L4; }
 L3:;
@@ -23971,7 +22821,7 @@ L6:;
     if (v60) { goto L11; }
     else { goto L7; }
 L7:;
-    v61 = f43(v46, 4u, ADDRESS(c331), 4u);
+    v61 = f28(v46, 4u, ADDRESS(c331), 4u);
     if (v61) { goto L8; }
     else { goto L11; }
 L8:;
@@ -24107,7 +22957,7 @@ L12:;
     goto L3;
 }
 
-static void f108(address a0, address a1, address a2, address a3, u64 a4, address a5, u64 a6, address a7, u64 a8) {
+static void f101(address a0, address a1, address a2, address a3, u64 a4, address a5, u64 a6, address a7, u64 a8) {
     u8 v9, v10, v12, v13, v18, v19, v20, v21, v24, v25, v26, v27, v35, v38, v41, v54;
     u8 v57, v65, v66, v67, v68, v70, v71, v73, v76, v79, v81, v92, v94, v118, v131, v133;
     u8 v135, v142, v147, v148, v152, v155, v157, v159, v180, v181, v183, v184, v198, v205, v207, v209;
@@ -24214,7 +23064,7 @@ L9:;
     store64(v75, v14);
     return;
 L10:;
-    v76 = f109(a1, v53);
+    v76 = f102(a1, v53);
     if (v76) { goto L11; }
     else { v12 = 1u; v13 = 1u; v14 = 0u; goto L9; }
 L11:;
@@ -24521,7 +23371,7 @@ L35:;
     v237 = (u64)((u64)v45 - (u64)v221);
     v238 = swap32(v224);
     store32(v46, v238);
-    v239 = f106(v46, 4u, v231, v237);
+    v239 = f99(v46, 4u, v231, v237);
     v240 = (u64)((u64)v45 + (u64)UINT64_C(18446744073709543398));
     v241 = v240 < 4u;
     if (v241) { goto L37; }
@@ -24542,7 +23392,7 @@ L37:;
     if (v247) { v12 = 1u; v13 = 2u; v14 = 0u; goto L9; }
     else { goto L38; }
 L38:;
-    v248 = f110(a1, v53);
+    v248 = f103(a1, v53);
     v249 = v248 == 0u;
     if (v249) { goto L39; }
     else { v12 = 1u; v13 = 3u; v14 = 0u; goto L9; }
@@ -24552,7 +23402,7 @@ L39:;
     v12 = 0u; v13 = 0u; v14 = v246; goto L9;
 }
 
-static u8 f109(address a0, address a1) {
+static u8 f102(address a0, address a1) {
     u64 v2, v3, v15, v18, v22, v25, v35, v36, v43, v50, v52, v55, v71, v76, v79, v87;
     u64 v90, v98, v104, v106, v114, v117;
     u8 v4, v5, v6, v8, v11, v12, v13, v19, v20, v26, v28, v29, v37, v38, v40, v41;
@@ -24815,7 +23665,7 @@ L40:;
     UNREACHABLE;
 }
 
-static u8 f110(address a0, address a1) {
+static u8 f103(address a0, address a1) {
     u16 v2, v3, v4, v19, v21, v23;
     u8 v5, v9, v10, v11, v15, v17, v33, v34, v36, v37, v38, v44, v45, v61, v62, v65;
     u8 v76, v78, v79, v81, v82, v83, v89, v90, v95, v97, v98, v99, v100, v101, v103, v104;
@@ -24890,7 +23740,7 @@ L5:;
     if (v44) { goto L6; }
     else { v6 = v43; goto L8; }
 L6:;
-    v45 = f111(v39);
+    v45 = f104(v39);
     if (v45) { goto L7; }
     else { v10 = 1u; goto L32; }
 L7:;
@@ -24922,7 +23772,7 @@ L8:;
     if (v61) { goto L9; }
     else { v7 = v60; goto L13; }
 L9:;
-    v62 = f112(v56);
+    v62 = f105(v56);
     if (v62) { goto L10; }
     else { goto L11; }
 L10:;
@@ -25051,7 +23901,7 @@ L33:;
     UNREACHABLE;
 }
 
-static u8 f111(address a0) {
+static u8 f104(address a0) {
     u8 v1, v5, v10, v14, v15, v21, v26;
     struct pair v2, v19, v23, v24;
     address v3, v6, v16, v28;
@@ -25104,7 +23954,7 @@ L6:;
     v1 = 1u; goto L1;
 }
 
-static u8 f112(address a0) {
+static u8 f105(address a0) {
     u8 v1, v5, v10, v14, v15, v19, v23;
     struct pair v2, v17, v20, v21;
     address v3, v6, v16, v25;
@@ -25154,7 +24004,7 @@ L6:;
     v1 = 1u; goto L1;
 }
 
-static void f113(address a0, address a1, address a2, u64 a3) {
+static void f106(address a0, address a1, address a2, u64 a3) {
     u8 v4, v7, v16, v17, v18, v23, v36, v37, v38, v39, v40, v42, v43, v44, v46, v47;
     u8 v48, v50, v51, v52, v53, v54, v55, v56, v61, v63, v65, v66, v67, v68, v70, v76;
     u8 v77, v81, v84, v88, v93, v100, v108, v110, v112, v113, v114, v115, v117, v123, v124, v125;
@@ -25218,7 +24068,7 @@ L2:;
     if (v52) { v4 = v39; goto L6; }
     else { goto L3; }
 L3:;
-    v53 = f43(a2, 4u, ADDRESS(c333), 4u);
+    v53 = f28(a2, 4u, ADDRESS(c333), 4u);
     if (v53) { v5 = 4u; goto L8; }
     else { goto L7; }
 L4:;
@@ -25296,7 +24146,7 @@ L14:;
     v97 = swap32(v96);
     v98 = swap32(v60);
     store32(v33, v98);
-    v99 = f106(v33, 4u, v57, v78);
+    v99 = f99(v33, 4u, v57, v78);
     v100 = v97 == v99;
     if (v100) { goto L33; }
     else { v17 = 0u; v18 = 0u; v19 = 0u; v20 = 0u; v21 = 0u; v22 = 0u; v23 = 1u; v24 = 0u; v25 = 0u; v26 = 0u; goto L63; }
@@ -25522,7 +24372,7 @@ L53:;
     if (v190) { goto L57; }
     else { goto L54; }
 L54:;
-    f114(v28, v143);
+    f107(v28, v143);
     v191 = load8(v28);
     v192 = v191 == 1u;
     if (v192) { goto L55; }
@@ -25541,7 +24391,7 @@ L55:;
     v199 = v31 + 8u * 1u;
     v200 = v30 + 6u * 1u;
     memory_cpy(v199, v200, 24u);
-    v201 = f109(a1, v31);
+    v201 = f102(a1, v31);
     if (v201) { goto L60; }
     else { v16 = 1u; goto L62; }
 L56:;
@@ -25568,7 +24418,7 @@ L60:;
     store8(v210, v194);
     v211 = v32 + 8u * 1u;
     memory_cpy(v211, v200, 24u);
-    v212 = f110(a1, v32);
+    v212 = f103(a1, v32);
     v213 = v212 == 0u;
     if (v213) { goto L61; }
     else { v16 = 2u; goto L62; }
@@ -25576,7 +24426,7 @@ L61:;
     v214 = load32(v59);
     v215 = swap32(v214);
     store32(v27, v215);
-    v216 = f106(v27, 4u, v57, v78);
+    v216 = f99(v27, 4u, v57, v78);
     store32(v59, v216);
     memory_cpy(v35, v30, 30u);
     memory_cpy(v34, v35, 30u);
@@ -25615,7 +24465,7 @@ L63:;
     goto L15;
 }
 
-static void f114(address a0, address a1) {
+static void f107(address a0, address a1) {
     u64 v2, v8, v11, v39, v40, v41, v42, v43, v44, v45, v46, v47, v48, v49, v50, v51;
     u64 v52, v53, v54, v55, v56, v57, v58, v59, v60, v61, v66, v67, v68, v73, v74, v75;
     u64 v77, v79, v81, v82, v83, v84, v85, v86, v87, v88, v89, v91, v109, v110, v111, v112;
@@ -26185,7 +25035,7 @@ L17:;
     goto L2;
 }
 
-static u8 f115(address a0, u64 a1, address a2) {
+static u8 f108(address a0, u64 a1, address a2) {
     address v3, v7, v8, v10, v14, v21, v24, v27, v30, v33, v36, v39, v42, v45, v48, v51;
     address v54, v57, v60, v63, v66, v69, v72, v75, v78, v81, v84, v87, v90, v93, v96, v99;
     address v102, v105, v108, v111, v114;
@@ -26424,7 +25274,7 @@ L38:;
     return v5;
 }
 
-static void f116(address a0, address a1, u64 a2) {
+static void f109(address a0, address a1, u64 a2) {
     u8 v3, v4, v11, v19, v23, v24, v25, v26, v28, v29, v30, v32, v34, v40, v42, v43;
     u8 v45, v47, v52, v54, v55, v57, v61, v65, v67, v68, v69, v70, v71, v72, v74, v76;
     u8 v77, v78, v82, v84, v92, v94, v101, v103, v112, v114, v119, v120, v126, v128, v136, v138;
@@ -26568,7 +25418,7 @@ L8:;
     memory_set(v21, 0u, 7u);
     v12 = 1u; v13 = v88; v14 = v98; v15 = v99; v16 = v107; v17 = v108; v18 = v118; v19 = v3; goto L12;
 L9:;
-    f117(v22, a1, a2);
+    f110(v22, a1, a2);
     v119 = load8(v22);
     v120 = v119 == 1u;
     if (v120) { goto L10; }
@@ -26643,7 +25493,7 @@ L12:;
     return;
 }
 
-static void f117(address a0, address a1, u64 a2) {
+static void f110(address a0, address a1, u64 a2) {
     u64 v3, v5, v23, v42, v43, v46, v47, v48, v50, v65, v66, v67, v68;
     address v4, v6, v11, v15, v17, v28, v30, v37, v40, v44, v57, v61, v63, v69, v70;
     u8 v7, v8, v9, v10, v12, v13, v14, v16, v18, v24, v26, v27, v29, v31, v36, v38;
@@ -26751,7 +25601,7 @@ L10:;
     return;
 }
 
-static u8 f118(u64 a0, address a1, u64 a2, address a3, u64 a4, u64 a5) {
+static u8 f111(u64 a0, address a1, u64 a2, address a3, u64 a4, u64 a5) {
     u64 v6, v8, v12, v13, v16, v17, v18, v19, v20, v21, v22, v24, v25, v26, v27, v28;
     u64 v31, v32, v35, v36, v37, v40, v41, v42, v43, v44, v45, v46, v47, v48, v49, v50;
     u64 v51, v52, v54, v55, v56, v58, v59, v61, v69, v72, v84, v86, v88, v90, v91, v92;
@@ -26897,7 +25747,7 @@ L13:;
     v7 = 1u; goto L10;
 }
 
-static void f119(address a0, u32 a1, address a2, u64 a3) {
+static void f112(address a0, u32 a1, address a2, u64 a3) {
     u64 v4, v5, v6, v7, v8, v9, v10, v12, v14, v15, v27, v44, v45, v46, v47, v48;
     u64 v49, v50, v51, v52, v53, v54, v55, v56, v57, v58, v59, v60, v61, v62, v63, v64;
     u64 v65, v66, v67, v68, v69, v70, v71, v72, v74, v75, v76, v94, v95, v96, v97, v98;
@@ -27191,7 +26041,7 @@ L7:;
     else { v6 = v5; goto L9; }
 L8:;
     v251 = (u64)((u64)v5 + (u64)32u);
-    v252 = f120(v16, v251, a3);
+    v252 = f113(v16, v251, a3);
     v253 = (u64)((u64)a3 - (u64)v252);
     v254 = v253 > 31u;
     if (v254) { v5 = v252; goto L7; }
@@ -27328,7 +26178,7 @@ L19:;
     v358 = (u64)((u64)v10 + (u64)1u);
     v359 = a2 + v358 * 1u;
     v360 = (u64)((u64)a3 - (u64)v358);
-    f105(v17, a2, v10);
+    f98(v17, a2, v10);
     v361 = load8(v17);
     v362 = v361 == 1u;
     if (v362) { goto L21; }
@@ -27383,7 +26233,7 @@ L27:;
     v11 = 1u; v12 = v366; v13 = v385; goto L20;
 }
 
-static u64 f120(address a0, u64 a1, u64 a2) {
+static u64 f113(address a0, u64 a1, u64 a2) {
     u64 v3, v4, v5, v10, v11, v28, v29, v30, v31, v32, v33, v34, v35, v36, v37, v38;
     u64 v39, v40, v41, v42, v43, v44, v45, v46, v47, v48, v49, v50, v51, v52, v53, v70;
     u64 v71, v72, v73, v74, v75, v76, v77, v78, v79, v80, v81, v82, v83, v84, v85, v86;
@@ -27777,7 +26627,7 @@ L4:;
     return v4;
 }
 
-static void f121(address a0, u16 a1, address a2, u64 a3) {
+static void f114(address a0, u16 a1, address a2, u64 a3) {
     u64 v4, v5, v8, v10, v11, v12, v15, v16, v21, v22, v25, v26, v27, v28, v31, v32;
     u64 v33, v36, v37, v40, v41, v46, v47, v50, v51, v52, v55, v56, v59, v60, v63, v64;
     u64 v67, v68, v71, v73, v74, v77, v79, v80, v84, v85, v113, v129, v131, v132, v134, v135;
@@ -27822,7 +26672,7 @@ static void f121(address a0, u16 a1, address a2, u64 a3) {
     address v577, v578, v581, v583, v591, v592, v596, v601, v603, v605, v607, v609, v611, v613, v615, v617;
     address v619, v624, v625, v628, v630, v637, v638, v643, v644, v647, v649, v656, v657, v663, v664, v667;
     address v668, v669, v670;
-    struct s5 v111, v186, v272;
+    struct s4 v111, v186, v272;
     u16 v264, v266;
     u64 block0[1];
     u64 block1[1];
@@ -27870,7 +26720,7 @@ static void f121(address a0, u16 a1, address a2, u64 a3) {
     v110 = v98 + 8u * 1u;
     store64(v110, 0u);
     store_address(v98, v100);
-    v111 = f98(a1, a2, a3);
+    v111 = f91(a1, a2, a3);
     v112 = v111.m0;
     v113 = v111.m1;
     v114 = v113 == 0u;
@@ -27894,7 +26744,7 @@ L2:;
     v127 = v100 + 16u * 1u;
     store_address(v100, v92);
     memory_set(v103, 0u, 16u);
-    v128 = f125(v100, 6u);
+    v128 = f118(v100, 6u);
     if (v128) { goto L3; }
     else { goto L7; }
 L3:;
@@ -27933,7 +26783,7 @@ L7:;
     v142 = (u8)(((u32)v128 ^ (u32)1u) & UINT64_C(1));
     v143 = (u8)v142;
     store8(v110, v143);
-    f122(a2, a3, v98);
+    f115(a2, a3, v98);
     v144 = load8(v110);
     v145 = v144 == 0u;
     if (v145) { goto L9; }
@@ -27957,7 +26807,7 @@ L10:;
     if (v154) { goto L11; }
     else { v4 = v151; v5 = v153; goto L13; }
 L11:;
-    v155 = f125(v146, 1u);
+    v155 = f118(v146, 1u);
     if (v155) { goto L12; }
     else { v6 = 1u; goto L14; }
 L12:;
@@ -27977,7 +26827,7 @@ L14:;
     v161 = (u8)v6;
     v89 = v161; goto L225;
 L15:;
-    v162 = f126(v146, ADDRESS(c320), 1u);
+    v162 = f119(v146, ADDRESS(c320), 1u);
     v89 = v162; goto L225;
 L16:;
     v163 = (u64)((u64)v8 * (u64)6u);
@@ -28007,7 +26857,7 @@ L17:;
     if (v183) { v9 = 0u; goto L19; }
     else { goto L18; }
 L18:;
-    v184 = f126(v180, ADDRESS(c155), 0u);
+    v184 = f119(v180, ADDRESS(c155), 0u);
     v9 = v184; goto L19;
 L19:;
     store8(v110, v9);
@@ -28015,7 +26865,7 @@ L19:;
     store8(v97, v165);
     store8(v115, v167);
     store8(v116, v169);
-    v186 = f94(v97);
+    v186 = f87(v97);
     v187 = v186.m0;
     v188 = v186.m1;
     if (v185) { goto L20; }
@@ -28035,7 +26885,7 @@ L21:;
     if (v196) { goto L22; }
     else { v10 = v192; v11 = v194; goto L24; }
 L22:;
-    v197 = f125(v180, v188);
+    v197 = f118(v180, v188);
     if (v197) { goto L23; }
     else { v13 = 1u; goto L28; }
 L23:;
@@ -28074,7 +26924,7 @@ L28:;
     v212 = (u8)v13;
     v14 = v212; goto L30;
 L29:;
-    v213 = f126(v180, v187, v188);
+    v213 = f119(v180, v187, v188);
     v14 = v213; goto L30;
 L30:;
     store8(v110, v14);
@@ -28095,7 +26945,7 @@ L32:;
     if (v221) { goto L33; }
     else { v15 = v218; v16 = v220; goto L35; }
 L33:;
-    v222 = f125(v180, 1u);
+    v222 = f118(v180, 1u);
     if (v222) { goto L34; }
     else { v17 = 1u; goto L36; }
 L34:;
@@ -28115,7 +26965,7 @@ L36:;
     v228 = (u8)v17;
     v18 = v228; goto L38;
 L37:;
-    v229 = f126(v180, ADDRESS(c322), 1u);
+    v229 = f119(v180, ADDRESS(c322), 1u);
     v18 = v229; goto L38;
 L38:;
     store8(v110, v18);
@@ -28152,7 +27002,7 @@ L43:;
     if (v242) { goto L44; }
     else { v21 = v238; v22 = v240; goto L46; }
 L44:;
-    v243 = f125(v233, 2u);
+    v243 = f118(v233, 2u);
     if (v243) { goto L45; }
     else { v23 = 1u; goto L50; }
 L45:;
@@ -28185,7 +27035,7 @@ L50:;
     v253 = (u8)v23;
     v24 = v253; goto L52;
 L51:;
-    v254 = f126(v233, ADDRESS(c300), 2u);
+    v254 = f119(v233, ADDRESS(c300), 2u);
     v24 = v254; goto L52;
 L52:;
     store8(v110, v24);
@@ -28197,13 +27047,13 @@ L53:;
 L54:;
     v256 = v177 + v25 * 1u;
     v257 = load8(v256);
-    f123(v257, v98);
+    f116(v257, v98);
     v258 = (u64)((u64)v25 + (u64)1u);
     v259 = v258 == v232;
     if (v259) { goto L214; }
     else { v25 = v258; goto L54; }
 L55:;
-    f100(v96, v173, v175, v177, v178);
+    f93(v96, v173, v175, v177, v178);
     v260 = load8(v96);
     v261 = load8(v117);
     v262 = load8(v118);
@@ -28231,11 +27081,11 @@ L55:;
     default: goto L213;
     }
 L56:;
-    f127(v270, v98);
+    f120(v270, v98);
     goto L214;
 L57:;
     memory_set(v95, 0u, 40u);
-    v272 = f102(v95, v270);
+    v272 = f95(v95, v270);
     v273 = v272.m0;
     v274 = v272.m1;
     v275 = v19 == 0u;
@@ -28258,7 +27108,7 @@ L59:;
     if (v285) { goto L60; }
     else { v26 = v281; v27 = v283; goto L62; }
 L60:;
-    v286 = f125(v276, v274);
+    v286 = f118(v276, v274);
     if (v286) { goto L61; }
     else { v29 = 1u; goto L66; }
 L61:;
@@ -28297,7 +27147,7 @@ L66:;
     v301 = (u8)v29;
     v30 = v301; goto L68;
 L67:;
-    v302 = f126(v276, v273, v274);
+    v302 = f119(v276, v273, v274);
     v30 = v302; goto L68;
 L68:;
     store8(v110, v30);
@@ -28330,7 +27180,7 @@ L73:;
     if (v316) { goto L74; }
     else { v31 = v312; v32 = v314; goto L76; }
 L74:;
-    v317 = f125(v307, v304);
+    v317 = f118(v307, v304);
     if (v317) { goto L75; }
     else { v34 = 1u; goto L80; }
 L75:;
@@ -28368,7 +27218,7 @@ L80:;
     v332 = (u8)v34;
     v35 = v332; goto L82;
 L81:;
-    v333 = f126(v307, v305, v304);
+    v333 = f119(v307, v305, v304);
     v35 = v333; goto L82;
 L82:;
     store8(v110, v35);
@@ -28396,7 +27246,7 @@ L85:;
     if (v346) { goto L86; }
     else { v36 = v343; v37 = v345; goto L88; }
 L86:;
-    v347 = f125(v338, 1u);
+    v347 = f118(v338, 1u);
     if (v347) { goto L87; }
     else { v38 = 1u; goto L89; }
 L87:;
@@ -28416,14 +27266,14 @@ L89:;
     v353 = (u8)v38;
     v39 = v353; goto L91;
 L90:;
-    v354 = f126(v338, ADDRESS(c321), 1u);
+    v354 = f119(v338, ADDRESS(c321), 1u);
     v39 = v354; goto L91;
 L91:;
     store8(v110, v39);
     goto L92;
 L92:;
     v355 = (u64)((u64)v334 >> (16u & 63u));
-    f127(v355, v98);
+    f120(v355, v98);
     v356 = load8(v110);
     v357 = v356 == 0u;
     if (v357) { goto L93; }
@@ -28444,7 +27294,7 @@ L94:;
     if (v366) { goto L95; }
     else { v40 = v363; v41 = v365; goto L97; }
 L95:;
-    v367 = f125(v358, 1u);
+    v367 = f118(v358, 1u);
     if (v367) { goto L96; }
     else { v42 = 1u; goto L98; }
 L96:;
@@ -28464,7 +27314,7 @@ L98:;
     v373 = (u8)v42;
     v43 = v373; goto L100;
 L99:;
-    v374 = f126(v358, ADDRESS(c324), 1u);
+    v374 = f119(v358, ADDRESS(c324), 1u);
     v43 = v374; goto L100;
 L100:;
     store8(v110, v43);
@@ -28477,7 +27327,7 @@ L102:;
     v377 = (u32)((u32)v44 * (u32)10u);
     v378 = (u32)((u32)v377 >> (16u & 31u));
     v379 = (u64)v378;
-    f127(v379, v98);
+    f120(v379, v98);
     v380 = (u32)((u32)v377 & (u32)65534u);
     v381 = v380 == 0u;
     v382 = (u8)((u32)v45 + (u32)255u);
@@ -28487,27 +27337,27 @@ L102:;
     else { v44 = v380; v45 = v382; goto L102; }
 L103:;
     v385 = (u8)(v270);
-    f123(v261, v98);
-    f123(v262, v98);
-    f123(v263, v98);
-    f123(v265, v98);
-    f123(v267, v98);
-    f123(v268, v98);
-    f123(v269, v98);
-    f123(v385, v98);
+    f116(v261, v98);
+    f116(v262, v98);
+    f116(v263, v98);
+    f116(v265, v98);
+    f116(v267, v98);
+    f116(v268, v98);
+    f116(v269, v98);
+    f116(v385, v98);
     goto L214;
 L104:;
-    f123(v262, v98);
-    f123(v263, v98);
-    f123(v265, v98);
-    f123(v267, v98);
-    f123(v268, v98);
-    f123(v269, v98);
+    f116(v262, v98);
+    f116(v263, v98);
+    f116(v265, v98);
+    f116(v267, v98);
+    f116(v268, v98);
+    f116(v269, v98);
     v386 = (u8)(v270);
-    f123(v386, v98);
+    f116(v386, v98);
     v387 = (u64)((u64)v270 >> (8u & 63u));
     v388 = (u8)(v387);
-    f123(v388, v98);
+    f116(v388, v98);
     v389 = load8(v110);
     v390 = v389 == 0u;
     if (v390) { goto L105; }
@@ -28528,7 +27378,7 @@ L106:;
     if (v399) { goto L107; }
     else { v46 = v396; v47 = v398; goto L109; }
 L107:;
-    v400 = f125(v391, 1u);
+    v400 = f118(v391, 1u);
     if (v400) { goto L108; }
     else { v48 = 1u; goto L110; }
 L108:;
@@ -28548,7 +27398,7 @@ L110:;
     v406 = (u8)v48;
     v49 = v406; goto L112;
 L111:;
-    v407 = f126(v391, ADDRESS(c325), 1u);
+    v407 = f119(v391, ADDRESS(c325), 1u);
     v49 = v407; goto L112;
 L112:;
     store8(v110, v49);
@@ -28556,11 +27406,11 @@ L112:;
 L113:;
     v408 = (u64)((u64)v270 >> (16u & 63u));
     v409 = (u64)((u64)v408 & (u64)65535u);
-    f127(v409, v98);
+    f120(v409, v98);
     goto L214;
 L114:;
     memory_set(v94, 0u, 24u);
-    f92(v94, v261, v262);
+    f85(v94, v261, v262);
     v410 = load8(v94);
     v411 = v410 == 1u;
     if (v411) { goto L115; }
@@ -28588,7 +27438,7 @@ L117:;
     if (v424) { goto L118; }
     else { v50 = v420; v51 = v422; goto L120; }
 L118:;
-    v425 = f125(v415, v413);
+    v425 = f118(v415, v413);
     if (v425) { goto L119; }
     else { v53 = 1u; goto L124; }
 L119:;
@@ -28627,7 +27477,7 @@ L124:;
     v440 = (u8)v53;
     v54 = v440; goto L126;
 L125:;
-    v441 = f126(v415, v412, v413);
+    v441 = f119(v415, v412, v413);
     v54 = v441; goto L126;
 L126:;
     store8(v110, v54);
@@ -28653,7 +27503,7 @@ L129:;
     if (v452) { goto L130; }
     else { v55 = v448; v56 = v450; goto L132; }
 L130:;
-    v453 = f125(v443, 2u);
+    v453 = f118(v443, 2u);
     if (v453) { goto L131; }
     else { v57 = 1u; goto L136; }
 L131:;
@@ -28686,13 +27536,13 @@ L136:;
     v463 = (u8)v57;
     v58 = v463; goto L138;
 L137:;
-    v464 = f126(v443, ADDRESS(c300), 2u);
+    v464 = f119(v443, ADDRESS(c300), 2u);
     v58 = v464; goto L138;
 L138:;
     store8(v110, v58);
     goto L139;
 L139:;
-    f123(v262, v98);
+    f116(v262, v98);
     goto L140;
 L140:;
     goto L214;
@@ -28717,7 +27567,7 @@ L143:;
     if (v475) { goto L144; }
     else { v59 = v471; v60 = v473; goto L146; }
 L144:;
-    v476 = f125(v466, 6u);
+    v476 = f118(v466, 6u);
     if (v476) { goto L145; }
     else { v61 = 1u; goto L150; }
 L145:;
@@ -28758,14 +27608,14 @@ L150:;
     v490 = (u8)v61;
     v62 = v490; goto L152;
 L151:;
-    v491 = f126(v466, ADDRESS(c326), 6u);
+    v491 = f119(v466, ADDRESS(c326), 6u);
     v62 = v491; goto L152;
 L152:;
     store8(v110, v62);
     goto L153;
 L153:;
     v492 = (u64)v262;
-    f127(v492, v98);
+    f120(v492, v98);
     v493 = load8(v110);
     v494 = v493 == 0u;
     if (v494) { goto L154; }
@@ -28787,7 +27637,7 @@ L155:;
     if (v504) { goto L156; }
     else { v63 = v500; v64 = v502; goto L158; }
 L156:;
-    v505 = f125(v495, 12u);
+    v505 = f118(v495, 12u);
     if (v505) { goto L157; }
     else { v65 = 1u; goto L162; }
 L157:;
@@ -28840,13 +27690,13 @@ L162:;
     v525 = (u8)v65;
     v66 = v525; goto L164;
 L163:;
-    v526 = f126(v495, ADDRESS(c327), 12u);
+    v526 = f119(v495, ADDRESS(c327), 12u);
     v66 = v526; goto L164;
 L164:;
     store8(v110, v66);
     goto L165;
 L165:;
-    f123(v263, v98);
+    f116(v263, v98);
     v527 = load8(v110);
     v528 = v527 == 0u;
     if (v528) { goto L166; }
@@ -28868,7 +27718,7 @@ L167:;
     if (v538) { goto L168; }
     else { v67 = v534; v68 = v536; goto L170; }
 L168:;
-    v539 = f125(v529, 12u);
+    v539 = f118(v529, 12u);
     if (v539) { goto L169; }
     else { v69 = 1u; goto L174; }
 L169:;
@@ -28921,14 +27771,14 @@ L174:;
     v559 = (u8)v69;
     v70 = v559; goto L176;
 L175:;
-    v560 = f126(v529, ADDRESS(c328), 12u);
+    v560 = f119(v529, ADDRESS(c328), 12u);
     v70 = v560; goto L176;
 L176:;
     store8(v110, v70);
     goto L177;
 L177:;
-    f123(v267, v98);
-    f123(v265, v98);
+    f116(v267, v98);
+    f116(v265, v98);
     goto L214;
 L178:;
     v561 = (address)v270;
@@ -28959,10 +27809,10 @@ L181:;
     if (v574) { goto L182; }
     else { goto L183; }
 L182:;
-    v575 = f124(v571, v93, 1u);
+    v575 = f117(v571, v93, 1u);
     v72 = v575; goto L184;
 L183:;
-    v576 = f126(v571, v93, 1u);
+    v576 = f119(v571, v93, 1u);
     v72 = v576; goto L184;
 L184:;
     store8(v110, v72);
@@ -28987,7 +27837,7 @@ L187:;
     if (v586) { goto L188; }
     else { v73 = v582; v74 = v584; goto L190; }
 L188:;
-    v587 = f125(v577, 2u);
+    v587 = f118(v577, 2u);
     if (v587) { goto L189; }
     else { v75 = 1u; goto L194; }
 L189:;
@@ -29020,13 +27870,13 @@ L194:;
     v597 = (u8)v75;
     v76 = v597; goto L196;
 L195:;
-    v598 = f126(v577, ADDRESS(c329), 2u);
+    v598 = f119(v577, ADDRESS(c329), 2u);
     v76 = v598; goto L196;
 L196:;
     store8(v110, v76);
     goto L197;
 L197:;
-    f123(v564, v98);
+    f116(v564, v98);
     goto L198;
 L198:;
     v599 = (u64)((u64)v71 + (u64)1u);
@@ -29035,7 +27885,7 @@ L198:;
     else { v71 = v599; goto L179; }
 L199:;
     v601 = (address)v270;
-    f122(v601, v271, v98);
+    f115(v601, v271, v98);
     goto L214;
 L200:;
     v602 = v271 < 8u;
@@ -29046,28 +27896,28 @@ L201:;
     v77 = v271; v78 = v603; goto L202;
 L202:;
     v604 = load8(v78);
-    f123(v604, v98);
+    f116(v604, v98);
     v605 = v78 + 1u * 1u;
     v606 = load8(v605);
-    f123(v606, v98);
+    f116(v606, v98);
     v607 = v78 + 2u * 1u;
     v608 = load8(v607);
-    f123(v608, v98);
+    f116(v608, v98);
     v609 = v78 + 3u * 1u;
     v610 = load8(v609);
-    f123(v610, v98);
+    f116(v610, v98);
     v611 = v78 + 4u * 1u;
     v612 = load8(v611);
-    f123(v612, v98);
+    f116(v612, v98);
     v613 = v78 + 5u * 1u;
     v614 = load8(v613);
-    f123(v614, v98);
+    f116(v614, v98);
     v615 = v78 + 6u * 1u;
     v616 = load8(v615);
-    f123(v616, v98);
+    f116(v616, v98);
     v617 = v78 + 7u * 1u;
     v618 = load8(v617);
-    f123(v618, v98);
+    f116(v618, v98);
     v619 = v78 + 8u * 1u;
     v620 = (u64)((u64)v77 + (u64)UINT64_C(18446744073709551608));
     v621 = v620 > 7u;
@@ -29094,7 +27944,7 @@ L205:;
     if (v632) { goto L206; }
     else { v79 = v629; v80 = v631; goto L208; }
 L206:;
-    v633 = f125(v624, 1u);
+    v633 = f118(v624, 1u);
     if (v633) { goto L207; }
     else { v81 = 1u; goto L209; }
 L207:;
@@ -29114,7 +27964,7 @@ L209:;
     v639 = (u8)v81;
     v82 = v639; goto L211;
 L210:;
-    v640 = f126(v624, ADDRESS(c322), 1u);
+    v640 = f119(v624, ADDRESS(c322), 1u);
     v82 = v640; goto L211;
 L211:;
     store8(v110, v82);
@@ -29146,7 +27996,7 @@ L217:;
     if (v651) { goto L218; }
     else { v84 = v648; v85 = v650; goto L220; }
 L218:;
-    v652 = f125(v643, 1u);
+    v652 = f118(v643, 1u);
     if (v652) { goto L219; }
     else { v86 = 1u; goto L221; }
 L219:;
@@ -29166,7 +28016,7 @@ L221:;
     v658 = (u8)v86;
     v87 = v658; goto L223;
 L222:;
-    v659 = f126(v643, ADDRESS(c320), 1u);
+    v659 = f119(v643, ADDRESS(c320), 1u);
     v87 = v659; goto L223;
 L223:;
     store8(v110, v87);
@@ -29205,7 +28055,7 @@ L229:;
     return;
 }
 
-static void f122(address a0, u64 a1, address a2) {
+static void f115(address a0, u64 a1, address a2) {
     u64 v3, v4, v7, v14, v17, v19, v22, v23, v24, v31;
     u8 v5, v6, v8, v10, v11, v15, v20, v21, v27, v28, v30, v32;
     address v9, v12, v13, v16, v18, v25, v26, v29;
@@ -29234,7 +28084,7 @@ L3:;
     if (v20) { goto L4; }
     else { v3 = v17; v4 = v19; goto L6; }
 L4:;
-    v21 = f125(v12, 1u);
+    v21 = f118(v12, 1u);
     if (v21) { goto L5; }
     else { v5 = 1u; goto L7; }
 L5:;
@@ -29254,7 +28104,7 @@ L7:;
     v27 = (u8)v5;
     v6 = v27; goto L9;
 L8:;
-    v28 = f126(v12, ADDRESS(c321), 1u);
+    v28 = f119(v12, ADDRESS(c321), 1u);
     v6 = v28; goto L9;
 L9:;
     store8(v9, v6);
@@ -29262,7 +28112,7 @@ L9:;
 L10:;
     v29 = a0 + v7 * 1u;
     v30 = load8(v29);
-    f123(v30, a2);
+    f116(v30, a2);
     v31 = (u64)((u64)v7 + (u64)1u);
     v32 = v31 == a1;
     if (v32) { goto L11; }
@@ -29271,7 +28121,7 @@ L11:;
     return;
 }
 
-static void f123(u8 a0, address a1) {
+static void f116(u8 a0, address a1) {
     u8 v2, v3, v7, v8, v9, v10, v11, v12, v13, v17, v18, v19, v20, v21, v22, v23;
     u8 v24, v25, v29, v30, v31;
     address v4, v5, v6, v14, v15, v26, v27;
@@ -29300,10 +28150,10 @@ L1:;
     if (v17) { goto L2; }
     else { goto L3; }
 L2:;
-    v18 = f124(v14, v5, 1u);
+    v18 = f117(v14, v5, 1u);
     v2 = v18; goto L4;
 L3:;
-    v19 = f126(v14, v5, 1u);
+    v19 = f119(v14, v5, 1u);
     v2 = v19; goto L4;
 L4:;
     store8(v6, v2);
@@ -29325,10 +28175,10 @@ L5:;
     if (v29) { goto L6; }
     else { goto L7; }
 L6:;
-    v30 = f124(v26, v4, 1u);
+    v30 = f117(v26, v4, 1u);
     v3 = v30; goto L8;
 L7:;
-    v31 = f126(v26, v4, 1u);
+    v31 = f119(v26, v4, 1u);
     v3 = v31; goto L8;
 L8:;
     store8(v6, v3);
@@ -29337,7 +28187,7 @@ L9:;
     return;
 }
 
-static u8 f124(address a0, address a1, u64 a2) {
+static u8 f117(address a0, address a1, u64 a2) {
     u64 v3, v4, v5, v6, v7, v15, v27, v41, v51, v54, v56, v57, v60, v61, v62, v65;
     u64 v66, v67, v72;
     u8 v8, v9, v10, v12, v14, v16, v18, v19, v20, v21, v23, v24, v25, v26, v28, v30;
@@ -29442,7 +28292,7 @@ L15:;
     if (v58) { goto L16; }
     else { v5 = v54; v6 = v56; goto L18; }
 L16:;
-    v59 = f125(a0, a2);
+    v59 = f118(a0, a2);
     if (v59) { goto L17; }
     else { v8 = 1u; goto L22; }
 L17:;
@@ -29484,7 +28334,7 @@ L23:;
     return v9;
 }
 
-static u8 f125(address a0, u64 a1) {
+static u8 f118(address a0, u64 a1) {
     u8 v2, v7, v12, v16, v17, v21, v25;
     struct pair v3, v19, v22, v23;
     address v4, v8, v18, v27;
@@ -29535,7 +28385,7 @@ L6:;
     v2 = 1u; goto L1;
 }
 
-static u8 f126(address a0, address a1, u64 a2) {
+static u8 f119(address a0, address a1, u64 a2) {
     u64 v3, v4, v5, v6, v7, v15, v17, v18, v23, v25, v33, v34, v41, v43;
     u8 v8, v9, v13, v14, v16, v20, v21, v22, v24, v26, v27, v28, v29, v30, v31, v32;
     u8 v36, v38, v39, v42, v44, v45, v46, v47;
@@ -29578,13 +28428,13 @@ L6:;
     if (v26) { goto L8; }
     else { v5 = v25; goto L7; }
 L7:;
-    v27 = f124(a0, ADDRESS(c345), 4u);
+    v27 = f117(a0, ADDRESS(c345), 4u);
     v28 = (u8)((v27) & UINT64_C(1));
     if (v28) { v8 = 1u; goto L16; }
     else { goto L6; }
 L8:;
     store8(v10, 1u);
-    v29 = f124(a0, v19, v17);
+    v29 = f117(a0, v19, v17);
     v30 = (u8)((v29) & UINT64_C(1));
     if (v30) { v8 = 1u; goto L16; }
     else { v6 = v15; goto L9; }
@@ -29618,19 +28468,19 @@ L13:;
     if (v44) { goto L15; }
     else { v7 = v43; goto L14; }
 L14:;
-    v45 = f124(a0, ADDRESS(c345), 4u);
+    v45 = f117(a0, ADDRESS(c345), 4u);
     v46 = (u8)((v45) & UINT64_C(1));
     if (v46) { v8 = 1u; goto L16; }
     else { goto L13; }
 L15:;
     store8(v37, 0u);
-    v47 = f124(a0, v35, v33);
+    v47 = f117(a0, v35, v33);
     v8 = v47; goto L16;
 L16:;
     return v8;
 }
 
-static void f127(u64 a0, address a1) {
+static void f120(u64 a0, address a1) {
     u64 v2, v3, v4, v5, v6, v7, v8, v13, v14, v15, v16, v22, v30, v32, v44, v46;
     u64 v47, v59, v70, v72, v74, v82, v88, v91, v93, v94, v97, v98, v99;
     u8 v9, v10, v12, v24, v26, v34, v36, v39, v40, v41, v42, v43, v49, v51, v61, v63;
@@ -29770,7 +28620,7 @@ L11:;
     if (v95) { goto L12; }
     else { v7 = v91; v8 = v93; goto L14; }
 L12:;
-    v96 = f125(v86, v82);
+    v96 = f118(v86, v82);
     if (v96) { goto L13; }
     else { v9 = 1u; goto L15; }
 L13:;
@@ -29790,7 +28640,7 @@ L15:;
     v102 = (u8)v9;
     v10 = v102; goto L17;
 L16:;
-    v103 = f126(v86, v81, v82);
+    v103 = f119(v86, v81, v82);
     v10 = v103; goto L17;
 L17:;
     store8(v83, v10);
@@ -29799,7 +28649,7 @@ L18:;
     return;
 }
 
-static void f128(address a0, u64 a1) {
+static void f121(address a0, u64 a1) {
     u64 v2, v3, v4, v5, v6, v8, v10, v12, v14, v15, v16, v18, v20, v22, v48, v61;
     u64 v62, v63, v65, v69, v71, v74, v78, v82, v85, v87, v90, v92, v100, v101, v121, v125;
     u64 v137, v138, v141, v147, v159, v163, v186, v188, v190, v192, v195, v197, v200, v205, v208, v210;
@@ -29929,7 +28779,7 @@ L9:;
     store16(v57, 1u);
     v76 = (u16)(v3);
     store16(v58, v76);
-    v77 = f109(v56, v44);
+    v77 = f102(v56, v44);
     if (v77) { v5 = v2; goto L20; }
     else { goto L10; }
 L10:;
@@ -30022,7 +28872,7 @@ L23:;
     v114 = v43 + 18u * 1u;
     store16(v114, 65535u);
     v115 = a0 + 8u * 1u;
-    v116 = f109(v115, v43);
+    v116 = f102(v115, v43);
     if (v116) { goto L24; }
     else { goto L27; }
 L24:;
@@ -30034,7 +28884,7 @@ L24:;
     v119 = load_address(v118);
     v120 = a0 + 192u * 1u;
     v121 = load64(v120);
-    f108(v42, v115, v41, ADDRESS(c155), 0u, ADDRESS(c155), 0u, v119, v121);
+    f101(v42, v115, v41, ADDRESS(c155), 0u, ADDRESS(c155), 0u, v119, v121);
     v122 = load8(v42);
     v123 = v122 == 0u;
     if (v123) { goto L25; }
@@ -30112,7 +28962,7 @@ L35:;
     v152 = v40 + 18u * 1u;
     store16(v152, v149);
     v153 = a0 + 8u * 1u;
-    v154 = f109(v153, v40);
+    v154 = f102(v153, v40);
     if (v154) { goto L36; }
     else { goto L39; }
 L36:;
@@ -30124,7 +28974,7 @@ L36:;
     v157 = load_address(v156);
     v158 = a0 + 192u * 1u;
     v159 = load64(v158);
-    f108(v39, v153, v38, ADDRESS(c155), 0u, ADDRESS(c155), 0u, v157, v159);
+    f101(v39, v153, v38, ADDRESS(c155), 0u, ADDRESS(c155), 0u, v157, v159);
     v160 = load8(v39);
     v161 = v160 == 0u;
     if (v161) { goto L37; }
@@ -30174,7 +29024,7 @@ L42:;
     store8(v37, 2u);
     v182 = (u16)(v8);
     store16(v179, v182);
-    v183 = f109(v178, v37);
+    v183 = f102(v178, v37);
     if (v183) { goto L43; }
     else { goto L50; }
 L43:;
@@ -30267,11 +29117,11 @@ L57:;
     store8(v36, 4u);
     v226 = v36 + 18u * 1u;
     store16(v226, 65535u);
-    v227 = f109(v225, v36);
+    v227 = f102(v225, v36);
     if (v227) { goto L58; }
     else { goto L59; }
 L58:;
-    f129(a0, a1);
+    f122(a0, a1);
     goto L19;
 L59:;
     v228 = a0 + 172u * 1u;
@@ -30392,7 +29242,7 @@ L76:;
     store8(v35, 2u);
     v286 = (u16)(v16);
     store16(v283, v286);
-    v287 = f109(v282, v35);
+    v287 = f102(v282, v35);
     if (v287) { goto L77; }
     else { goto L84; }
 L77:;
@@ -30485,7 +29335,7 @@ L91:;
     store8(v34, 4u);
     v330 = v34 + 18u * 1u;
     store16(v330, 65535u);
-    v331 = f109(v329, v34);
+    v331 = f102(v329, v34);
     if (v331) { goto L98; }
     else { goto L92; }
 L92:;
@@ -30497,7 +29347,7 @@ L92:;
     store8(v333, 7u);
     v334 = v33 + 18u * 1u;
     store16(v334, 65535u);
-    v335 = f109(v329, v33);
+    v335 = f102(v329, v33);
     if (v335) { goto L93; }
     else { goto L96; }
 L93:;
@@ -30509,7 +29359,7 @@ L93:;
     v338 = load_address(v337);
     v339 = a0 + 192u * 1u;
     v340 = load64(v339);
-    f108(v32, v329, v31, ADDRESS(c155), 0u, ADDRESS(c155), 0u, v338, v340);
+    f101(v32, v329, v31, ADDRESS(c155), 0u, ADDRESS(c155), 0u, v338, v340);
     v341 = load8(v32);
     v342 = v341 == 0u;
     if (v342) { goto L94; }
@@ -30559,7 +29409,7 @@ L99:;
     store8(v359, 3u);
     v360 = v30 + 18u * 1u;
     store16(v360, 65535u);
-    v361 = f109(v329, v30);
+    v361 = f102(v329, v30);
     if (v361) { goto L100; }
     else { goto L103; }
 L100:;
@@ -30571,7 +29421,7 @@ L100:;
     v364 = load_address(v363);
     v365 = a0 + 192u * 1u;
     v366 = load64(v365);
-    f108(v29, v329, v28, ADDRESS(c155), 0u, ADDRESS(c155), 0u, v364, v366);
+    f101(v29, v329, v28, ADDRESS(c155), 0u, ADDRESS(c155), 0u, v364, v366);
     v367 = load8(v29);
     v368 = v367 == 0u;
     if (v368) { goto L101; }
@@ -30607,7 +29457,7 @@ L103:;
 L104:;
     goto L19;
 L105:;
-    f129(a0, a1);
+    f122(a0, a1);
     goto L19;
 L106:;
     v381 = a0 + 104u * 1u;
@@ -30652,7 +29502,7 @@ L112:;
     v400 = v27 + 18u * 1u;
     store16(v400, v397);
     v401 = a0 + 8u * 1u;
-    v402 = f109(v401, v27);
+    v402 = f102(v401, v27);
     v403 = (u16)v24;
     if (v402) { goto L113; }
     else { goto L116; }
@@ -30665,7 +29515,7 @@ L113:;
     v406 = load_address(v405);
     v407 = a0 + 192u * 1u;
     v408 = load64(v407);
-    f108(v26, v401, v25, ADDRESS(c155), 0u, ADDRESS(c155), 0u, v406, v408);
+    f101(v26, v401, v25, ADDRESS(c155), 0u, ADDRESS(c155), 0u, v406, v408);
     v409 = load8(v26);
     v410 = v409 == 0u;
     if (v410) { goto L114; }
@@ -30716,7 +29566,7 @@ L119:;
     UNREACHABLE;
 }
 
-static void f129(address a0, u64 a1) {
+static void f122(address a0, u64 a1) {
     address v2, v3, v4, v5, v9, v10, v11, v13, v14, v15, v16, v20, v22, v23, v24, v25;
     address v26, v27, v28, v29, v30, v31, v32, v33, v34, v35;
     u64 v6, v7, v17, v21;
@@ -30741,7 +29591,7 @@ L1:;
     v10 = v4 + 18u * 1u;
     store16(v10, 65535u);
     v11 = a0 + 8u * 1u;
-    v12 = f109(v11, v4);
+    v12 = f102(v11, v4);
     if (v12) { goto L2; }
     else { goto L5; }
 L2:;
@@ -30753,7 +29603,7 @@ L2:;
     v15 = load_address(v14);
     v16 = a0 + 192u * 1u;
     v17 = load64(v16);
-    f108(v3, v11, v2, ADDRESS(c155), 0u, ADDRESS(c155), 0u, v15, v17);
+    f101(v3, v11, v2, ADDRESS(c155), 0u, ADDRESS(c155), 0u, v15, v17);
     v18 = load8(v3);
     v19 = v18 == 0u;
     if (v19) { goto L3; }
@@ -30802,7 +29652,7 @@ L8:;
     return;
 }
 
-static void f130(address a0, address a1, u64 a2) {
+static void f123(address a0, address a1, u64 a2) {
     u16 v3, v6, v9, v10, v12, v13, v56, v57, v58, v59, v64, v65, v66, v67, v75, v76;
     u16 v77, v78, v102, v103, v105, v106;
     address v4, v14, v19, v24, v26, v28, v30, v32, v34, v36, v38, v40, v42, v44, v46, v52;
@@ -30947,7 +29797,7 @@ L8:;
     return;
 }
 
-static void f131(address a0, u16 a1, u8 a2) {
+static void f124(address a0, u16 a1, u8 a2) {
     u64 v3, v6, v10, v11, v14, v15, v19, v24, v26, v29, v31, v38, v43, v45, v48, v50;
     u64 v57, v61, v64;
     u8 v4, v8, v12, v16, v22, v30, v32, v35, v36, v37, v39, v41, v49, v51, v54, v55;
@@ -31089,7 +29939,7 @@ L22:;
     return;
 }
 
-static void f132(address a0, u64 a1, u8 a2, u16 a3, address a4, u64 a5) {
+static void f125(address a0, u64 a1, u8 a2, u16 a3, address a4, u64 a5) {
     u16 v6, v8, v10, v12, v17, v19, v20, v22, v42, v63, v102, v133, v139, v185, v215, v235;
     u16 v240, v259, v291, v310;
     u64 v7, v9, v11, v13, v14, v21, v23, v46, v47, v51, v53, v57, v59, v61, v64, v66;
@@ -31236,7 +30086,7 @@ L10:;
     store8(v76, 1u);
     goto L11;
 L11:;
-    f128(a0, a1);
+    f121(a0, a1);
     goto L90;
 L12:;
     store16(v39, 13u);
@@ -31306,7 +30156,7 @@ L21:;
     store8(v111, 1u);
     goto L22;
 L22:;
-    f128(a0, a1);
+    f121(a0, a1);
     goto L90;
 L23:;
     memory_set(v38, 0u, 32u);
@@ -31318,7 +30168,7 @@ L23:;
     v114 = v38 + 18u * 1u;
     store16(v114, v42);
     v115 = a0 + 8u * 1u;
-    v116 = f109(v115, v38);
+    v116 = f102(v115, v38);
     if (v116) { goto L24; }
     else { goto L27; }
 L24:;
@@ -31330,7 +30180,7 @@ L24:;
     v119 = load_address(v118);
     v120 = a0 + 192u * 1u;
     v121 = load64(v120);
-    f108(v37, v115, v36, ADDRESS(c155), 0u, ADDRESS(c155), 0u, v119, v121);
+    f101(v37, v115, v36, ADDRESS(c155), 0u, ADDRESS(c155), 0u, v119, v121);
     v122 = load8(v37);
     v123 = v122 == 0u;
     if (v123) { goto L25; }
@@ -31399,7 +30249,7 @@ L33:;
     v143 = v35 + 18u * 1u;
     store16(v143, 65535u);
     v144 = a0 + 8u * 1u;
-    v145 = f109(v144, v35);
+    v145 = f102(v144, v35);
     if (v145) { goto L34; }
     else { goto L37; }
 L34:;
@@ -31411,7 +30261,7 @@ L34:;
     v148 = load_address(v147);
     v149 = a0 + 192u * 1u;
     v150 = load64(v149);
-    f108(v34, v144, v33, ADDRESS(c155), 0u, ADDRESS(c155), 0u, v148, v150);
+    f101(v34, v144, v33, ADDRESS(c155), 0u, ADDRESS(c155), 0u, v148, v150);
     v151 = load8(v34);
     v152 = v151 == 0u;
     if (v152) { goto L35; }
@@ -31462,7 +30312,7 @@ L40:;
     v166 = v32 + 18u * 1u;
     store16(v166, v133);
     v167 = a0 + 8u * 1u;
-    v168 = f109(v167, v32);
+    v168 = f102(v167, v32);
     if (v168) { goto L41; }
     else { goto L44; }
 L41:;
@@ -31474,7 +30324,7 @@ L41:;
     v171 = load_address(v170);
     v172 = a0 + 192u * 1u;
     v173 = load64(v172);
-    f108(v31, v167, v30, ADDRESS(c155), 0u, ADDRESS(c155), 0u, v171, v173);
+    f101(v31, v167, v30, ADDRESS(c155), 0u, ADDRESS(c155), 0u, v171, v173);
     v174 = load8(v31);
     v175 = v174 == 0u;
     if (v175) { goto L42; }
@@ -31536,7 +30386,7 @@ L47:;
     v194 = load_address(v193);
     v195 = a0 + 192u * 1u;
     v196 = load64(v195);
-    f108(v29, v192, v28, ADDRESS(c155), 0u, ADDRESS(c155), 0u, v194, v196);
+    f101(v29, v192, v28, ADDRESS(c155), 0u, ADDRESS(c155), 0u, v194, v196);
     v197 = load8(v29);
     v198 = v197 == 0u;
     if (v198) { goto L48; }
@@ -31571,7 +30421,7 @@ L51:;
     v213 = load8(v212);
     v15 = v213; goto L52;
 L52:;
-    f133(a0, a1, v185, v15);
+    f126(a0, a1, v185, v15);
     goto L90;
 L53:;
     v214 = a5 < 258u ? a5 : 258u;
@@ -31606,7 +30456,7 @@ L56:;
     v224 = load_address(v223);
     v225 = a0 + 192u * 1u;
     v226 = load64(v225);
-    f108(v27, v222, v26, a4, v214, ADDRESS(c155), 0u, v224, v226);
+    f101(v27, v222, v26, a4, v214, ADDRESS(c155), 0u, v224, v226);
     v227 = load8(v27);
     v228 = v227 == 0u;
     if (v228) { goto L57; }
@@ -31636,7 +30486,7 @@ L60:;
     else { goto L62; }
 L61:;
     v238 = load8(v236);
-    f133(a0, a1, v235, v238);
+    f126(a0, a1, v235, v238);
     goto L90;
 L62:;
     v239 = a5 < 258u ? a5 : 258u;
@@ -31671,7 +30521,7 @@ L65:;
     v249 = load_address(v248);
     v250 = a0 + 192u * 1u;
     v251 = load64(v250);
-    f108(v25, v247, v24, a4, v239, ADDRESS(c155), 0u, v249, v251);
+    f101(v25, v247, v24, a4, v239, ADDRESS(c155), 0u, v249, v251);
     v252 = load8(v25);
     v253 = v252 == 0u;
     if (v253) { goto L66; }
@@ -31716,7 +30566,7 @@ L71:;
     store8(v271, 1u);
     goto L72;
 L72:;
-    f128(a0, a1);
+    f121(a0, a1);
     goto L90;
 L73:;
     store16(v39, 13u);
@@ -31819,7 +30669,7 @@ L86:;
     store8(v323, 1u);
     goto L87;
 L87:;
-    f128(a0, a1);
+    f121(a0, a1);
     goto L90;
 L88:;
     store16(v39, 13u);
@@ -31840,7 +30690,7 @@ L91:;
     UNREACHABLE;
 }
 
-static void f133(address a0, u64 a1, u16 a2, u8 a3) {
+static void f126(address a0, u64 a1, u16 a2, u8 a3) {
     u16 v4, v6, v17, v41;
     u64 v5, v7, v11, v12, v14, v20, v31, v35, v37, v39, v42, v44, v48, v52;
     address v8, v9, v10, v15, v16, v19, v22, v23, v26, v27, v28, v29, v30, v32, v33, v34;
@@ -31932,7 +30782,7 @@ L11:;
     store8(v54, 1u);
     goto L12;
 L12:;
-    f128(a0, a1);
+    f121(a0, a1);
     goto L14;
 L13:;
     v55 = a0 + 172u * 1u;
@@ -31950,7 +30800,7 @@ L14:;
     return;
 }
 
-static u8 f134(address a0) {
+static u8 f127(address a0) {
     u64 v1, v6, v11, v13, v15, v16, v18, v20, v24, v25, v27, v29, v32, v34, v38, v40;
     u64 v41, v43, v45, v49, v50, v52, v54, v57, v59;
     struct pair v2, v3, v26, v30, v31, v51, v55, v56;
@@ -31963,7 +30813,7 @@ static u8 f134(address a0) {
     else { v1 = v6; goto L3; }
 L1:;
     v8 = a0 + 48u * 1u;
-    v9 = f135(v8);
+    v9 = f128(v8);
     v10 = (u8)((v9) & UINT64_C(1));
     if (v10) { v4 = 1u; goto L17; }
     else { goto L2; }
@@ -32067,7 +30917,7 @@ L17:;
     return v4;
 }
 
-static u8 f135(address a0) {
+static u8 f128(address a0) {
     u64 v1, v2, v3, v5, v7, v8, v9, v10, v12, v13, v14, v15, v19, v22, v23, v24;
     u64 v25, v32, v34, v35, v36, v39, v40, v47, v118, v119, v121, v124, v127, v128, v131, v133;
     u64 v134, v135, v136, v138, v139, v141, v142, v144, v150, v151, v153, v155, v158, v160, v162, v163;
@@ -32392,7 +31242,7 @@ L30:;
     if (v190) { goto L31; }
     else { v9 = v7; v10 = 0u; goto L33; }
 L31:;
-    v191 = f136(a0, v3);
+    v191 = f129(a0, v3);
     if (v191) { goto L32; }
     else { goto L36; }
 L32:;
@@ -32583,7 +31433,7 @@ L44:;
     return v16;
 }
 
-static u8 f136(address a0, u64 a1) {
+static u8 f129(address a0, u64 a1) {
     u8 v2, v7, v12, v16, v17, v23, v28;
     struct pair v3, v21, v25, v26;
     address v4, v8, v18, v30;
@@ -32637,7 +31487,7 @@ L6:;
     v2 = 1u; goto L1;
 }
 
-static void f137(address a0, address a1, u64 a2, address a3, address a4, u16 a5, u16 a6) {
+static void f130(address a0, address a1, u64 a2, address a3, address a4, u16 a5, u16 a6) {
     u8 v7, v16, v19, v24, v30, v31, v32, v36, v41, v53, v54, v55, v57, v58, v59, v61;
     u8 v62, v63, v65, v66, v67, v68, v70, v71, v73, v74, v75, v77, v78, v79, v80, v84;
     u8 v86, v90, v92, v94, v96, v98, v100, v102, v104, v106, v108, v110, v112, v114, v116, v118;
@@ -32709,7 +31559,7 @@ L1:;
     if (v67) { v16 = 0u; goto L38; }
     else { goto L2; }
 L2:;
-    v68 = f43(a1, 4u, (ADDRESS(c347) + 8u * 1u), 4u);
+    v68 = f28(a1, 4u, (ADDRESS(c347) + 8u * 1u), 4u);
     if (v68) { goto L3; }
     else { v16 = 0u; goto L38; }
 L3:;
@@ -33033,7 +31883,7 @@ L24:;
     if (v292) { goto L27; }
     else { goto L33; }
 L25:;
-    v293 = f43(a1, v253, v43, v253);
+    v293 = f28(a1, v253, v43, v253);
     v294 = v262 == v259;
     v295 = (u8)(((u32)v294 & (u32)v293) & UINT64_C(1));
     if (v295) { goto L27; }
@@ -33094,7 +31944,7 @@ L32:;
 L33:;
     goto L39;
 L34:;
-    v328 = f43(v261, v262, v258, v259);
+    v328 = f28(v261, v262, v258, v259);
     if (v328) { goto L36; }
     else { goto L39; }
 L35:;
@@ -33256,7 +32106,7 @@ L50:;
     goto L37;
 }
 
-static struct s1 f138(address a0, u64 a1) {
+static struct s1 f131(address a0, u64 a1) {
     u64 v2, v3, v5, v12, v14, v23, v26, v27, v35, v36, v38;
     address v4, v6, v9, v13, v15, v17, v19, v20, v21, v22, v29, v30, v32, v39;
     u8 v7, v8, v10, v11, v18, v24, v25, v28, v34, v37, v40;
@@ -33335,7 +32185,7 @@ L10:;
     return v42;
 }
 
-static void f139(address a0, address a1, u64 a2, address a3, u64 a4, address a5, u64 a6) {
+static void f132(address a0, address a1, u64 a2, address a3, u64 a4, address a5, u64 a6) {
     u64 v7, v9, v15, v35, v39, v41, v44, v49, v58, v61, v64;
     u8 v8, v10, v13, v16, v19, v20, v22, v24, v28, v31, v45, v46, v47, v48, v52, v59;
     u8 v62, v63, v65, v66, v67;
@@ -33349,7 +32199,7 @@ static void f139(address a0, address a1, u64 a2, address a3, u64 a4, address a5,
     v12 = ADDRESS(block1);
     memory_set(v11, 0u, 16u);
     memory_set(v12, 0u, 7u);
-    f140(v11, a1, a2, a3, a4, a5, a6);
+    f133(v11, a1, a2, a3, a4, a5, a6);
     v13 = load8(v11);
     v14 = v11 + 8u * 1u;
     v15 = load64(v14);
@@ -33358,7 +32208,7 @@ static void f139(address a0, address a1, u64 a2, address a3, u64 a4, address a5,
     else { goto L3; }
 L1:;
     v17 = (address)v15;
-    v18 = f155(a5, a6, v17);
+    v18 = f152(a5, a6, v17);
     v19 = v18.m0;
     v20 = v19 == 0u;
     if (v20) { goto L4; }
@@ -33476,7 +32326,7 @@ L18:;
     goto L2;
 }
 
-static void f140(address a0, address a1, u64 a2, address a3, u64 a4, address a5, u64 a6) {
+static void f133(address a0, address a1, u64 a2, address a3, u64 a4, address a5, u64 a6) {
     u8 v7, v8, v9, v10, v11, v19, v20, v21, v23, v24, v25, v26, v28, v29, v30, v32;
     u8 v33, v34, v36, v37, v38, v39, v41, v42, v44, v45, v47, v48, v49, v50, v52, v54;
     u8 v55, v60, v62, v63, v65, v68, v69, v70, v78, v79, v82, v84, v87, v88, v89;
@@ -33485,7 +32335,7 @@ static void f140(address a0, address a1, u64 a2, address a3, u64 a4, address a5,
     address v73, v74, v75, v76, v80, v85, v90, v91;
     struct s1 v18, v46;
     u16 v61;
-    struct s3 v77;
+    struct s5 v77;
     u64 block0[48];
     u64 block1[48];
     u64 block2[6];
@@ -33498,9 +32348,9 @@ static void f140(address a0, address a1, u64 a2, address a3, u64 a4, address a5,
     v17 = ADDRESS(block4);
     memory_set(v14, 0u, 384u);
     memory_set(v15, 0u, 48u);
-    f24(v14);
+    f134(v14);
     memory_cpy(v13, v14, 384u);
-    v18 = f138(a3, a4);
+    v18 = f131(a3, a4);
     v19 = v18.m0;
     v20 = v19 == 1u;
     if (v20) { goto L1; }
@@ -33535,7 +32385,7 @@ L4:;
     if (v38) { v7 = 2u; v8 = 0u; goto L13; }
     else { goto L5; }
 L5:;
-    v39 = f43(a5, 4u, (ADDRESS(c347) + 8u * 1u), 4u);
+    v39 = f28(a5, 4u, (ADDRESS(c347) + 8u * 1u), 4u);
     if (v39) { goto L6; }
     else { v7 = 2u; v8 = 0u; goto L13; }
 L6:;
@@ -33551,7 +32401,7 @@ L7:;
     if (v45) { goto L8; }
     else { v7 = 2u; v8 = 2u; goto L13; }
 L8:;
-    v46 = f141(a5, a6, v13);
+    v46 = f138(a5, a6, v13);
     v47 = v46.m0;
     v48 = v47 == 0u;
     if (v48) { goto L9; }
@@ -33580,7 +32430,7 @@ L11:;
 L12:;
     store64(v16, v22);
     v61 = (u16)(v58);
-    f153(v15, v16, v61, a3, a4);
+    f150(v15, v16, v61, a3, a4);
     v62 = load8(v15);
     v63 = v62 == 0u;
     if (v63) { goto L16; }
@@ -33612,7 +32462,7 @@ L15:;
 L16:;
     v76 = v15 + 8u * 1u;
     memory_cpy(v17, v13, 384u);
-    v77 = f154(v17, v76);
+    v77 = f151(v17, v76);
     v78 = v77.m0;
     v79 = v78 == 0u;
     v80 = v77.m1;
@@ -33636,7 +32486,952 @@ L18:;
     v9 = 1u; v10 = 3u; v11 = 0u; v12 = 0u; goto L15;
 }
 
-static struct s1 f141(address a0, u64 a1, address a2) {
+static void f134(address a0) {
+    address v1, v2, v3, v4, v5, v6, v7, v8, v9, v10, v11, v12, v13, v14, v15, v16;
+    address v17, v18, v19, v20, v21, v22, v23, v24, v25, v28;
+    u8 v26, v27;
+    u64 block0[31];
+    u64 block1[49];
+    u64 block2[3];
+    v1 = ADDRESS(block0);
+    v2 = ADDRESS(block1);
+    v3 = ADDRESS(block2);
+    memory_set(v2, 0u, 392u);
+    v4 = v1 + 9u * 1u;
+    memory_set(v4, 0u, 151u);
+    store64(v1, 0u);
+    v5 = v1 + 8u * 1u;
+    store8(v5, 0u);
+    v6 = v1 + 160u * 1u;
+    store8(v6, 1u);
+    v7 = v1 + 161u * 1u;
+    store8(v7, 128u);
+    v8 = v1 + 162u * 1u;
+    store8(v8, 248u);
+    v9 = v1 + 163u * 1u;
+    store8(v9, 254u);
+    v10 = v1 + 164u * 1u;
+    store16(v10, 65535u);
+    v11 = v1 + 166u * 1u;
+    store8(v11, 128u);
+    v12 = v1 + 167u * 1u;
+    memory_set(v12, 0u, 39u);
+    v13 = v1 + 206u * 1u;
+    store16(v13, 65535u);
+    v14 = v1 + 208u * 1u;
+    store32(v14, UINT32_C(2147483647));
+    v15 = v1 + 212u * 1u;
+    memory_set(v15, 0u, 22u);
+    v16 = v1 + 234u * 1u;
+    store16(v16, 37u);
+    v17 = v1 + 236u * 1u;
+    memory_set(v17, 0u, 6u);
+    v18 = v1 + 242u * 1u;
+    store8(v18, 160u);
+    v19 = v1 + 243u * 1u;
+    memory_set(v19, 0u, 5u);
+    store8(v3, 6u);
+    v20 = v3 + 1u * 1u;
+    memory_set(v20, 0u, 15u);
+    v21 = v3 + 16u * 1u;
+    store8(v21, 1u);
+    v22 = v3 + 17u * 1u;
+    store8(v22, 3u);
+    v23 = v3 + 18u * 1u;
+    store8(v23, 0u);
+    v24 = v3 + 19u * 1u;
+    store8(v24, 1u);
+    v25 = v3 + 20u * 1u;
+    store32(v25, 0u);
+    f135(v2, v1, v3, 1u);
+    v26 = load8(v2);
+    v27 = v26 == 0u;
+    if (v27) { goto L1; }
+    else { goto L2; }
+L1:;
+    v28 = v2 + 8u * 1u;
+    memory_cpy(a0, v28, 384u);
+    return;
+L2:;
+    TRAP;
+    UNREACHABLE;
+}
+
+static void f135(address a0, address a1, address a2, u64 a3) {
+    u64 v4, v15, v32, v33, v34, v35, v38, v41, v42, v45, v51, v53, v70, v72;
+    address v5, v6, v7, v8, v9, v10, v11, v14, v16, v18, v20, v22, v24, v26, v28, v30;
+    address v31, v37, v39, v40, v47, v48, v50, v52, v54, v56, v57, v58, v60, v61, v63, v65;
+    address v67, v69, v73, v75, v79, v81, v85, v87, v91, v93, v97, v99, v103, v105, v107, v109;
+    address v111, v113, v115, v117, v119, v120, v121, v122, v123, v124, v125, v126, v127, v128, v129, v130;
+    address v131, v132, v133, v134, v135, v136, v137, v138, v139, v140, v141, v142, v143, v144, v145, v146;
+    address v147, v148, v149, v150, v151, v152, v153, v154, v155, v156, v157, v158, v159, v160, v161, v163;
+    address v165, v167, v168, v169, v170;
+    u8 v12, v13, v17, v19, v21, v23, v25, v29, v36, v43, v44, v46, v55, v59, v62, v68;
+    u8 v71, v74, v76, v77, v78, v80, v82, v83, v84, v86, v88, v89, v90, v92, v95, v98;
+    u8 v100, v101, v102, v106, v108, v110, v112, v114, v116, v118, v162, v164, v166;
+    u16 v27, v49, v64, v94, v96, v104;
+    u32 v66;
+    u64 block0[2];
+    u64 block1[2];
+    u64 block2[18];
+    u64 block3[18];
+    u64 block4[18];
+    u64 block5[2];
+    u64 block6[19];
+    v5 = ADDRESS(block0);
+    v6 = ADDRESS(block1);
+    v7 = ADDRESS(block2);
+    v8 = ADDRESS(block3);
+    v9 = ADDRESS(block4);
+    v10 = ADDRESS(block5);
+    v11 = ADDRESS(block6);
+    memory_set(v8, 0u, 144u);
+    memory_set(v9, 0u, 144u);
+    memory_set(v10, 0u, 10u);
+    memory_set(v11, 0u, 150u);
+    f136(v8, a1, a2, a3);
+    v12 = load8(v8);
+    v13 = v12 == 0u;
+    if (v13) { goto L1; }
+    else { goto L9; }
+L1:;
+    v14 = v8 + 8u * 1u;
+    v15 = load64(a1);
+    v16 = a1 + 8u * 1u;
+    v17 = load8(v16);
+    v18 = a1 + 160u * 1u;
+    v19 = load8(v18);
+    v20 = a1 + 161u * 1u;
+    v21 = load8(v20);
+    v22 = a1 + 162u * 1u;
+    v23 = load8(v22);
+    v24 = a1 + 163u * 1u;
+    v25 = load8(v24);
+    v26 = a1 + 164u * 1u;
+    v27 = load16(v26);
+    v28 = a1 + 166u * 1u;
+    v29 = load8(v28);
+    v30 = a1 + 16u * 1u;
+    v31 = a1 + 152u * 1u;
+    v32 = load64(v31);
+    memory_set(v7, 0u, 144u);
+    v33 = (u64)((u64)v32 + (u64)1u);
+    v34 = (u64)((u64)v33 & (u64)1u);
+    v35 = (u64)((u64)v34 + (u64)v33);
+    v36 = v35 == 0u;
+    if (v36) { v4 = 0u; goto L3; }
+    else { goto L2; }
+L2:;
+    v37 = v7 + 136u * 1u;
+    f33(v7, v35);
+    v38 = load64(v37);
+    v4 = v38; goto L3;
+L3:;
+    v39 = v7 + 1u * 1u;
+    v40 = v39 + v32 * 1u;
+    v41 = (u64)((u64)v32 ^ (u64)UINT64_C(18446744073709551615));
+    v42 = (u64)((u64)v4 + (u64)v41);
+    v43 = (u8)(v32);
+    store8(v7, v43);
+    memory_cpy(v39, v30, v32);
+    v44 = v42 == 0u;
+    if (v44) { goto L7; }
+    else { goto L4; }
+L4:;
+    v45 = (u64)((u64)v42 + (u64)UINT64_C(18446744073709551615));
+    v46 = v45 == 0u;
+    if (v46) { goto L6; }
+    else { goto L5; }
+L5:;
+    memory_set(v40, 0u, v45);
+    goto L6;
+L6:;
+    v47 = v40 + v45 * 1u;
+    store8(v47, 0u);
+    goto L7;
+L7:;
+    memory_cpy(v9, v7, 144u);
+    v48 = a1 + 168u * 1u;
+    v49 = load16(v48);
+    v50 = a1 + 176u * 1u;
+    v51 = load64(v50);
+    v52 = a1 + 184u * 1u;
+    v53 = load64(v52);
+    v54 = a1 + 192u * 1u;
+    v55 = load8(v54);
+    v56 = v5 + 2u * 1u;
+    v57 = a1 + 194u * 1u;
+    memory_cpy(v56, v57, 10u);
+    store64(v6, v15);
+    v58 = v6 + 8u * 1u;
+    store16(v58, 0u);
+    v59 = v55 == 1u;
+    v60 = v59 ? v56 : v6;
+    v61 = a1 + 204u * 1u;
+    v62 = load8(v61);
+    v63 = a1 + 206u * 1u;
+    v64 = load16(v63);
+    v65 = a1 + 208u * 1u;
+    v66 = load32(v65);
+    v67 = a1 + 224u * 1u;
+    v68 = load8(v67);
+    v69 = a1 + 225u * 1u;
+    v70 = load64(v69);
+    v71 = v68 == 1u;
+    v72 = v71 ? v70 : v15;
+    v73 = a1 + 212u * 1u;
+    v74 = load8(v73);
+    v75 = a1 + 213u * 1u;
+    v76 = load8(v75);
+    v77 = v74 == 1u;
+    v78 = v77 ? v76 : v21;
+    v79 = a1 + 214u * 1u;
+    v80 = load8(v79);
+    v81 = a1 + 215u * 1u;
+    v82 = load8(v81);
+    v83 = v80 == 1u;
+    v84 = v83 ? v82 : v23;
+    v85 = a1 + 216u * 1u;
+    v86 = load8(v85);
+    v87 = a1 + 217u * 1u;
+    v88 = load8(v87);
+    v89 = v86 == 1u;
+    v90 = v89 ? v88 : v25;
+    v91 = a1 + 218u * 1u;
+    v92 = load8(v91);
+    v93 = a1 + 220u * 1u;
+    v94 = load16(v93);
+    v95 = v92 == 1u;
+    v96 = v95 ? v94 : v27;
+    v97 = a1 + 222u * 1u;
+    v98 = load8(v97);
+    v99 = a1 + 223u * 1u;
+    v100 = load8(v99);
+    v101 = v98 == 1u;
+    v102 = v101 ? v100 : v29;
+    memory_cpy(v10, v60, 10u);
+    v103 = a1 + 234u * 1u;
+    v104 = load16(v103);
+    v105 = a1 + 236u * 1u;
+    v106 = load8(v105);
+    v107 = a1 + 237u * 1u;
+    v108 = load8(v107);
+    v109 = a1 + 238u * 1u;
+    v110 = load8(v109);
+    v111 = a1 + 239u * 1u;
+    v112 = load8(v111);
+    v113 = a1 + 240u * 1u;
+    v114 = load8(v113);
+    v115 = a1 + 241u * 1u;
+    v116 = load8(v115);
+    v117 = a1 + 242u * 1u;
+    v118 = load8(v117);
+    v119 = v11 + 6u * 1u;
+    memory_cpy(v119, v9, 144u);
+    v120 = a0 + 8u * 1u;
+    store32(a0, 0u);
+    store64(v120, v15);
+    v121 = a0 + 16u * 1u;
+    store8(v121, v17);
+    v122 = a0 + 17u * 1u;
+    store8(v122, v19);
+    v123 = a0 + 18u * 1u;
+    store8(v123, v21);
+    v124 = a0 + 19u * 1u;
+    store8(v124, v23);
+    v125 = a0 + 20u * 1u;
+    store8(v125, v25);
+    v126 = a0 + 21u * 1u;
+    store8(v126, 0u);
+    v127 = a0 + 22u * 1u;
+    store16(v127, v27);
+    v128 = a0 + 24u * 1u;
+    store8(v128, v29);
+    v129 = a0 + 25u * 1u;
+    store8(v129, 0u);
+    v130 = a0 + 26u * 1u;
+    memory_cpy(v130, v11, 150u);
+    v131 = a0 + 176u * 1u;
+    store16(v131, v49);
+    v132 = a0 + 178u * 1u;
+    memory_set(v132, 0u, 6u);
+    v133 = a0 + 184u * 1u;
+    store64(v133, v51);
+    v134 = a0 + 192u * 1u;
+    store64(v134, v53);
+    v135 = a0 + 200u * 1u;
+    memory_cpy(v135, v10, 10u);
+    v136 = a0 + 210u * 1u;
+    store8(v136, v62);
+    v137 = a0 + 211u * 1u;
+    store8(v137, 0u);
+    v138 = a0 + 212u * 1u;
+    store16(v138, v64);
+    v139 = a0 + 214u * 1u;
+    store16(v139, 0u);
+    v140 = a0 + 216u * 1u;
+    store32(v140, v66);
+    v141 = a0 + 220u * 1u;
+    store64(v141, v72);
+    v142 = a0 + 228u * 1u;
+    store8(v142, v78);
+    v143 = a0 + 229u * 1u;
+    store8(v143, v84);
+    v144 = a0 + 230u * 1u;
+    store8(v144, v90);
+    v145 = a0 + 231u * 1u;
+    store8(v145, 0u);
+    v146 = a0 + 232u * 1u;
+    store16(v146, v96);
+    v147 = a0 + 234u * 1u;
+    store8(v147, v102);
+    v148 = a0 + 235u * 1u;
+    store8(v148, 0u);
+    v149 = a0 + 236u * 1u;
+    store16(v149, v104);
+    v150 = a0 + 238u * 1u;
+    store8(v150, v106);
+    v151 = a0 + 239u * 1u;
+    store8(v151, v108);
+    v152 = a0 + 240u * 1u;
+    store8(v152, v110);
+    v153 = a0 + 241u * 1u;
+    store8(v153, v112);
+    v154 = a0 + 242u * 1u;
+    store8(v154, v114);
+    v155 = a0 + 243u * 1u;
+    store8(v155, v116);
+    v156 = a0 + 244u * 1u;
+    store8(v156, v118);
+    v157 = a0 + 245u * 1u;
+    store8(v157, 0u);
+    v158 = a0 + 246u * 1u;
+    store16(v158, 0u);
+    v159 = a0 + 248u * 1u;
+    store64(v159, 0u);
+    v160 = a0 + 256u * 1u;
+    memory_cpy(v160, v14, 136u);
+    goto L8;
+L8:;
+    return;
+L9:;
+    v161 = v8 + 3u * 1u;
+    v162 = load8(v161);
+    v163 = v8 + 2u * 1u;
+    v164 = load8(v163);
+    v165 = v8 + 1u * 1u;
+    v166 = load8(v165);
+    store8(a0, 1u);
+    v167 = a0 + 1u * 1u;
+    store8(v167, v166);
+    v168 = a0 + 2u * 1u;
+    store8(v168, v164);
+    v169 = a0 + 3u * 1u;
+    store8(v169, v162);
+    v170 = a0 + 8u * 1u;
+    memory_set(v170, 0u, 384u);
+    goto L8;
+}
+
+static void f136(address a0, address a1, address a2, u64 a3) {
+    address v4, v6, v8, v9, v10, v11, v12, v16, v17, v18, v19, v20, v23, v24, v29, v44;
+    address v45, v46, v47, v48, v49, v50, v51, v52, v53, v54, v55, v56, v57, v58, v59, v60;
+    address v61, v62, v63, v64, v65, v66, v67, v68, v69, v70, v71, v72, v73, v74, v75, v76;
+    address v77, v78, v79, v80, v81, v82, v83, v84, v85, v86, v87, v88, v89, v90, v91, v92;
+    address v93, v94, v95, v96, v97, v98, v99, v100, v101, v102, v103, v104, v105, v106, v107, v108;
+    address v109, v110, v111, v112, v113, v114, v115, v116, v117, v118, v119, v121, v124, v130, v132, v134;
+    address v136, v138, v140, v143, v144, v145, v146, v147, v148, v149, v150, v151, v155, v157, v158, v159;
+    address v160, v161, v163, v165, v170, v173, v175, v177, v179, v181, v183, v185, v187, v189, v191, v193;
+    address v196, v198, v218, v220, v222, v224, v225, v226, v227, v228, v229, v230, v231, v232;
+    struct s5 v5, v39, v40;
+    u64 v7, v21, v25, v120, v125, v142, v152, v162, v166;
+    u8 v13, v14, v15, v22, v26, v27, v28, v30, v31, v32, v33, v34, v35, v36, v37, v38;
+    u8 v41, v42, v43, v122, v123, v126, v127, v128, v129, v131, v133, v135, v137, v139, v141, v153;
+    u8 v154, v156, v164, v167, v168, v169, v171, v172, v174, v176, v180, v182, v184, v186, v188, v190;
+    u8 v192, v195, v197, v199, v200, v201, v202, v203, v204, v205, v206, v207, v208, v209, v210, v211;
+    u8 v212, v213, v214, v215, v216, v217, v219, v221, v223;
+    u16 v178, v194;
+    u64 block0[1];
+    u64 block1[17];
+    u64 block2[3];
+    u64 block3[1];
+    u64 block4[18];
+    v8 = ADDRESS(block0);
+    v9 = ADDRESS(block1);
+    v10 = ADDRESS(block2);
+    v11 = ADDRESS(block3);
+    v12 = ADDRESS(block4);
+    memory_set(v12, 0u, 140u);
+    v13 = a3 != 0u;
+    v14 = a3 > 8u;
+    v15 = (u8)(((u32)v14 ^ (u32)v13) & UINT64_C(1));
+    if (v15) { goto L1; }
+    else { goto L11; }
+L1:;
+    store64(v11, UINT64_C(6755425210990592));
+    v16 = a1 + 236u * 1u;
+    v17 = a1 + 237u * 1u;
+    v18 = a1 + 163u * 1u;
+    v19 = a1 + 16u * 1u;
+    v20 = v11 + 2u * 1u;
+    v21 = load64(a1);
+    v22 = v21 == UINT64_C(18446744073709551615);
+    if (v22) { v4 = v11; goto L8; }
+    else { goto L2; }
+L2:;
+    v23 = a1 + 152u * 1u;
+    v24 = v11 + 4u * 1u;
+    v25 = load64(v23);
+    v26 = v25 > 128u;
+    if (v26) { goto L7; }
+    else { goto L3; }
+L3:;
+    memory_set(v10, 0u, 24u);
+    f25(v10, v19, v25);
+    v27 = load8(v10);
+    v28 = v27 == 0u;
+    if (v28) { goto L4; }
+    else { v4 = v20; goto L8; }
+L4:;
+    v29 = v11 + 6u * 1u;
+    v30 = load8(v18);
+    v31 = (u8)((u32)v30 + (u32)233u);
+    v32 = v31 < 27u;
+    v33 = v30 == 254u;
+    v34 = (u8)(((u32)v33 | (u32)v32) & UINT64_C(1));
+    if (v34) { goto L5; }
+    else { v4 = v24; goto L8; }
+L5:;
+    v35 = load8(v16);
+    v36 = (u8)((v35) & UINT64_C(1));
+    if (v36) { goto L6; }
+    else { v5 = (struct s5){ 0 }; v6 = 0u; goto L9; }
+L6:;
+    v37 = load8(v17);
+    v38 = (u8)((v37) & UINT64_C(1));
+    if (v38) { v4 = v29; goto L8; }
+    else { v5 = (struct s5){ 0 }; v6 = 0u; goto L9; }
+L7:;
+    v39 = (struct s5){ 1u, 0u };
+    v39.m1 = v20;
+    v5 = v39; v6 = v20; goto L9;
+L8:;
+    v40 = (struct s5){ 1u, 0u };
+    v40.m1 = v4;
+    v5 = v40; v6 = v4; goto L9;
+L9:;
+    v41 = v5.m0;
+    v42 = (u8)((v41) & UINT64_C(1));
+    if (v42) { goto L15; }
+    else { goto L12; }
+L10:;
+    return;
+L11:;
+    v43 = (u8)v14;
+    store8(a0, 1u);
+    v44 = a0 + 1u * 1u;
+    store8(v44, v43);
+    v45 = a0 + 2u * 1u;
+    store8(v45, 0u);
+    v46 = a0 + 3u * 1u;
+    store8(v46, 0u);
+    v47 = a0 + 8u * 1u;
+    memory_set(v47, 0u, 136u);
+    goto L10;
+L12:;
+    store64(v9, 0u);
+    v48 = v9 + 8u * 1u;
+    store8(v48, 5u);
+    v49 = v9 + 9u * 1u;
+    store8(v49, 0u);
+    v50 = v9 + 10u * 1u;
+    store8(v50, 1u);
+    v51 = v9 + 11u * 1u;
+    store8(v51, 3u);
+    v52 = v9 + 12u * 1u;
+    store8(v52, 0u);
+    v53 = v9 + 13u * 1u;
+    store8(v53, 1u);
+    v54 = v9 + 14u * 1u;
+    store8(v54, 0u);
+    v55 = v9 + 15u * 1u;
+    store8(v55, 0u);
+    v56 = v9 + 16u * 1u;
+    store64(v56, 0u);
+    v57 = v9 + 24u * 1u;
+    store8(v57, 5u);
+    v58 = v9 + 25u * 1u;
+    store8(v58, 0u);
+    v59 = v9 + 26u * 1u;
+    store8(v59, 1u);
+    v60 = v9 + 27u * 1u;
+    store8(v60, 3u);
+    v61 = v9 + 28u * 1u;
+    store8(v61, 0u);
+    v62 = v9 + 29u * 1u;
+    store8(v62, 1u);
+    v63 = v9 + 30u * 1u;
+    store8(v63, 0u);
+    v64 = v9 + 31u * 1u;
+    store8(v64, 0u);
+    v65 = v9 + 32u * 1u;
+    store64(v65, 0u);
+    v66 = v9 + 40u * 1u;
+    store8(v66, 5u);
+    v67 = v9 + 41u * 1u;
+    store8(v67, 0u);
+    v68 = v9 + 42u * 1u;
+    store8(v68, 1u);
+    v69 = v9 + 43u * 1u;
+    store8(v69, 3u);
+    v70 = v9 + 44u * 1u;
+    store8(v70, 0u);
+    v71 = v9 + 45u * 1u;
+    store8(v71, 1u);
+    v72 = v9 + 46u * 1u;
+    store8(v72, 0u);
+    v73 = v9 + 47u * 1u;
+    store8(v73, 0u);
+    v74 = v9 + 48u * 1u;
+    store64(v74, 0u);
+    v75 = v9 + 56u * 1u;
+    store8(v75, 5u);
+    v76 = v9 + 57u * 1u;
+    store8(v76, 0u);
+    v77 = v9 + 58u * 1u;
+    store8(v77, 1u);
+    v78 = v9 + 59u * 1u;
+    store8(v78, 3u);
+    v79 = v9 + 60u * 1u;
+    store8(v79, 0u);
+    v80 = v9 + 61u * 1u;
+    store8(v80, 1u);
+    v81 = v9 + 62u * 1u;
+    store8(v81, 0u);
+    v82 = v9 + 63u * 1u;
+    store8(v82, 0u);
+    v83 = v9 + 64u * 1u;
+    store64(v83, 0u);
+    v84 = v9 + 72u * 1u;
+    store8(v84, 5u);
+    v85 = v9 + 73u * 1u;
+    store8(v85, 0u);
+    v86 = v9 + 74u * 1u;
+    store8(v86, 1u);
+    v87 = v9 + 75u * 1u;
+    store8(v87, 3u);
+    v88 = v9 + 76u * 1u;
+    store8(v88, 0u);
+    v89 = v9 + 77u * 1u;
+    store8(v89, 1u);
+    v90 = v9 + 78u * 1u;
+    store8(v90, 0u);
+    v91 = v9 + 79u * 1u;
+    store8(v91, 0u);
+    v92 = v9 + 80u * 1u;
+    store64(v92, 0u);
+    v93 = v9 + 88u * 1u;
+    store8(v93, 5u);
+    v94 = v9 + 89u * 1u;
+    store8(v94, 0u);
+    v95 = v9 + 90u * 1u;
+    store8(v95, 1u);
+    v96 = v9 + 91u * 1u;
+    store8(v96, 3u);
+    v97 = v9 + 92u * 1u;
+    store8(v97, 0u);
+    v98 = v9 + 93u * 1u;
+    store8(v98, 1u);
+    v99 = v9 + 94u * 1u;
+    store8(v99, 0u);
+    v100 = v9 + 95u * 1u;
+    store8(v100, 0u);
+    v101 = v9 + 96u * 1u;
+    store64(v101, 0u);
+    v102 = v9 + 104u * 1u;
+    store8(v102, 5u);
+    v103 = v9 + 105u * 1u;
+    store8(v103, 0u);
+    v104 = v9 + 106u * 1u;
+    store8(v104, 1u);
+    v105 = v9 + 107u * 1u;
+    store8(v105, 3u);
+    v106 = v9 + 108u * 1u;
+    store8(v106, 0u);
+    v107 = v9 + 109u * 1u;
+    store8(v107, 1u);
+    v108 = v9 + 110u * 1u;
+    store8(v108, 0u);
+    v109 = v9 + 111u * 1u;
+    store8(v109, 0u);
+    v110 = v9 + 112u * 1u;
+    store64(v110, 0u);
+    v111 = v9 + 120u * 1u;
+    store8(v111, 5u);
+    v112 = v9 + 121u * 1u;
+    store8(v112, 0u);
+    v113 = v9 + 122u * 1u;
+    store8(v113, 1u);
+    v114 = v9 + 123u * 1u;
+    store8(v114, 3u);
+    v115 = v9 + 124u * 1u;
+    store8(v115, 0u);
+    v116 = v9 + 125u * 1u;
+    store8(v116, 1u);
+    v117 = v9 + 126u * 1u;
+    store8(v117, 0u);
+    v118 = v9 + 127u * 1u;
+    store8(v118, 0u);
+    v119 = v9 + 128u * 1u;
+    store64(v119, 0u);
+    if (v13) { v7 = 0u; goto L13; }
+    else { goto L16; }
+L13:;
+    v120 = (u64)((u64)v7 * (u64)24u);
+    v121 = a2 + v120 * 1u;
+    store32(v8, 0u);
+    f137(v8, v121);
+    v122 = load8(v8);
+    v123 = v122 == 0u;
+    if (v123) { goto L14; }
+    else { goto L18; }
+L14:;
+    v124 = v121 + 8u * 1u;
+    v125 = load64(v124);
+    v126 = load8(v121);
+    v127 = (u8)((u32)v126 + (u32)255u);
+    v128 = v127 < 9u;
+    v129 = v128 ? v127 : 0u;
+    v130 = v121 + 1u * 1u;
+    v131 = load8(v130);
+    v132 = v121 + 16u * 1u;
+    v133 = load8(v132);
+    v134 = v121 + 17u * 1u;
+    v135 = load8(v134);
+    v136 = v121 + 18u * 1u;
+    v137 = load8(v136);
+    v138 = v121 + 19u * 1u;
+    v139 = load8(v138);
+    v140 = v121 + 20u * 1u;
+    v141 = load8(v140);
+    v142 = (u64)((u64)v7 << (4u & 63u));
+    v143 = v9 + v142 * 1u;
+    store64(v143, v125);
+    v144 = v143 + 8u * 1u;
+    store8(v144, v129);
+    v145 = v143 + 9u * 1u;
+    store8(v145, v131);
+    v146 = v143 + 10u * 1u;
+    store8(v146, v133);
+    v147 = v143 + 11u * 1u;
+    store8(v147, v135);
+    v148 = v143 + 12u * 1u;
+    store8(v148, v137);
+    v149 = v143 + 13u * 1u;
+    store8(v149, v139);
+    v150 = v143 + 14u * 1u;
+    store8(v150, v141);
+    v151 = v143 + 15u * 1u;
+    store8(v151, 0u);
+    v152 = (u64)((u64)v7 + (u64)1u);
+    store64(v119, v152);
+    v153 = v152 == a3;
+    if (v153) { goto L16; }
+    else { v7 = v152; goto L13; }
+L15:;
+    v154 = load8(v6);
+    v155 = v6 + 1u * 1u;
+    v156 = load8(v155);
+    store8(a0, 1u);
+    v157 = a0 + 1u * 1u;
+    store8(v157, 2u);
+    v158 = a0 + 2u * 1u;
+    store8(v158, v154);
+    v159 = a0 + 3u * 1u;
+    store8(v159, v156);
+    v160 = a0 + 8u * 1u;
+    memory_set(v160, 0u, 136u);
+    goto L10;
+L16:;
+    v161 = v12 + 4u * 1u;
+    memory_cpy(v161, v9, 136u);
+    v162 = load64(a1);
+    v163 = a1 + 224u * 1u;
+    v164 = load8(v163);
+    v165 = a1 + 225u * 1u;
+    v166 = load64(v165);
+    v167 = v164 != 1u;
+    v168 = v166 == v162;
+    v169 = v167 ? 1u : v168;
+    if (v169) { goto L17; }
+    else { goto L19; }
+L17:;
+    v170 = a1 + 222u * 1u;
+    v171 = load8(v170);
+    v172 = v171 != 1u;
+    v173 = a1 + 223u * 1u;
+    v174 = load8(v173);
+    v175 = a1 + 166u * 1u;
+    v176 = load8(v175);
+    v177 = a1 + 220u * 1u;
+    v178 = load16(v177);
+    v179 = a1 + 218u * 1u;
+    v180 = load8(v179);
+    v181 = a1 + 217u * 1u;
+    v182 = load8(v181);
+    v183 = a1 + 216u * 1u;
+    v184 = load8(v183);
+    v185 = a1 + 215u * 1u;
+    v186 = load8(v185);
+    v187 = a1 + 214u * 1u;
+    v188 = load8(v187);
+    v189 = a1 + 213u * 1u;
+    v190 = load8(v189);
+    v191 = a1 + 212u * 1u;
+    v192 = load8(v191);
+    v193 = a1 + 164u * 1u;
+    v194 = load16(v193);
+    v195 = load8(v18);
+    v196 = a1 + 162u * 1u;
+    v197 = load8(v196);
+    v198 = a1 + 161u * 1u;
+    v199 = load8(v198);
+    v200 = v180 != 1u;
+    v201 = v184 != 1u;
+    v202 = v188 != 1u;
+    v203 = v192 != 1u;
+    v204 = v190 == v199;
+    v205 = v203 ? 1u : v204;
+    v206 = v186 == v197;
+    v207 = v202 ? 1u : v206;
+    v208 = v205 ? v207 : 0u;
+    v209 = v182 == v195;
+    v210 = v201 ? 1u : v209;
+    v211 = v208 ? v210 : 0u;
+    v212 = v178 == v194;
+    v213 = v200 ? 1u : v212;
+    v214 = v211 ? v213 : 0u;
+    v215 = v174 == v176;
+    v216 = v172 ? 1u : v215;
+    v217 = v214 ? v216 : 0u;
+    if (v217) { goto L19; }
+    else { goto L20; }
+L18:;
+    v218 = v8 + 3u * 1u;
+    v219 = load8(v218);
+    v220 = v8 + 2u * 1u;
+    v221 = load8(v220);
+    v222 = v8 + 1u * 1u;
+    v223 = load8(v222);
+    store8(a0, 1u);
+    v224 = a0 + 1u * 1u;
+    store8(v224, v223);
+    v225 = a0 + 2u * 1u;
+    store8(v225, v221);
+    v226 = a0 + 3u * 1u;
+    store8(v226, v219);
+    v227 = a0 + 8u * 1u;
+    memory_set(v227, 0u, 136u);
+    goto L10;
+L19:;
+    v228 = a0 + 8u * 1u;
+    store32(a0, 0u);
+    memory_cpy(v228, v161, 136u);
+    goto L10;
+L20:;
+    store8(a0, 1u);
+    v229 = a0 + 1u * 1u;
+    store8(v229, 3u);
+    v230 = a0 + 2u * 1u;
+    store8(v230, 0u);
+    v231 = a0 + 3u * 1u;
+    store8(v231, 0u);
+    v232 = a0 + 8u * 1u;
+    memory_set(v232, 0u, 136u);
+    goto L10;
+}
+
+static void f137(address a0, address a1) {
+    address v2, v7, v12, v13, v14, v15, v16, v17, v18, v19, v20, v21, v22, v23, v24, v25;
+    address v26, v27, v28, v29, v30, v31, v32, v33, v34, v37, v48, v64, v66, v67, v68;
+    u64 v3, v35, v47;
+    u8 v4, v5, v8, v9, v10, v11, v36, v38, v39, v40, v41, v42, v43, v44, v45, v46;
+    u8 v49, v53, v54, v55, v57, v58, v59, v61, v62, v63, v65;
+    struct s5 v6, v56, v60;
+    u16 v50, v51, v52;
+    u64 block0[1];
+    u64 block1[2];
+    v12 = ADDRESS(block0);
+    v13 = ADDRESS(block1);
+    store8(v13, 30u);
+    v14 = v13 + 1u * 1u;
+    store8(v14, 0u);
+    v15 = v13 + 2u * 1u;
+    store8(v15, 33u);
+    v16 = v13 + 3u * 1u;
+    store8(v16, 0u);
+    v17 = v13 + 4u * 1u;
+    store8(v17, 33u);
+    v18 = v13 + 5u * 1u;
+    store8(v18, 1u);
+    v19 = v13 + 6u * 1u;
+    store8(v19, 33u);
+    v20 = v13 + 7u * 1u;
+    store8(v20, 2u);
+    v21 = v13 + 8u * 1u;
+    store8(v21, 33u);
+    v22 = v13 + 9u * 1u;
+    store8(v22, 3u);
+    v23 = v13 + 10u * 1u;
+    store8(v23, 33u);
+    v24 = v13 + 11u * 1u;
+    store8(v24, 4u);
+    v25 = a1 + 16u * 1u;
+    v26 = a1 + 17u * 1u;
+    v27 = a1 + 18u * 1u;
+    v28 = a1 + 19u * 1u;
+    v29 = a1 + 20u * 1u;
+    v30 = v12 + 1u * 1u;
+    v31 = v12 + 2u * 1u;
+    v32 = v12 + 3u * 1u;
+    v33 = v12 + 4u * 1u;
+    v2 = v13; v3 = 6u; goto L1;
+L1:;
+    v34 = v2 + 2u * 1u;
+    v35 = (u64)((u64)v3 + (u64)UINT64_C(18446744073709551615));
+    v36 = load8(v2);
+    v37 = v2 + 1u * 1u;
+    v38 = load8(v37);
+    switch (v36) {
+    case 30u: goto L2;
+    case 33u: goto L3;
+    case 0u: goto L11;
+    case 1u: goto L11;
+    case 2u: goto L11;
+    case 3u: goto L11;
+    case 4u: goto L11;
+    case 5u: goto L11;
+    case 6u: goto L11;
+    case 7u: goto L11;
+    case 8u: goto L11;
+    case 9u: goto L11;
+    case 10u: goto L11;
+    case 11u: goto L11;
+    case 12u: goto L11;
+    case 13u: goto L11;
+    case 14u: goto L11;
+    case 15u: goto L11;
+    case 16u: goto L11;
+    case 17u: goto L11;
+    case 18u: goto L11;
+    case 19u: goto L11;
+    case 20u: goto L11;
+    case 21u: goto L11;
+    case 22u: goto L11;
+    case 23u: goto L11;
+    case 24u: goto L11;
+    case 25u: goto L11;
+    case 26u: goto L11;
+    case 27u: goto L11;
+    case 28u: goto L11;
+    case 29u: goto L11;
+    case 31u: goto L11;
+    case 32u: goto L11;
+    default: goto L10;
+    }
+L2:;
+    v39 = load8(a1);
+    v40 = (u8)((u32)v39 + (u32)255u);
+    v41 = v40 < 9u;
+    if (v41) { goto L13; }
+    else { goto L14; }
+L3:;
+    v42 = load8(v25);
+    v43 = load8(v26);
+    v44 = load8(v27);
+    v45 = load8(v28);
+    v46 = load8(v29);
+    store8(v12, v42);
+    store8(v30, v43);
+    store8(v31, v44);
+    store8(v32, v45);
+    store8(v33, v46);
+    v47 = (u64)v38;
+    v48 = v12 + v47 * 1u;
+    v49 = load8(v48);
+    switch (v38) {
+    case 0u: v4 = 4u; v5 = 4u; goto L7;
+    case 1u: goto L12;
+    case 2u: goto L4;
+    case 3u: goto L8;
+    case 4u: goto L5;
+    default: goto L6;
+    }
+L4:;
+    v4 = 8u; v5 = 1u; goto L7;
+L5:;
+    v4 = 8u; v5 = 5u; goto L7;
+L6:;
+    UNREACHABLE;
+L7:;
+    v50 = (u16)v4;
+    v51 = (u16)((u32)0u - (u32)v50);
+    v52 = (u16)((i16)(i8)v49);
+    v53 = (i16)v51 <= (i16)v52;
+    v54 = (i8)v49 <= (i8)v5;
+    v55 = (u8)(((u32)v53 & (u32)v54) & UINT64_C(1));
+    if (v55) { goto L13; }
+    else { goto L14; }
+L8:;
+    switch (v49) {
+    case 1u: goto L11;
+    case 2u: goto L11;
+    case 254u: goto L11;
+    default: goto L9;
+    }
+L9:;
+    v56 = (struct s5){ 1u, 0u };
+    v56.m1 = v2;
+    v6 = v56; v7 = v2; goto L15;
+L10:;
+    UNREACHABLE;
+L11:;
+    goto L13;
+L12:;
+    v57 = (u8)((u32)v49 + (u32)254u);
+    v58 = v57 < 9u;
+    if (v58) { goto L13; }
+    else { goto L14; }
+L13:;
+    v59 = v35 == 0u;
+    if (v59) { v6 = (struct s5){ 0 }; v7 = 0u; goto L15; }
+    else { v2 = v34; v3 = v35; goto L1; }
+L14:;
+    v60 = (struct s5){ 1u, 0u };
+    v60.m1 = v2;
+    v6 = v60; v7 = v2; goto L15;
+L15:;
+    v61 = v6.m0;
+    v62 = (u8)((v61) & UINT64_C(1));
+    if (v62) { goto L16; }
+    else { v8 = 0u; v9 = 0u; v10 = 0u; v11 = 0u; goto L17; }
+L16:;
+    v63 = load8(v7);
+    v64 = v7 + 1u * 1u;
+    v65 = load8(v64);
+    v8 = 1u; v9 = 2u; v10 = v63; v11 = v65; goto L17;
+L17:;
+    store8(a0, v8);
+    v66 = a0 + 1u * 1u;
+    store8(v66, v9);
+    v67 = a0 + 2u * 1u;
+    store8(v67, v10);
+    v68 = a0 + 3u * 1u;
+    store8(v68, v11);
+    return;
+}
+
+static struct s1 f138(address a0, u64 a1, address a2) {
     u8 v3, v4, v6, v9, v12, v14, v19, v22, v25, v30, v35, v36, v37, v38, v40, v41;
     u8 v47, v48, v49, v50, v51, v52, v53;
     address v5, v7, v10, v15, v16, v26, v27, v31, v32, v33, v39, v43;
@@ -33692,7 +33487,7 @@ L5:;
     store_address(v32, v27);
     v33 = v5 + 16u * 1u;
     store64(v33, v29);
-    v34 = f142(a0, a1, a2);
+    v34 = f139(a0, a1, a2);
     v35 = v34.m0;
     v36 = v35 == 0u;
     if (v36) { goto L6; }
@@ -33710,7 +33505,7 @@ L7:;
     v43 = a2 + v42 * 1u;
     v44 = load64(v43);
     v45 = (u16)(v44);
-    v46 = f149(v5, v45);
+    v46 = f146(v5, v45);
     v47 = v46.m0;
     v48 = v46.m1;
     v49 = v47 != 0u;
@@ -33727,7 +33522,7 @@ L8:;
     return v55;
 }
 
-static struct s1 f142(address a0, u64 a1, address a2) {
+static struct s1 f139(address a0, u64 a1, address a2) {
     u8 v3, v4, v5, v6, v8, v12, v14, v16, v17, v29, v30, v32, v33, v34, v36, v37;
     u8 v38, v40, v41, v42, v43, v45, v46, v47, v48, v49, v50, v51, v52, v53;
     address v7, v9, v18, v19, v20, v21, v22, v23, v24, v25, v26, v27, v28, v31, v35, v39;
@@ -33790,11 +33585,11 @@ L1:;
 L2:;
     v5 = 0u; v6 = 0u; goto L9;
 L3:;
-    v43 = f43(a0, 12u, v7, 12u);
+    v43 = f28(a0, 12u, v7, 12u);
     if (v43) { goto L4; }
     else { v5 = 0u; v6 = 0u; goto L9; }
 L4:;
-    v44 = f143(a2, v9, v10);
+    v44 = f140(a2, v9, v10);
     v45 = v44.m0;
     v46 = v45 == 0u;
     if (v46) { goto L5; }
@@ -33805,7 +33600,7 @@ L5:;
     if (v48) { goto L6; }
     else { v3 = 0u; goto L7; }
 L6:;
-    v49 = f148(a2, v9, v10);
+    v49 = f145(a2, v9, v10);
     v3 = v49; goto L7;
 L7:;
     v50 = (u8)v3;
@@ -33823,7 +33618,7 @@ L9:;
     return v55;
 }
 
-static struct s1 f143(address a0, address a1, u64 a2) {
+static struct s1 f140(address a0, address a1, u64 a2) {
     u8 v3, v4, v7, v10, v12, v15, v18, v21, v23, v24, v26, v27, v28, v30, v31;
     address v5, v6, v8, v13, v14, v22, v25;
     u64 v9, v11, v16, v17, v19, v20;
@@ -33860,7 +33655,7 @@ L3:;
     else { goto L4; }
 L4:;
     v22 = v14 + 1u * 1u;
-    f144(v6, a1, v13, v11);
+    f141(v6, a1, v13, v11);
     v23 = load8(v6);
     v24 = v23 == 1u;
     if (v24) { goto L5; }
@@ -33872,11 +33667,11 @@ L5:;
     if (v26) { goto L6; }
     else { goto L7; }
 L6:;
-    v27 = f145(a0, v5, v22, v20);
+    v27 = f142(a0, v5, v22, v20);
     v28 = (u8)v27;
     v3 = v28; v4 = 0u; goto L8;
 L7:;
-    v29 = f146(a0, v5, v22, v20);
+    v29 = f143(a0, v5, v22, v20);
     v30 = v29.m0;
     v31 = v29.m1;
     v3 = v31; v4 = v30; goto L8;
@@ -33888,7 +33683,7 @@ L8:;
     return v33;
 }
 
-static void f144(address a0, address a1, address a2, u64 a3) {
+static void f141(address a0, address a1, address a2, u64 a3) {
     address v4, v5, v6, v8, v9, v10, v11, v13, v15, v19, v21, v23, v25, v27, v31, v36;
     address v42, v44, v46, v48, v50, v52, v54, v56, v81, v83, v85, v87, v89, v91, v93, v95;
     address v121, v123, v129, v133, v135, v141, v143, v145, v147, v160, v162, v164, v166, v168, v170, v174;
@@ -34223,7 +34018,7 @@ L3:;
     goto L1;
 }
 
-static u8 f145(address a0, address a1, address a2, u64 a3) {
+static u8 f142(address a0, address a1, address a2, u64 a3) {
     u64 v4, v6, v48, v68, v125, v147, v148, v149, v150, v151, v152, v153, v154, v155, v156, v157;
     u64 v158, v159, v160, v161, v162, v163, v164, v165, v166, v167, v168, v169, v179, v190, v304, v308;
     u64 v334, v335, v336, v337, v340, v343, v344, v347, v354, v356, v365, v378, v380;
@@ -34667,7 +34462,7 @@ L3:;
     v295 = v56 + 192u * 1u;
     store64(v295, v6);
     memory_set(v52, 0u, 144u);
-    f26(v52, a1, v56, v6);
+    f136(v52, a1, v56, v6);
     v296 = load8(v52);
     v297 = v296 == 0u;
     if (v297) { goto L4; }
@@ -34737,7 +34532,7 @@ L6:;
     else { goto L7; }
 L7:;
     v339 = v51 + 136u * 1u;
-    f30(v51, v337);
+    f33(v51, v337);
     v340 = load64(v339);
     v48 = v340; goto L8;
 L8:;
@@ -34907,7 +34702,7 @@ L13:;
     return v297;
 }
 
-static struct s1 f146(address a0, address a1, address a2, u64 a3) {
+static struct s1 f143(address a0, address a1, address a2, u64 a3) {
     u64 v4, v8, v10, v13, v15, v17, v39, v40, v41, v42, v43, v44, v45, v46, v47, v48;
     u64 v49, v50, v51, v52, v53, v54, v55, v56, v57, v58, v59, v60, v61, v71, v82, v92;
     u8 v5, v6, v9, v14, v20, v22, v24, v26, v28, v30, v32, v34, v36, v38, v62, v64;
@@ -35017,7 +34812,7 @@ L3:;
     if (v83) { goto L4; }
     else { v4 = v82; goto L3; }
 L4:;
-    f147(v7, a1, v16, v8);
+    f144(v7, a1, v16, v8);
     v84 = load8(v7);
     v85 = v84 == 0u;
     if (v85) { goto L5; }
@@ -35057,7 +34852,7 @@ L9:;
     return v101;
 }
 
-static void f147(address a0, address a1, address a2, u64 a3) {
+static void f144(address a0, address a1, address a2, u64 a3) {
     address v4, v6, v14, v16, v17, v18, v19, v20, v21, v22, v23, v24, v25, v29, v30, v31;
     address v32, v33, v36, v37, v42, v60, v64, v67, v69, v71, v74, v75, v81, v83, v85, v87;
     address v89, v91, v93, v95, v97, v100, v102, v122, v124, v126, v128, v129, v130, v131, v132, v141;
@@ -35068,7 +34863,7 @@ static void f147(address a0, address a1, address a2, u64 a3) {
     address v281, v282, v283, v284, v285, v286, v287, v288, v289, v290, v291, v292, v293, v294, v295, v296;
     address v297, v298, v299, v300, v301, v302, v303, v304, v305, v306, v307, v308, v309, v310, v311, v312;
     address v313, v314, v315, v316, v317, v318;
-    struct s3 v5, v52, v53;
+    struct s5 v5, v52, v53;
     u64 v7, v11, v13, v15, v34, v38, v57, v59, v66, v72, v135, v138, v140, v142, v145, v162;
     u64 v172, v174, v188, v189, v190, v191, v194, v197, v198, v201, v207, v209, v224, v226;
     u8 v8, v9, v10, v12, v26, v27, v28, v35, v39, v40, v41, v43, v44, v45, v46, v47;
@@ -35130,7 +34925,7 @@ L2:;
     else { goto L3; }
 L3:;
     memory_set(v21, 0u, 24u);
-    f27(v21, v32, v38);
+    f25(v21, v32, v38);
     v40 = load8(v21);
     v41 = v40 == 0u;
     if (v41) { goto L4; }
@@ -35148,18 +34943,18 @@ L5:;
     v48 = load8(v29);
     v49 = (u8)((v48) & UINT64_C(1));
     if (v49) { goto L6; }
-    else { v5 = (struct s3){ 0 }; v6 = 0u; goto L9; }
+    else { v5 = (struct s5){ 0 }; v6 = 0u; goto L9; }
 L6:;
     v50 = load8(v30);
     v51 = (u8)((v50) & UINT64_C(1));
     if (v51) { v4 = v42; goto L8; }
-    else { v5 = (struct s3){ 0 }; v6 = 0u; goto L9; }
+    else { v5 = (struct s5){ 0 }; v6 = 0u; goto L9; }
 L7:;
-    v52 = (struct s3){ 1u, 0u };
+    v52 = (struct s5){ 1u, 0u };
     v52.m1 = v33;
     v5 = v52; v6 = v33; goto L9;
 L8:;
-    v53 = (struct s3){ 1u, 0u };
+    v53 = (struct s5){ 1u, 0u };
     v53.m1 = v4;
     v5 = v53; v6 = v4; goto L9;
 L9:;
@@ -35182,7 +34977,7 @@ L12:;
 L13:;
     v59 = (u64)((u64)v7 * (u64)24u);
     v60 = a2 + v59 * 1u;
-    f29(v20, v60);
+    f137(v20, v60);
     v61 = load8(v20);
     v62 = v61 == 0u;
     if (v62) { goto L12; }
@@ -35368,7 +35163,7 @@ L26:;
     else { goto L27; }
 L27:;
     v193 = v19 + 136u * 1u;
-    f30(v19, v191);
+    f33(v19, v191);
     v194 = load64(v193);
     v15 = v194; goto L28;
 L28:;
@@ -35572,7 +35367,7 @@ L33:;
     goto L18;
 }
 
-static u8 f148(address a0, address a1, u64 a2) {
+static u8 f145(address a0, address a1, u64 a2) {
     u8 v3, v5, v8, v12, v14, v16, v17, v23, v27, v28, v29, v30, v31, v35, v36, v37;
     u8 v41, v42, v43, v44, v45, v46, v47, v48, v51, v52, v55, v56, v59, v60, v64, v65;
     u8 v66, v70, v71, v72, v73, v77, v78, v79, v80, v84, v85, v86, v87, v88, v89, v90;
@@ -35592,7 +35387,7 @@ static u8 f148(address a0, address a1, u64 a2) {
     v19 = ADDRESS(block1);
     v20 = ADDRESS(block2);
     memory_set(v19, 0u, 1176u);
-    f82(v19, a0);
+    f75(v19, a0);
     memory_cpy(v20, v19, 1176u);
     v21 = v20 + 1168u * 1u;
     v22 = load64(v21);
@@ -35693,7 +35488,7 @@ L6:;
     if (v96) { goto L7; }
     else { goto L8; }
 L7:;
-    v97 = f42(v18, v22);
+    v97 = f27(v18, v22);
     v16 = v97; goto L26;
 L8:;
     v98 = v22 < 65u;
@@ -35809,7 +35604,7 @@ L27:;
     return v17;
 }
 
-static struct s1 f149(address a0, u16 a1) {
+static struct s1 f146(address a0, u16 a1) {
     u8 v2, v3, v22, v27, v32, v33, v36, v37, v38, v40;
     address v4, v5, v6, v7, v8, v9, v10, v11, v12, v13, v14, v15, v16, v17, v18, v19;
     address v20, v21, v29, v30, v31, v34, v39;
@@ -35875,7 +35670,7 @@ L2:;
     memory_set(v31, 0u, 1264u);
     goto L3;
 L3:;
-    v32 = f150(a0, v4);
+    v32 = f147(a0, v4);
     v33 = load8(v4);
     v34 = v4 + 24u * 1u;
     v35 = load64(v34);
@@ -35897,7 +35692,7 @@ L5:;
     return v42;
 }
 
-static u8 f150(address a0, address a1) {
+static u8 f147(address a0, address a1) {
     u8 v2, v5, v7, v8, v9, v10, v11, v12, v13, v14, v15, v16, v19, v20, v23, v37;
     u8 v38, v40, v43, v44, v45, v46, v47, v48, v49, v50, v51, v52, v53, v54, v55, v56;
     u8 v57, v58, v59, v60, v64, v65, v66, v67, v68, v69, v70, v71, v72, v73, v74, v75;
@@ -35935,7 +35730,7 @@ L3:;
     v34 = v18 + 16u * 1u;
     v35 = v18 + 48u * 1u;
     v36 = v18 + 56u * 1u;
-    f151(v18, v25, v22, a1);
+    f148(v18, v25, v22, a1);
     v37 = load8(v18);
     v38 = v37 == 1u;
     if (v38) { goto L4; }
@@ -35958,7 +35753,7 @@ L5:;
     v50 = load8(v26);
     v3 = v41; v4 = v39; v5 = 1u; v6 = v42; v7 = v43; v8 = v44; v9 = v45; v10 = v46; v11 = v47; v12 = v48; v13 = v49; v14 = v50; goto L6;
 L6:;
-    f151(v18, v3, v4, a1);
+    f148(v18, v3, v4, a1);
     v51 = load8(v18);
     v52 = v51 == 1u;
     if (v52) { goto L7; }
@@ -36042,7 +35837,7 @@ L19:;
     v2 = v91; goto L1;
 }
 
-static void f151(address a0, address a1, u64 a2, address a3) {
+static void f148(address a0, address a1, u64 a2, address a3) {
     u8 v4, v12, v13, v18, v28, v31, v34, v38, v42, v45, v48, v51, v52, v54, v57, v60;
     u8 v63, v66, v70, v73, v76, v79, v82, v86, v89, v90, v91, v92, v93, v94, v95, v96;
     u8 v97, v98, v101, v105, v111, v114, v115, v124, v128, v131, v135, v138, v139, v141, v143, v144;
@@ -36420,7 +36215,7 @@ L50:;
 L51:;
     v186 = a3 + v21 * 1u;
     v187 = load64(v186);
-    v188 = f152(v4, v51, v22, v187);
+    v188 = f149(v4, v51, v22, v187);
     if (v188) { goto L54; }
     else { goto L55; }
 L52:;
@@ -36462,7 +36257,7 @@ L55:;
     goto L2;
 }
 
-static u8 f152(u8 a0, u8 a1, address a2, u64 a3) {
+static u8 f149(u8 a0, u8 a1, address a2, u64 a3) {
     address v4, v9, v13, v15, v20, v22;
     u64 v5, v10, v16, v23;
     u8 v6, v7, v8, v11, v12, v14, v17, v18, v19, v21, v24, v25, v26, v27;
@@ -36543,7 +36338,7 @@ L16:;
     return v6;
 }
 
-static void f153(address a0, address a1, u16 a2, address a3, u64 a4) {
+static void f150(address a0, address a1, u16 a2, address a3, u64 a4) {
     u64 v5, v6, v7, v8, v10, v12, v15, v18, v20, v29, v34, v37, v39, v41, v45, v52;
     u64 v54, v57, v59, v61, v62, v63, v65, v67, v70, v72, v75, v79, v94, v97, v106, v109;
     u64 v112;
@@ -36766,14 +36561,14 @@ L23:;
     return;
 }
 
-static struct s3 f154(address a0, address a1) {
+static struct s5 f151(address a0, address a1) {
     u64 v2, v17, v19, v21, v25, v27, v29, v31, v33, v53, v62, v65, v68;
     u8 v3, v12, v32, v49, v50, v51, v52, v56, v63, v66, v67, v69, v70;
     address v4, v5, v6, v7, v8, v9, v10, v11, v13, v14, v15, v16, v18, v20, v22, v23;
     address v24, v26, v28, v34, v35, v36, v37, v38, v39, v40, v41, v42, v43, v44, v45, v46;
     address v47, v48, v54, v55, v57, v58, v59, v60, v61, v64;
     struct pair v30;
-    struct s3 v71, v72;
+    struct s5 v71, v72;
     u64 block0[1];
     u64 block1[29];
     u64 block2[1];
@@ -36900,14 +36695,14 @@ L12:;
     portable_rattle_dealloc(v23);
     v3 = 1u; v4 = 0u; goto L13;
 L13:;
-    v71 = (struct s3){ 0 };
+    v71 = (struct s5){ 0 };
     v71.m0 = v3;
     v72 = v71;
     v72.m1 = v4;
     return v72;
 }
 
-static struct s1 f155(address a0, u64 a1, address a2) {
+static struct s1 f152(address a0, u64 a1, address a2) {
     u8 v3, v4, v7, v10, v13, v15, v20, v23, v26, v31, v53, v54, v59, v64, v69, v70;
     u8 v73, v74, v75;
     address v5, v6, v8, v11, v16, v17, v27, v28, v32, v33, v34, v35, v36, v37, v38, v39;
@@ -37036,7 +36831,7 @@ L8:;
     TRAP;
     UNREACHABLE;
 L9:;
-    v69 = f156(v5, v6, a2);
+    v69 = f153(v5, v6, a2);
     v70 = load8(v6);
     v71 = v6 + 24u * 1u;
     v72 = load64(v71);
@@ -37057,7 +36852,7 @@ L11:;
     return v78;
 }
 
-static u8 f156(address a0, address a1, address a2) {
+static u8 f153(address a0, address a1, address a2) {
     address v3, v8, v9, v13, v14, v17, v19, v20, v21, v22, v23, v24, v25, v26, v27, v28;
     address v29, v32, v36, v37, v41, v44, v46, v49;
     u64 v4, v7, v10, v18, v33, v38, v39, v43, v45, v50;
@@ -37089,7 +36884,7 @@ L1:;
     v29 = v13 + 16u * 1u;
     v3 = v20; v4 = v18; v5 = 0u; v6 = 0u; goto L2;
 L2:;
-    f151(v14, v3, v4, a1);
+    f148(v14, v3, v4, a1);
     v30 = load8(v14);
     v31 = v30 == 1u;
     if (v31) { goto L3; }
@@ -37137,7 +36932,7 @@ L9:;
     else { v9 = v44; v10 = v45; goto L7; }
 L10:;
     v53 = load16(v28);
-    f62(a2, v21, v53, v29, v8, v38);
+    f55(a2, v21, v53, v29, v8, v38);
     v11 = 0u; goto L11;
 L11:;
     v54 = (u8)((u32)v11 + (u32)v5);
@@ -37152,7 +36947,7 @@ L13:;
     return v12;
 }
 
-static void f157(address a0, address a1, address a2, u64 a3, address a4, u64 a5) {
+static void f154(address a0, address a1, address a2, u64 a3, address a4, u64 a5) {
     u64 v6, v17, v18, v36, v39, v41, v43, v49, v60, v71, v74, v80, v99, v101, v105, v109;
     u64 v157, v160, v264, v266, v314, v330, v333, v334;
     address v7, v16, v19, v20, v21, v22, v23, v24, v25, v26, v27, v28, v29, v30, v31, v32;
@@ -37494,7 +37289,7 @@ L5:;
     if (v233) { goto L10; }
     else { goto L6; }
 L6:;
-    f25(v21, v32, v7, a3);
+    f135(v21, v32, v7, a3);
     v234 = load8(v21);
     v235 = v234 == 0u;
     if (v235) { goto L7; }
@@ -37518,7 +37313,7 @@ L9:;
     memory_cpy(v244, v245, 384u);
     v11 = v10; v12 = v9; v13 = v8; v14 = 1u; v15 = v234; goto L11;
 L10:;
-    f147(v20, v32, v7, a3);
+    f144(v20, v32, v7, a3);
     v246 = load8(v20);
     v247 = v20 + 1u * 1u;
     v248 = load8(v247);
@@ -37565,7 +37360,7 @@ L13:;
     memory_set(v273, 0u, 416u);
     goto L12;
 L14:;
-    v274 = f138(a4, a5);
+    v274 = f131(a4, a5);
     v275 = v274.m0;
     v276 = v274.m1;
     v277 = v275 == 1u;
@@ -37755,7 +37550,7 @@ L35:;
     goto L12;
 }
 
-static u8 f158(address a0) {
+static u8 f155(address a0) {
     u8 v1, v5, v10, v14, v15, v21, v26;
     struct pair v2, v19, v23, v24;
     address v3, v6, v16, v28;
@@ -37808,7 +37603,7 @@ L6:;
     v1 = 1u; goto L1;
 }
 
-static u8 f159(address a0) {
+static u8 f156(address a0) {
     u8 v1, v5, v10, v14, v15, v21, v26;
     struct pair v2, v19, v23, v24;
     address v3, v6, v16, v28;
@@ -37861,7 +37656,7 @@ L6:;
     v1 = 1u; goto L1;
 }
 
-static u8 f160(address a0) {
+static u8 f157(address a0) {
     u8 v1, v5, v10, v14, v15, v21, v26;
     struct pair v2, v19, v23, v24;
     address v3, v6, v16, v28;
@@ -37914,7 +37709,7 @@ L6:;
     v1 = 1u; goto L1;
 }
 
-static u32 f161(address a0, address a1) {
+static u32 f158(address a0, address a1) {
     u64 v2, v10, v12, v16, v18, v22, v24, v28, v30, v32, v34, v36, v38, v56, v58, v67;
     u64 v72, v76, v82;
     u32 v3;
@@ -38087,7 +37882,7 @@ L18:;
     return v3;
 }
 
-static void f162(address a0, address a1, address a2, address a3, u64 a4) {
+static void f159(address a0, address a1, address a2, address a3, u64 a4) {
     u64 v5, v13, v15, v16, v23, v37, v39, v40, v44, v46;
     address v6, v7, v8, v9, v10, v14, v19, v20, v21, v22, v24, v25, v30, v35, v41, v42;
     address v43, v45, v49, v51, v53, v55, v56, v57, v58, v59;
@@ -38162,9 +37957,9 @@ L4:;
     if (v47) { goto L5; }
     else { v5 = v46; goto L4; }
 L5:;
-    f163(v9, a2);
+    f160(v9, a2);
     memory_set(v6, 0u, 80u);
-    f164(v6, a1, v9, v8, a4);
+    f161(v6, a1, v9, v8, a4);
     v48 = load8(v6);
     v49 = v6 + 1u * 1u;
     v50 = load8(v49);
@@ -38186,7 +37981,7 @@ L5:;
     goto L2;
 }
 
-static void f163(address a0, address a1) {
+static void f160(address a0, address a1) {
     u64 v2, v4, v30, v34, v64, v68, v81, v82, v84, v85;
     u16 v3, v8, v23, v27, v42, v56, v66, v73, v74, v87, v88, v90, v91, v98, v99, v103;
     u16 v105, v106;
@@ -38465,7 +38260,7 @@ L3:;
     return;
 }
 
-static void f164(address a0, address a1, address a2, address a3, u64 a4) {
+static void f161(address a0, address a1, address a2, address a3, u64 a4) {
     address v5, v13, v21, v22, v23, v24, v25, v34, v38, v40, v44, v46, v51, v53, v55, v59;
     address v61, v63, v67, v71, v81, v82, v85, v87, v90, v93, v100, v101, v103, v106, v108, v110;
     address v112, v126, v127, v129, v133, v134, v138, v166, v167, v169, v174, v176, v178, v182, v184, v186;
@@ -38610,7 +38405,7 @@ L13:;
     else { goto L14; }
 L14:;
     v100 = a1 + 192u * 1u;
-    f165(v22, a2, a1, v100);
+    f162(v22, a2, a1, v100);
     v101 = v22 + 20u * 1u;
     v102 = load64(v101);
     v103 = v22 + 34u * 1u;
@@ -38687,7 +38482,7 @@ L25:;
     else { v14 = v139; v15 = v140; goto L23; }
 L26:;
     memory_cpy(v23, v21, 72u);
-    f165(v24, a2, a1, v100);
+    f162(v24, a2, a1, v100);
     memory_cpy(v100, v24, 36u);
     v142 = load8(a2);
     v143 = load8(v34);
@@ -38906,7 +38701,7 @@ L37:;
     goto L36;
 }
 
-static void f165(address a0, address a1, address a2, address a3) {
+static void f162(address a0, address a1, address a2, address a3) {
     u64 v4, v6, v7, v8, v18, v20, v24, v26, v28, v30, v49, v50, v51, v52, v53, v54;
     u64 v55, v56, v57, v58, v59, v60, v64, v66, v67, v69, v71, v90, v91, v92, v93, v94;
     u64 v95, v96, v97, v98, v99, v100, v101, v103, v107, v109;
@@ -39074,7 +38869,7 @@ L6:;
     return;
 }
 
-static void f166(address a0, address a1, address a2, address a3, u64 a4) {
+static void f163(address a0, address a1, address a2, address a3, u64 a4) {
     u64 v5, v16, v18, v19, v26, v40, v42, v43, v47, v49;
     u8 v6, v14, v15, v20, v25, v29, v30, v31, v32, v34, v35, v36, v37, v39, v41, v50;
     u8 v51, v53, v55, v57, v60, v64, v65, v67, v68, v69;
@@ -39117,7 +38912,7 @@ L2:;
     memory_set(v24, 0u, 72u);
     goto L1;
 L3:;
-    f163(v10, a2);
+    f160(v10, a2);
     memory_set(v8, 0u, 1536u);
     v25 = a4 == 0u;
     if (v25) { goto L5; }
@@ -39156,7 +38951,7 @@ L4:;
     else { v5 = v49; goto L4; }
 L5:;
     memory_set(v7, 0u, 80u);
-    f164(v7, v12, v10, v8, a4);
+    f161(v7, v12, v10, v8, a4);
     v51 = load8(v7);
     v52 = v7 + 1u * 1u;
     v53 = load8(v52);
@@ -39173,9 +38968,9 @@ L5:;
 L6:;
     memory_cpy(v9, v58, 72u);
     v61 = a1 + 8u * 1u;
-    f164(v11, v61, v10, v8, a4);
+    f161(v11, v61, v10, v8, a4);
     v62 = a1 + 392u * 1u;
-    f164(v11, v62, v10, v8, a4);
+    f161(v11, v62, v10, v8, a4);
     v63 = a1 + 840u * 1u;
     v64 = load8(v63);
     v65 = (u8)((v64) & UINT64_C(1));
@@ -39206,351 +39001,316 @@ L9:;
     goto L1;
 }
 
-static void f167(address a0, address a1, u8 a2, u16 a3, u16 a4, address a5, u64 a6) {
-    u64 v7, v31, v33, v44, v74, v80, v81, v82, v83, v89, v90, v93, v94, v97, v98;
-    u8 v8, v9, v10, v11, v12, v13, v14, v15, v16, v17, v18, v26, v27, v29, v30, v35;
-    u8 v39, v40, v45, v46, v47, v56, v57, v58, v59, v60, v61, v75, v76, v77, v78, v79;
-    u8 v84, v85, v86, v87, v88, v91, v92, v95, v96, v99, v103;
-    address v19, v20, v21, v22, v23, v24, v25, v28, v32, v36, v37, v38, v41, v42, v43, v48;
-    address v49, v50, v51, v52, v53, v54, v55, v62, v63, v64, v65, v66, v67, v68, v69, v70;
-    address v71, v72, v73, v100, v101, v102, v104, v105, v106, v107, v108;
-    u16 v34;
+static void f164(address a0, address a1, u8 a2, u16 a3, u16 a4, address a5, u64 a6) {
+    u8 v7, v8, v9, v10, v11, v12, v13, v14, v15, v16, v17, v22, v23, v25, v26, v31;
+    u8 v35, v36, v41, v42, v43, v52, v53, v54, v55, v56, v57, v61, v62, v63, v64, v69;
+    u8 v70, v71, v72, v73, v76, v77, v80, v81, v84, v88;
+    address v18, v19, v20, v21, v24, v28, v32, v33, v34, v37, v38, v39, v44, v45, v46, v47;
+    address v48, v49, v50, v51, v58, v59, v60, v85, v86, v87, v89, v90, v91, v92, v93;
+    u64 v27, v29, v40, v65, v66, v67, v68, v74, v75, v78, v79, v82, v83;
+    u16 v30;
     u64 block0[1];
     u64 block1[3];
-    u64 block2[128];
-    u64 block3[32];
-    u64 block4[32];
-    u64 block5[9];
-    u64 block6[9];
-    v19 = ADDRESS(block0);
-    v20 = ADDRESS(block1);
-    v21 = ADDRESS(block2);
-    v22 = ADDRESS(block3);
-    v23 = ADDRESS(block4);
-    v24 = ADDRESS(block5);
-    v25 = ADDRESS(block6);
-    store64(v20, 0u);
-    memory_set(v21, 0u, 1024u);
-    memory_set(v22, 0u, 256u);
-    memory_set(v23, 0u, 256u);
-    memory_set(v24, 0u, 69u);
-    memory_set(v25, 0u, 68u);
-    v26 = a2 < 4u;
-    v27 = v26 ? a2 : 2u;
+    u64 block2[9];
+    u64 block3[9];
+    v18 = ADDRESS(block0);
+    v19 = ADDRESS(block1);
+    v20 = ADDRESS(block2);
+    v21 = ADDRESS(block3);
+    store64(v19, 0u);
+    memory_set(v20, 0u, 68u);
+    memory_set(v21, 0u, 69u);
+    v22 = a2 < 4u;
+    v23 = v22 ? a2 : 2u;
     switch (a4) {
     case 65535u: goto L4;
     case 0u: goto L3;
     default: goto L1;
     }
 L1:;
-    v28 = a1 + 240u * 1u;
-    v29 = load8(v28);
-    v30 = v29 == 0u;
-    v31 = v30 ? 376u : 256u;
-    v32 = a1 + v31 * 1u;
-    v33 = load64(v32);
-    v34 = (u16)(v33);
-    v35 = a4 > v34;
-    if (v35) { goto L3; }
+    v24 = a1 + 240u * 1u;
+    v25 = load8(v24);
+    v26 = v25 == 0u;
+    v27 = v26 ? 376u : 256u;
+    v28 = a1 + v27 * 1u;
+    v29 = load64(v28);
+    v30 = (u16)(v29);
+    v31 = a4 > v30;
+    if (v31) { goto L3; }
     else { goto L4; }
 L2:;
     return;
 L3:;
     store8(a0, 1u);
-    v36 = a0 + 1u * 1u;
-    store8(v36, 0u);
-    v37 = a0 + 2u * 1u;
-    store8(v37, 0u);
-    v38 = a0 + 4u * 1u;
-    memory_set(v38, 0u, 68u);
+    v32 = a0 + 1u * 1u;
+    store8(v32, 0u);
+    v33 = a0 + 2u * 1u;
+    store8(v33, 0u);
+    v34 = a0 + 4u * 1u;
+    memory_set(v34, 0u, 68u);
     goto L2;
 L4:;
-    v39 = (u8)((u32)v27 & (u32)1u);
-    v40 = v39 == 0u;
-    if (v40) { goto L5; }
+    v35 = (u8)((u32)v23 & (u32)1u);
+    v36 = v35 == 0u;
+    if (v36) { goto L5; }
     else { goto L6; }
 L5:;
     store8(a0, 1u);
-    v41 = a0 + 1u * 1u;
-    store8(v41, 1u);
-    v42 = a0 + 2u * 1u;
-    store8(v42, 0u);
-    v43 = a0 + 4u * 1u;
-    memory_set(v43, 0u, 68u);
+    v37 = a0 + 1u * 1u;
+    store8(v37, 1u);
+    v38 = a0 + 2u * 1u;
+    store8(v38, 0u);
+    v39 = a0 + 4u * 1u;
+    memory_set(v39, 0u, 68u);
     goto L2;
 L6:;
-    v44 = (u64)((u64)a6 & (u64)1u);
-    v45 = v44 == 0u;
-    v46 = a6 < 1419u;
-    v47 = (u8)(((u32)v46 & (u32)v45) & UINT64_C(1));
-    if (v47) { goto L8; }
+    v40 = (u64)((u64)a6 & (u64)1u);
+    v41 = v40 == 0u;
+    v42 = a6 < 1419u;
+    v43 = (u8)(((u32)v42 & (u32)v41) & UINT64_C(1));
+    if (v43) { goto L8; }
     else { goto L7; }
 L7:;
     store8(a0, 1u);
-    v48 = a0 + 1u * 1u;
-    store8(v48, 2u);
-    v49 = a0 + 2u * 1u;
-    store8(v49, 0u);
-    v50 = a0 + 4u * 1u;
-    memory_set(v50, 0u, 68u);
+    v44 = a0 + 1u * 1u;
+    store8(v44, 2u);
+    v45 = a0 + 2u * 1u;
+    store8(v45, 0u);
+    v46 = a0 + 4u * 1u;
+    memory_set(v46, 0u, 68u);
     goto L2;
 L8:;
-    store8(v20, v27);
-    v51 = v20 + 2u * 1u;
-    store16(v51, a3);
-    v52 = v20 + 4u * 1u;
-    store16(v52, a4);
-    v53 = v20 + 8u * 1u;
-    store_address(v53, a5);
-    v54 = v20 + 16u * 1u;
-    store64(v54, a6);
-    v55 = a1 + 448u * 1u;
-    v56 = load8(v55);
-    v57 = v56 == 1u;
-    v58 = v27 == 1u;
-    v59 = a3 == 8199u;
-    v60 = (u8)(((u32)v57 & (u32)v59) & UINT64_C(1));
-    v61 = (u8)(((u32)v60 & (u32)v58) & UINT64_C(1));
-    if (v61) { goto L9; }
-    else { v7 = 0u; goto L10; }
+    store8(v19, v23);
+    v47 = v19 + 2u * 1u;
+    store16(v47, a3);
+    v48 = v19 + 4u * 1u;
+    store16(v48, a4);
+    v49 = v19 + 8u * 1u;
+    store_address(v49, a5);
+    v50 = v19 + 16u * 1u;
+    store64(v50, a6);
+    v51 = a1 + 448u * 1u;
+    v52 = load8(v51);
+    v53 = v52 == 1u;
+    v54 = v23 == 1u;
+    v55 = a3 == 8199u;
+    v56 = (u8)(((u32)v53 & (u32)v55) & UINT64_C(1));
+    v57 = (u8)(((u32)v56 & (u32)v54) & UINT64_C(1));
+    if (v57) { goto L9; }
+    else { goto L10; }
 L9:;
     store8(a0, 1u);
-    v62 = a0 + 1u * 1u;
-    store8(v62, 3u);
-    v63 = a0 + 2u * 1u;
-    store8(v63, 0u);
-    v64 = a0 + 4u * 1u;
-    memory_set(v64, 0u, 68u);
+    v58 = a0 + 1u * 1u;
+    store8(v58, 3u);
+    v59 = a0 + 2u * 1u;
+    store8(v59, 0u);
+    v60 = a0 + 4u * 1u;
+    memory_set(v60, 0u, 68u);
     goto L2;
 L10:;
-    v65 = v21 + v7 * 1u;
-    store64(v65, 0u);
-    v66 = v65 + 8u * 1u;
-    store8(v66, 5u);
-    v67 = v65 + 9u * 1u;
-    store8(v67, 0u);
-    v68 = v65 + 10u * 1u;
-    store8(v68, 1u);
-    v69 = v65 + 11u * 1u;
-    store8(v69, 3u);
-    v70 = v65 + 12u * 1u;
-    store8(v70, 0u);
-    v71 = v65 + 13u * 1u;
-    store8(v71, 1u);
-    v72 = v65 + 14u * 1u;
-    store8(v72, 0u);
-    v73 = v65 + 15u * 1u;
-    store8(v73, 0u);
-    v74 = (u64)((u64)v7 + (u64)16u);
-    v75 = v74 == 1024u;
-    if (v75) { goto L11; }
-    else { v7 = v74; goto L10; }
-L11:;
-    f32(v23, a1, v21);
-    memory_cpy(v22, v23, 256u);
+    f23(v20, a1, v19, 7u);
     switch (a3) {
-    case 0u: v8 = 0u; v9 = 0u; v10 = 0u; v11 = 0u; goto L32;
-    case 2u: goto L12;
-    case 8192u: goto L13;
-    case 8193u: goto L14;
-    case 8194u: goto L15;
-    case 8195u: goto L16;
-    case 8196u: goto L17;
-    case 8197u: goto L18;
-    case 8198u: goto L19;
-    case 8199u: goto L20;
-    case 8200u: goto L21;
-    case 8201u: goto L22;
-    case 8202u: goto L23;
-    case 8203u: goto L24;
-    case 8204u: goto L25;
-    case 8205u: goto L26;
-    case 8206u: goto L27;
-    case 8208u: goto L28;
-    case 8209u: goto L29;
-    case 24576u: goto L30;
-    case 24577u: goto L31;
-    default: v16 = 1u; v17 = 4u; v18 = 1u; goto L55;
+    case 0u: v7 = 0u; v8 = 0u; v9 = 0u; v10 = 0u; goto L31;
+    case 2u: goto L11;
+    case 8192u: goto L12;
+    case 8193u: goto L13;
+    case 8194u: goto L14;
+    case 8195u: goto L15;
+    case 8196u: goto L16;
+    case 8197u: goto L17;
+    case 8198u: goto L18;
+    case 8199u: goto L19;
+    case 8200u: goto L20;
+    case 8201u: goto L21;
+    case 8202u: goto L22;
+    case 8203u: goto L23;
+    case 8204u: goto L24;
+    case 8205u: goto L25;
+    case 8206u: goto L26;
+    case 8208u: goto L27;
+    case 8209u: goto L28;
+    case 24576u: goto L29;
+    case 24577u: goto L30;
+    default: v15 = 1u; v16 = 4u; v17 = 1u; goto L54;
     }
+L11:;
+    v7 = 1u; v8 = 0u; v9 = 1u; v10 = 0u; goto L31;
 L12:;
-    v8 = 1u; v9 = 0u; v10 = 1u; v11 = 0u; goto L32;
+    v7 = 1u; v8 = 1u; v9 = 2u; v10 = 0u; goto L31;
 L13:;
-    v8 = 1u; v9 = 1u; v10 = 2u; v11 = 0u; goto L32;
+    v7 = 1u; v8 = 1u; v9 = 3u; v10 = 0u; goto L31;
 L14:;
-    v8 = 1u; v9 = 1u; v10 = 3u; v11 = 0u; goto L32;
+    v7 = 1u; v8 = 1u; v9 = 4u; v10 = 0u; goto L31;
 L15:;
-    v8 = 1u; v9 = 1u; v10 = 4u; v11 = 0u; goto L32;
+    v7 = 1u; v8 = 1u; v9 = 5u; v10 = 0u; goto L31;
 L16:;
-    v8 = 1u; v9 = 1u; v10 = 5u; v11 = 0u; goto L32;
+    v7 = 1u; v8 = 1u; v9 = 6u; v10 = 0u; goto L31;
 L17:;
-    v8 = 1u; v9 = 1u; v10 = 6u; v11 = 0u; goto L32;
+    v7 = 1u; v8 = 0u; v9 = 7u; v10 = 0u; goto L31;
 L18:;
-    v8 = 1u; v9 = 0u; v10 = 7u; v11 = 0u; goto L32;
+    v7 = 1u; v8 = 0u; v9 = 8u; v10 = 0u; goto L31;
 L19:;
-    v8 = 1u; v9 = 0u; v10 = 8u; v11 = 0u; goto L32;
+    v7 = 1u; v8 = 0u; v9 = 9u; v10 = 0u; goto L31;
 L20:;
-    v8 = 1u; v9 = 0u; v10 = 9u; v11 = 0u; goto L32;
+    v7 = 1u; v8 = 1u; v9 = 10u; v10 = 0u; goto L31;
 L21:;
-    v8 = 1u; v9 = 1u; v10 = 10u; v11 = 0u; goto L32;
+    v7 = 1u; v8 = 0u; v9 = 11u; v10 = 0u; goto L31;
 L22:;
-    v8 = 1u; v9 = 0u; v10 = 11u; v11 = 0u; goto L32;
+    v7 = 1u; v8 = 0u; v9 = 11u; v10 = 1u; goto L31;
 L23:;
-    v8 = 1u; v9 = 0u; v10 = 11u; v11 = 1u; goto L32;
+    v7 = 1u; v8 = 0u; v9 = 11u; v10 = 2u; goto L31;
 L24:;
-    v8 = 1u; v9 = 0u; v10 = 11u; v11 = 2u; goto L32;
+    v7 = 1u; v8 = 1u; v9 = 12u; v10 = 0u; goto L31;
 L25:;
-    v8 = 1u; v9 = 1u; v10 = 12u; v11 = 0u; goto L32;
+    v7 = 0u; v8 = 1u; v9 = 13u; v10 = 0u; goto L31;
 L26:;
-    v8 = 0u; v9 = 1u; v10 = 13u; v11 = 0u; goto L32;
+    v7 = 0u; v8 = 1u; v9 = 14u; v10 = 0u; goto L31;
 L27:;
-    v8 = 0u; v9 = 1u; v10 = 14u; v11 = 0u; goto L32;
+    v7 = 1u; v8 = 0u; v9 = 15u; v10 = 0u; goto L31;
 L28:;
-    v8 = 1u; v9 = 0u; v10 = 15u; v11 = 0u; goto L32;
+    v7 = 1u; v8 = 0u; v9 = 16u; v10 = 0u; goto L31;
 L29:;
-    v8 = 1u; v9 = 0u; v10 = 16u; v11 = 0u; goto L32;
+    v7 = 1u; v8 = 0u; v9 = 11u; v10 = 3u; goto L31;
 L30:;
-    v8 = 1u; v9 = 0u; v10 = 11u; v11 = 3u; goto L32;
+    v7 = 1u; v8 = 0u; v9 = 11u; v10 = 4u; goto L31;
 L31:;
-    v8 = 1u; v9 = 0u; v10 = 11u; v11 = 4u; goto L32;
+    switch (v23) {
+    case 2u: goto L35;
+    case 1u: goto L34;
+    case 3u: goto L32;
+    default: goto L33;
+    }
 L32:;
-    switch (v27) {
-    case 2u: goto L36;
-    case 1u: goto L35;
-    case 3u: goto L33;
-    default: goto L34;
-    }
+    if (v7) { goto L35; }
+    else { goto L47; }
 L33:;
-    if (v8) { goto L36; }
-    else { goto L48; }
-L34:;
     UNREACHABLE;
+L34:;
+    if (v8) { goto L35; }
+    else { goto L36; }
 L35:;
-    if (v9) { goto L36; }
-    else { goto L37; }
+    v61 = v54 ? 4u : 5u;
+    v15 = 1u; v16 = 4u; v17 = v61; goto L54;
 L36:;
-    v76 = v58 ? 4u : 5u;
-    v16 = 1u; v17 = 4u; v18 = v76; goto L55;
-L37:;
-    switch (v10) {
-    case 0u: goto L40;
-    case 1u: goto L42;
-    case 7u: goto L47;
-    case 8u: goto L47;
-    case 9u: goto L47;
-    case 11u: goto L47;
-    case 15u: goto L47;
-    case 16u: goto L45;
-    case 2u: v16 = 1u; v17 = 4u; v18 = 2u; goto L55;
-    case 3u: v16 = 1u; v17 = 4u; v18 = 2u; goto L55;
-    case 4u: v16 = 1u; v17 = 4u; v18 = 2u; goto L55;
-    case 5u: v16 = 1u; v17 = 4u; v18 = 2u; goto L55;
-    case 6u: v16 = 1u; v17 = 4u; v18 = 2u; goto L55;
-    case 10u: v16 = 1u; v17 = 4u; v18 = 2u; goto L55;
-    case 12u: v16 = 1u; v17 = 4u; v18 = 2u; goto L55;
-    case 13u: v16 = 1u; v17 = 4u; v18 = 2u; goto L55;
-    case 14u: v16 = 1u; v17 = 4u; v18 = 2u; goto L55;
-    default: goto L38;
+    switch (v9) {
+    case 0u: goto L39;
+    case 1u: goto L41;
+    case 7u: goto L46;
+    case 8u: goto L46;
+    case 9u: goto L46;
+    case 11u: goto L46;
+    case 15u: goto L46;
+    case 16u: goto L44;
+    case 2u: v15 = 1u; v16 = 4u; v17 = 2u; goto L54;
+    case 3u: v15 = 1u; v16 = 4u; v17 = 2u; goto L54;
+    case 4u: v15 = 1u; v16 = 4u; v17 = 2u; goto L54;
+    case 5u: v15 = 1u; v16 = 4u; v17 = 2u; goto L54;
+    case 6u: v15 = 1u; v16 = 4u; v17 = 2u; goto L54;
+    case 10u: v15 = 1u; v16 = 4u; v17 = 2u; goto L54;
+    case 12u: v15 = 1u; v16 = 4u; v17 = 2u; goto L54;
+    case 13u: v15 = 1u; v16 = 4u; v17 = 2u; goto L54;
+    case 14u: v15 = 1u; v16 = 4u; v17 = 2u; goto L54;
+    default: goto L37;
     }
+L37:;
+    UNREACHABLE;
 L38:;
     UNREACHABLE;
 L39:;
-    UNREACHABLE;
+    v62 = a6 == 0u;
+    if (v62) { goto L40; }
+    else { v15 = 1u; v16 = 4u; v17 = 2u; goto L54; }
 L40:;
-    v77 = a6 == 0u;
-    if (v77) { goto L41; }
-    else { v16 = 1u; v17 = 4u; v18 = 2u; goto L55; }
+    v11 = 1u; v12 = 0u; v13 = 0u; v14 = 0u; goto L52;
 L41:;
-    v12 = 1u; v13 = 0u; v14 = 0u; v15 = 0u; goto L53;
+    v63 = a6 == 0u;
+    if (v63) { v15 = 1u; v16 = 4u; v17 = 2u; goto L54; }
+    else { goto L42; }
 L42:;
-    v78 = a6 == 0u;
-    if (v78) { v16 = 1u; v17 = 4u; v18 = 2u; goto L55; }
-    else { goto L43; }
+    v64 = load8(a5);
+    v65 = (u64)v64;
+    v66 = (u64)((u64)v65 + (u64)1u);
+    v67 = (u64)((u64)v66 & (u64)1u);
+    v68 = (u64)((u64)v67 + (u64)v66);
+    v69 = a6 == v68;
+    if (v69) { goto L43; }
+    else { v15 = 1u; v16 = 4u; v17 = 2u; goto L54; }
 L43:;
-    v79 = load8(a5);
-    v80 = (u64)v79;
-    v81 = (u64)((u64)v80 + (u64)1u);
-    v82 = (u64)((u64)v81 & (u64)1u);
-    v83 = (u64)((u64)v82 + (u64)v81);
-    v84 = a6 == v83;
-    if (v84) { goto L44; }
-    else { v16 = 1u; v17 = 4u; v18 = 2u; goto L55; }
+    v11 = 2u; v12 = 128u; v13 = 0u; v14 = 0u; goto L52;
 L44:;
-    v12 = 2u; v13 = 128u; v14 = 0u; v15 = 0u; goto L53;
+    v70 = a6 == 4u;
+    if (v70) { goto L45; }
+    else { v15 = 1u; v16 = 4u; v17 = 2u; goto L54; }
 L45:;
-    v85 = a6 == 4u;
-    if (v85) { goto L46; }
-    else { v16 = 1u; v17 = 4u; v18 = 2u; goto L55; }
+    v11 = 8u; v12 = 0u; v13 = 0u; v14 = 0u; goto L52;
 L46:;
-    v12 = 8u; v13 = 0u; v14 = 0u; v15 = 0u; goto L53;
+    v71 = a6 == 2u;
+    if (v71) { goto L48; }
+    else { v15 = 1u; v16 = 4u; v17 = 2u; goto L54; }
 L47:;
-    v86 = a6 == 2u;
-    if (v86) { goto L49; }
-    else { v16 = 1u; v17 = 4u; v18 = 2u; goto L55; }
+    v72 = a6 == 0u;
+    if (v72) { goto L53; }
+    else { v15 = 1u; v16 = 4u; v17 = 2u; goto L54; }
 L48:;
-    v87 = a6 == 0u;
-    if (v87) { goto L54; }
-    else { v16 = 1u; v17 = 4u; v18 = 2u; goto L55; }
-L49:;
-    switch (v10) {
-    case 14u: goto L51;
-    case 13u: goto L51;
-    case 7u: v12 = 3u; v13 = 0u; v14 = 0u; v15 = 0u; goto L53;
-    case 8u: v12 = 3u; v13 = 0u; v14 = 0u; v15 = 0u; goto L53;
-    case 9u: v12 = 3u; v13 = 0u; v14 = 0u; v15 = 0u; goto L53;
-    case 11u: goto L52;
-    case 15u: goto L50;
-    case 12u: goto L51;
-    case 10u: goto L51;
-    default: goto L39;
+    switch (v9) {
+    case 14u: goto L50;
+    case 13u: goto L50;
+    case 7u: v11 = 3u; v12 = 0u; v13 = 0u; v14 = 0u; goto L52;
+    case 8u: v11 = 3u; v12 = 0u; v13 = 0u; v14 = 0u; goto L52;
+    case 9u: v11 = 3u; v12 = 0u; v13 = 0u; v14 = 0u; goto L52;
+    case 11u: goto L51;
+    case 15u: goto L49;
+    case 12u: goto L50;
+    case 10u: goto L50;
+    default: goto L38;
     }
+L49:;
+    v11 = 5u; v12 = 23u; v13 = 49u; v14 = 254u; goto L52;
 L50:;
-    v12 = 5u; v13 = 23u; v14 = 49u; v15 = 254u; goto L53;
+    v11 = 0u; v12 = 0u; v13 = 0u; v14 = 0u; goto L52;
 L51:;
-    v12 = 0u; v13 = 0u; v14 = 0u; v15 = 0u; goto L53;
+    v73 = (u8)((u32)v10 << (3u & 7u));
+    v74 = (u64)v73;
+    v75 = (u64)(((u64)UINT64_C(30165894151) >> (v74 & 63u)) & UINT64_C(1099511627775));
+    v76 = (u8)(v75);
+    v77 = (u8)((u32)v10 << (3u & 7u));
+    v78 = (u64)v77;
+    v79 = (u64)(((u64)UINT64_C(34360263172) >> (v78 & 63u)) & UINT64_C(1099511627775));
+    v80 = (u8)(v79);
+    v81 = (u8)((u32)v10 << (3u & 7u));
+    v82 = (u64)v81;
+    v83 = (u64)(((u64)UINT64_C(21474904580) >> (v82 & 63u)) & UINT64_C(1099511627775));
+    v84 = (u8)(v83);
+    v11 = v76; v12 = v80; v13 = v84; v14 = 0u; goto L52;
 L52:;
-    v88 = (u8)((u32)v11 << (3u & 7u));
-    v89 = (u64)v88;
-    v90 = (u64)(((u64)UINT64_C(30165894151) >> (v89 & 63u)) & UINT64_C(1099511627775));
-    v91 = (u8)(v90);
-    v92 = (u8)((u32)v11 << (3u & 7u));
-    v93 = (u64)v92;
-    v94 = (u64)(((u64)UINT64_C(34360263172) >> (v93 & 63u)) & UINT64_C(1099511627775));
-    v95 = (u8)(v94);
-    v96 = (u8)((u32)v11 << (3u & 7u));
-    v97 = (u64)v96;
-    v98 = (u64)(((u64)UINT64_C(21474904580) >> (v97 & 63u)) & UINT64_C(1099511627775));
-    v99 = (u8)(v98);
-    v12 = v91; v13 = v95; v14 = v99; v15 = 0u; goto L53;
+    store8(v18, v11);
+    v85 = v18 + 1u * 1u;
+    store8(v85, v12);
+    v86 = v18 + 2u * 1u;
+    store8(v86, v13);
+    v87 = v18 + 3u * 1u;
+    store8(v87, v14);
+    v88 = f24(v18, a5, a6);
+    if (v88) { goto L53; }
+    else { v15 = 1u; v16 = 4u; v17 = 3u; goto L54; }
 L53:;
-    store8(v19, v12);
-    v100 = v19 + 1u * 1u;
-    store8(v100, v13);
-    v101 = v19 + 2u * 1u;
-    store8(v101, v14);
-    v102 = v19 + 3u * 1u;
-    store8(v102, v15);
-    v103 = f35(v19, a5, a6);
-    if (v103) { goto L54; }
-    else { v16 = 1u; v17 = 4u; v18 = 3u; goto L55; }
+    f32(a1, v9, v10, v19);
+    v89 = v21 + 1u * 1u;
+    memory_cpy(v89, v20, 68u);
+    v15 = 0u; v16 = 0u; v17 = 0u; goto L54;
 L54:;
-    f36(a1, v10, v11, v20);
-    f41(v25, a1, v22);
-    v104 = v24 + 1u * 1u;
-    memory_cpy(v104, v25, 68u);
-    v16 = 0u; v17 = 0u; v18 = 0u; goto L55;
-L55:;
-    v105 = v24 + 1u * 1u;
-    store8(a0, v16);
-    v106 = a0 + 1u * 1u;
-    store8(v106, v17);
-    v107 = a0 + 2u * 1u;
-    store8(v107, v18);
-    v108 = a0 + 4u * 1u;
-    memory_cpy(v108, v105, 68u);
+    v90 = v21 + 1u * 1u;
+    store8(a0, v15);
+    v91 = a0 + 1u * 1u;
+    store8(v91, v16);
+    v92 = a0 + 2u * 1u;
+    store8(v92, v17);
+    v93 = a0 + 4u * 1u;
+    memory_cpy(v93, v90, 68u);
     goto L2;
 }
 
-static void f168(address a0, address a1, u16 a2, address a3, u64 a4) {
+static void f165(address a0, address a1, u16 a2, address a3, u64 a4) {
     u16 v5, v11, v12, v13, v14, v31, v43, v45, v49, v51, v57, v81, v82, v83, v84, v87;
     u16 v94, v95, v96, v97, v150, v151, v152, v153, v154, v155, v156, v157, v191, v203, v204, v205;
     u16 v206, v207, v208, v209, v210, v211;
@@ -39607,7 +39367,7 @@ L4:;
     v35 = load_address(v34);
     v36 = a1 + 432u * 1u;
     v37 = load64(v36);
-    f87(v21, a1, v35, v37, a3, a4);
+    f80(v21, a1, v35, v37, a3, a4);
     v38 = load8(v21);
     v39 = v38 == 1u;
     if (v39) { goto L5; }
@@ -39796,7 +39556,7 @@ L16:;
     store_address(v162, v148);
     v163 = v17 + 16u * 1u;
     store64(v163, v149);
-    v164 = f70(v17);
+    v164 = f63(v17);
     if (v164) { goto L17; }
     else { goto L23; }
 L17:;
@@ -39851,7 +39611,7 @@ L22:;
 L23:;
     v10 = 0u; v11 = 0u; v12 = 0u; v13 = 0u; v14 = 0u; v15 = 0u; v16 = 0u; goto L27;
 L24:;
-    v193 = f71(a1, v19);
+    v193 = f64(a1, v19);
     v194 = v193 < 2u;
     if (v194) { goto L26; }
     else { v10 = 0u; v11 = 0u; v12 = 0u; v13 = 0u; v14 = 0u; v15 = 0u; v16 = 0u; goto L27; }
@@ -39904,7 +39664,7 @@ L27:;
     goto L2;
 }
 
-static void f169(address a0, address a1, u16 a2, address a3, u64 a4) {
+static void f166(address a0, address a1, u16 a2, address a3, u64 a4) {
     address v5, v6, v7, v8, v9, v13, v15, v16, v18, v19, v22, v23, v24, v25, v26, v27;
     address v29, v31, v34, v35, v36, v37;
     u8 v10, v11, v12, v14, v17, v20, v28, v30, v32;
@@ -39923,14 +39683,14 @@ static void f169(address a0, address a1, u16 a2, address a3, u64 a4) {
     if (v11) { goto L1; }
     else { goto L3; }
 L1:;
-    v12 = f86(a1, a3, a4);
+    v12 = f79(a1, a3, a4);
     if (v12) { goto L3; }
     else { goto L4; }
 L2:;
     return;
 L3:;
     v13 = load_address(a1);
-    f168(v7, v13, a2, a3, a4);
+    f165(v7, v13, a2, a3, a4);
     v14 = load8(v7);
     store8(a0, v14);
     v15 = a0 + 1u * 1u;
@@ -39953,7 +39713,7 @@ L4:;
     memory_move(v24, v25, 384u);
     memory_cpy(v25, v6, 384u);
     v26 = load_address(a1);
-    f168(v8, v26, a2, a3, a4);
+    f165(v8, v26, a2, a3, a4);
     v27 = load_address(a1);
     memory_cpy(v5, v27, 384u);
     memory_move(v27, v25, 384u);
@@ -42898,272 +42658,268 @@ L59:;
 }
 
 u32 portable_ptpm_clock_decide(address a0, address a1, address a2, u64 a3, address a4) {
-    u64 v5, v6, v7, v8, v9, v19, v44, v49, v53, v55, v57, v58, v59, v63, v65, v66;
-    u64 v67, v68, v71, v72, v76, v82, v83, v86, v87, v88, v90, v94, v102, v107, v109, v110;
-    u64 v111, v112;
-    u32 v10, v123, v124, v125, v132, v133;
-    address v11, v12, v13, v14, v15, v16, v17, v20, v21, v24, v27, v28, v29, v30, v33, v37;
-    address v39, v41, v42, v43, v45, v48, v51, v52, v54, v56, v60, v64, v69, v74, v75, v78;
-    address v79, v80, v84, v85, v92, v95, v96, v97, v98, v100, v101, v104, v106, v108, v113, v114;
-    address v115, v116, v117, v118, v120, v121, v122, v126, v128;
-    u8 v18, v22, v23, v25, v26, v31, v32, v35, v36, v38, v40, v46, v47, v50, v61, v62;
-    u8 v73, v77, v81, v89, v91, v99, v103, v105, v119, v127, v129, v130, v131;
-    u16 v34, v70, v93;
-    u64 block0[12];
-    u64 block1[12];
+    u64 v5, v6, v7, v16, v42, v47, v51, v53, v55, v56, v57, v61, v63, v64, v65, v66;
+    u64 v69, v70, v74, v80, v81, v84, v85, v86, v88, v92, v99, v111;
+    u32 v8, v119, v120, v127, v128;
+    address v9, v10, v11, v12, v13, v14, v17, v18, v21, v24, v25, v26, v27, v28, v31, v35;
+    address v37, v39, v40, v41, v43, v46, v49, v50, v52, v54, v58, v62, v67, v72, v73, v76;
+    address v77, v78, v82, v83, v90, v93, v94, v95, v96, v98, v100, v101, v102, v103, v104, v105;
+    address v106, v108, v110, v112, v113, v114, v115, v116, v117, v118, v121, v123;
+    u8 v15, v19, v20, v22, v23, v29, v30, v33, v34, v36, v38, v44, v45, v48, v59, v60;
+    u8 v71, v75, v79, v87, v89, v97, v107, v109, v122, v124, v125, v126;
+    u16 v32, v68, v91;
+    u64 block0[2];
+    u64 block1[2];
     u64 block2[3];
-    u64 block3[9];
-    u64 block4[11];
-    u64 block5[24];
-    u64 block6[4];
-    v11 = ADDRESS(block0);
-    v12 = ADDRESS(block1);
-    v13 = ADDRESS(block2);
-    v14 = ADDRESS(block3);
-    v15 = ADDRESS(block4);
-    v16 = ADDRESS(block5);
-    v17 = ADDRESS(block6);
-    v18 = a2 == 0u;
-    v19 = v18 ? 4096u : 0u;
-    v20 = a2 + v19 * 1u;
+    u64 block3[11];
+    u64 block4[24];
+    u64 block5[4];
+    v9 = ADDRESS(block0);
+    v10 = ADDRESS(block1);
+    v11 = ADDRESS(block2);
+    v12 = ADDRESS(block3);
+    v13 = ADDRESS(block4);
+    v14 = ADDRESS(block5);
+    v15 = a2 == 0u;
+    v16 = v15 ? 4096u : 0u;
+    v17 = a2 + v16 * 1u;
     memory_set(a4, 0u, 88u);
-    v21 = a0 + 8u * 1u;
-    v22 = load8(v21);
-    v23 = (u8)((v22) & UINT64_C(1));
-    if (v23) { goto L1; }
-    else { v10 = 32u; goto L34; }
+    v18 = a0 + 8u * 1u;
+    v19 = load8(v18);
+    v20 = (u8)((v19) & UINT64_C(1));
+    if (v20) { goto L1; }
+    else { v8 = 32u; goto L33; }
 L1:;
-    v24 = load_address(a0);
-    v25 = load8(v24);
-    v26 = v25 == 4u;
-    if (v26) { goto L2; }
-    else { v10 = 32u; goto L34; }
+    v21 = load_address(a0);
+    v22 = load8(v21);
+    v23 = v22 == 4u;
+    if (v23) { goto L2; }
+    else { v8 = 32u; goto L33; }
 L2:;
-    v27 = v24 + 8u * 1u;
-    v28 = load_address(v27);
-    memory_set(v17, 0u, 32u);
-    v29 = load_address(v28);
-    v30 = v29 + 448u * 1u;
-    v31 = load8(v30);
-    v32 = v31 == 1u;
-    if (v32) { goto L3; }
-    else { goto L4; }
+    v24 = v21 + 8u * 1u;
+    v25 = load_address(v24);
+    v26 = a4 + 16u * 1u;
+    memory_set(v14, 0u, 32u);
+    v27 = load_address(v25);
+    v28 = v27 + 448u * 1u;
+    v29 = load8(v28);
+    v30 = v29 == 1u;
+    if (v30) { goto L4; }
+    else { goto L3; }
 L3:;
-    v33 = v29 + 450u * 1u;
-    memory_cpy(v16, v33, 188u);
-    v34 = load16(v16);
-    f20(v17, v29, v34, a1, a3);
-    v35 = load8(v17);
-    v36 = v35 == 0u;
-    if (v36) { goto L5; }
-    else { goto L32; }
+    v8 = 124u; goto L33;
 L4:;
-    v10 = 124u; goto L34;
+    v31 = v27 + 450u * 1u;
+    memory_cpy(v13, v31, 188u);
+    v32 = load16(v13);
+    f20(v14, v27, v32, a1, a3);
+    v33 = load8(v14);
+    v34 = v33 == 0u;
+    if (v34) { goto L5; }
+    else { goto L31; }
 L5:;
-    v37 = v17 + 8u * 1u;
+    v35 = v14 + 8u * 1u;
+    v36 = load8(v35);
+    v37 = v14 + 9u * 1u;
     v38 = load8(v37);
-    v39 = v17 + 9u * 1u;
-    v40 = load8(v39);
-    v41 = v17 + 16u * 1u;
-    v42 = load_address(v41);
-    v43 = v17 + 24u * 1u;
-    v44 = load64(v43);
-    v45 = v28 + 843u * 1u;
-    v46 = load8(v45);
-    v47 = (u8)((v46) & UINT64_C(1));
-    if (v47) { goto L6; }
-    else { goto L33; }
+    v39 = v14 + 16u * 1u;
+    v40 = load_address(v39);
+    v41 = v14 + 24u * 1u;
+    v42 = load64(v41);
+    v43 = v25 + 843u * 1u;
+    v44 = load8(v43);
+    v45 = (u8)((v44) & UINT64_C(1));
+    if (v45) { goto L6; }
+    else { goto L32; }
 L6:;
-    v48 = v28 + 816u * 1u;
-    v49 = load64(v48);
-    v50 = v49 == 0u;
-    if (v50) { goto L7; }
-    else { goto L33; }
+    v46 = v25 + 816u * 1u;
+    v47 = load64(v46);
+    v48 = v47 == 0u;
+    if (v48) { goto L7; }
+    else { goto L32; }
 L7:;
-    v51 = load_address(v28);
-    v52 = v28 + 784u * 1u;
+    v49 = load_address(v25);
+    v50 = v25 + 784u * 1u;
+    v51 = load64(v50);
+    v52 = v25 + 808u * 1u;
     v53 = load64(v52);
-    v54 = v28 + 808u * 1u;
+    v54 = v25 + 800u * 1u;
     v55 = load64(v54);
-    v56 = v28 + 800u * 1u;
-    v57 = load64(v56);
-    v58 = (u64)((u64)v53 - (u64)v55);
-    v59 = (u64)((u64)v58 + (u64)v57);
-    v60 = v51 + 240u * 1u;
-    v61 = load8(v60);
-    v62 = v61 == 0u;
-    v63 = v62 ? 376u : 256u;
-    v64 = v51 + v63 * 1u;
-    v65 = load64(v64);
-    v66 = (u64)((u64)v65 << (1u & 63u));
-    v67 = (u64)((u64)v66 & (u64)UINT64_C(131070));
-    v68 = (u64)((u64)v67 + (u64)UINT64_C(18446744073709551615));
-    v69 = v51 + 416u * 1u;
-    v70 = load16(v69);
-    v71 = (u64)v70;
-    v72 = v71 > v68 ? v71 : v68;
-    v73 = v72 > v59;
-    if (v73) { goto L8; }
+    v56 = (u64)((u64)v51 - (u64)v53);
+    v57 = (u64)((u64)v56 + (u64)v55);
+    v58 = v49 + 240u * 1u;
+    v59 = load8(v58);
+    v60 = v59 == 0u;
+    v61 = v60 ? 376u : 256u;
+    v62 = v49 + v61 * 1u;
+    v63 = load64(v62);
+    v64 = (u64)((u64)v63 << (1u & 63u));
+    v65 = (u64)((u64)v64 & (u64)UINT64_C(131070));
+    v66 = (u64)((u64)v65 + (u64)UINT64_C(18446744073709551615));
+    v67 = v49 + 416u * 1u;
+    v68 = load16(v67);
+    v69 = (u64)v68;
+    v70 = v69 > v66 ? v69 : v66;
+    v71 = v70 > v57;
+    if (v71) { goto L8; }
     else { goto L13; }
 L8:;
-    v74 = v51 + 384u * 1u;
-    memory_set(v15, 0u, 88u);
-    f21(v15, v74);
-    v75 = v15 + 80u * 1u;
-    v76 = load64(v75);
-    v77 = v76 == 0u;
-    if (v77) { v7 = v68; goto L12; }
+    v72 = v49 + 384u * 1u;
+    memory_set(v12, 0u, 88u);
+    f21(v12, v72);
+    v73 = v12 + 80u * 1u;
+    v74 = load64(v73);
+    v75 = v74 == 0u;
+    if (v75) { v7 = v66; goto L12; }
     else { goto L9; }
 L9:;
-    v78 = v15 + 16u * 1u;
-    v79 = load_address(v15);
+    v76 = v12 + 16u * 1u;
+    v77 = load_address(v12);
     v5 = 0u; v6 = 0u; goto L10;
 L10:;
-    v80 = v78 + v6 * 1u;
-    v81 = load8(v80);
-    v82 = (u64)v81;
-    v83 = (u64)((u64)v82 * (u64)2144u);
-    v84 = v79 + v83 * 1u;
-    v85 = v84 + 1448u * 1u;
-    v86 = load64(v85);
-    v87 = v5 > v86 ? v5 : v86;
-    v88 = (u64)((u64)v6 + (u64)1u);
-    v89 = v88 == v76;
-    if (v89) { goto L11; }
-    else { v5 = v87; v6 = v88; goto L10; }
+    v78 = v76 + v6 * 1u;
+    v79 = load8(v78);
+    v80 = (u64)v79;
+    v81 = (u64)((u64)v80 * (u64)2144u);
+    v82 = v77 + v81 * 1u;
+    v83 = v82 + 1448u * 1u;
+    v84 = load64(v83);
+    v85 = v5 > v84 ? v5 : v84;
+    v86 = (u64)((u64)v6 + (u64)1u);
+    v87 = v86 == v74;
+    if (v87) { goto L11; }
+    else { v5 = v85; v6 = v86; goto L10; }
 L11:;
-    v90 = v87 > v68 ? v87 : v68;
-    v7 = v90; goto L12;
+    v88 = v85 > v66 ? v85 : v66;
+    v7 = v88; goto L12;
 L12:;
-    v91 = v7 > v59;
-    if (v91) { goto L33; }
+    v89 = v7 > v57;
+    if (v89) { goto L32; }
     else { goto L13; }
 L13:;
-    v92 = v16 + 2u * 1u;
-    v93 = load16(v92);
-    v94 = (u64)v93;
-    v95 = v16 + 4u * 1u;
-    store64(v13, 0u);
-    store8(v13, v38);
-    v96 = v13 + 1u * 1u;
-    store8(v96, v40);
-    v97 = v13 + 8u * 1u;
-    store_address(v97, v42);
-    v98 = v13 + 16u * 1u;
-    store64(v98, v44);
-    v99 = f58(v51, v95, v94, v13);
-    if (v99) { goto L14; }
+    v90 = v13 + 2u * 1u;
+    v91 = load16(v90);
+    v92 = (u64)v91;
+    v93 = v13 + 4u * 1u;
+    store64(v11, 0u);
+    store8(v11, v36);
+    v94 = v11 + 1u * 1u;
+    store8(v94, v38);
+    v95 = v11 + 8u * 1u;
+    store_address(v95, v40);
+    v96 = v11 + 16u * 1u;
+    store64(v96, v42);
+    v97 = f51(v49, v93, v92, v11);
+    if (v97) { goto L14; }
     else { goto L15; }
 L14:;
-    memory_set(v11, 0u, 96u);
-    f44(v11, v51, v34, v95, v94, v20, a3);
-    v100 = v11 + 24u * 1u;
-    v101 = v11 + 8u * 1u;
-    v102 = load64(v101);
-    memory_cpy(v14, v100, 68u);
-    v8 = 5u; v9 = v102; goto L21;
+    memory_set(v9, 0u, 16u);
+    f38(v9, v49, v32, v93, v92, v17, a3, v26);
+    v98 = v9 + 8u * 1u;
+    v99 = load64(v98);
+    v100 = v25 + 776u * 1u;
+    f66(v100, v17, v99);
+    v101 = load_address(v25);
+    v102 = v101 + 448u * 1u;
+    v103 = v25 + 841u * 1u;
+    memory_set(v102, 0u, 190u);
+    store8(v103, 1u);
+    v104 = v25 + 842u * 1u;
+    store8(v104, 1u);
+    v105 = v25 + 844u * 1u;
+    store8(v105, 0u);
+    store64(a4, 0u);
+    v106 = a4 + 8u * 1u;
+    store64(v106, v99);
+    goto L25;
 L15:;
-    memory_set(v12, 0u, 96u);
-    switch (v38) {
+    memory_set(v10, 0u, 16u);
+    switch (v36) {
     case 0u: goto L16;
     case 1u: goto L17;
     case 2u: goto L18;
     default: goto L19;
     }
 L16:;
-    f44(v12, v51, v34, v95, v94, v20, a3);
+    f38(v10, v49, v32, v93, v92, v17, a3, v26);
     goto L20;
 L17:;
-    f64(v12, v51, v34, v95, v94, v40, v20, a3);
+    f57(v10, v49, v32, v93, v92, v38, v17, a3, v26);
     goto L20;
 L18:;
-    f69(v12, v51, v34, v95, v94, v42, v44, v20, a3);
+    f62(v10, v49, v32, v93, v92, v40, v42, v17, a3, v26);
     goto L20;
 L19:;
     UNREACHABLE;
 L20:;
-    v103 = load8(v12);
-    v104 = v12 + 1u * 1u;
-    v105 = load8(v104);
-    v106 = v12 + 8u * 1u;
-    v107 = load64(v106);
-    v108 = v12 + 24u * 1u;
-    memory_cpy(v14, v108, 68u);
-    v109 = (u64)v103;
-    v110 = (u64)v105;
-    v111 = (u64)((u64)v110 << (8u & 63u));
-    v112 = (u64)((u64)v111 | (u64)v109);
-    v8 = v112; v9 = v107; goto L21;
-L21:;
-    v113 = v28 + 776u * 1u;
-    f73(v113, v20, v9);
-    v114 = load_address(v28);
-    v115 = v114 + 448u * 1u;
-    v116 = v28 + 841u * 1u;
-    memory_set(v115, 0u, 190u);
+    v107 = load8(v10);
+    v108 = v10 + 1u * 1u;
+    v109 = load8(v108);
+    v110 = v10 + 8u * 1u;
+    v111 = load64(v110);
+    v112 = v25 + 776u * 1u;
+    f66(v112, v17, v111);
+    v113 = load_address(v25);
+    v114 = v113 + 448u * 1u;
+    v115 = v25 + 841u * 1u;
+    memory_set(v114, 0u, 190u);
+    store8(v115, 1u);
+    v116 = v25 + 842u * 1u;
     store8(v116, 1u);
-    v117 = v28 + 842u * 1u;
-    store8(v117, 1u);
-    v118 = v28 + 844u * 1u;
-    store8(v118, 0u);
-    v119 = (u8)(v8);
+    v117 = v25 + 844u * 1u;
+    store8(v117, 0u);
     store64(a4, 0u);
-    v120 = a4 + 8u * 1u;
-    store64(v120, v9);
-    v121 = a4 + 16u * 1u;
-    memory_cpy(v121, v14, 68u);
-    v122 = a4 + 84u * 1u;
-    store32(v122, 0u);
-    switch (v119) {
-    case 0u: goto L22;
-    case 9u: goto L30;
-    case 1u: v10 = 1u; goto L34;
-    case 2u: goto L23;
-    case 3u: goto L24;
-    case 4u: goto L25;
-    case 5u: goto L26;
-    case 6u: goto L27;
-    case 7u: goto L28;
-    case 8u: goto L29;
-    default: goto L31;
+    v118 = a4 + 8u * 1u;
+    store64(v118, v111);
+    switch (v107) {
+    case 0u: goto L21;
+    case 9u: goto L29;
+    case 1u: v8 = 1u; goto L33;
+    case 2u: goto L22;
+    case 3u: goto L23;
+    case 4u: goto L24;
+    case 5u: goto L25;
+    case 6u: goto L26;
+    case 7u: goto L27;
+    case 8u: goto L28;
+    default: goto L30;
     }
+L21:;
+    v119 = (u32)v109;
+    v120 = (u32)((u32)v119 + (u32)16u);
+    v8 = v120; goto L33;
 L22:;
-    v123 = (u32)(v8);
-    v124 = (u32)((u32)v123 >> (8u & 31u));
-    v125 = (u32)((u32)v124 + (u32)16u);
-    v10 = v125; goto L34;
+    v8 = 2u; goto L33;
 L23:;
-    v10 = 2u; goto L34;
+    v8 = 3u; goto L33;
 L24:;
-    v10 = 3u; goto L34;
+    v8 = 4u; goto L33;
 L25:;
-    v10 = 4u; goto L34;
+    v8 = 5u; goto L33;
 L26:;
-    v10 = 5u; goto L34;
+    v8 = 6u; goto L33;
 L27:;
-    v10 = 6u; goto L34;
+    v8 = 7u; goto L33;
 L28:;
-    v10 = 7u; goto L34;
+    v8 = 8u; goto L33;
 L29:;
-    v10 = 8u; goto L34;
+    v8 = 9u; goto L33;
 L30:;
-    v10 = 9u; goto L34;
-L31:;
     UNREACHABLE;
+L31:;
+    v121 = v14 + 1u * 1u;
+    v122 = load8(v121);
+    v123 = v14 + 2u * 1u;
+    v124 = load8(v123);
+    v125 = v122 == 0u;
+    v126 = v124 == 0u;
+    v127 = v126 ? 33u : 34u;
+    v128 = v125 ? v127 : 121u;
+    v8 = v128; goto L33;
 L32:;
-    v126 = v17 + 1u * 1u;
-    v127 = load8(v126);
-    v128 = v17 + 2u * 1u;
-    v129 = load8(v128);
-    v130 = v127 == 0u;
-    v131 = v129 == 0u;
-    v132 = v131 ? 33u : 34u;
-    v133 = v130 ? v132 : 121u;
-    v10 = v133; goto L34;
+    v8 = 118u; goto L33;
 L33:;
-    v10 = 118u; goto L34;
-L34:;
-    return v10;
+    return v8;
 }
 
 void portable_ptpm_clock_defaults(address a0) {
@@ -43484,7 +43240,7 @@ L19:;
     if (v157) { goto L22; }
     else { goto L20; }
 L20:;
-    v158 = f45(v43, v27);
+    v158 = f39(v43, v27);
     if (v158) { goto L21; }
     else { goto L40; }
 L21:;
@@ -43514,7 +43270,7 @@ L22:;
     if (v179) { goto L41; }
     else { goto L23; }
 L23:;
-    v180 = f46(v43, v27);
+    v180 = f40(v43, v27);
     if (v180) { goto L24; }
     else { goto L42; }
 L24:;
@@ -43585,7 +43341,7 @@ L28:;
     store_address(v221, v210);
     v222 = v25 + 16u * 1u;
     store64(v222, v211);
-    v223 = f47(v56, v24, v200, v25);
+    v223 = f41(v56, v24, v200, v25);
     v224 = v223.m0;
     switch (v224) {
     case 0u: goto L48;
@@ -43674,40 +43430,40 @@ L41:;
     store64(a6, 0u);
     v21 = 2u; goto L51;
 L42:;
-    f55(v43, 3u, a1, v31, v27, v28);
+    f48(v43, 3u, a1, v31, v27, v28);
     v263 = load64(v80);
     store64(a6, v263);
     v21 = 3u; goto L51;
 L43:;
-    f55(v43, 4u, a1, v31, v27, v28);
+    f48(v43, 4u, a1, v31, v27, v28);
     v264 = load64(v80);
     store64(a6, v264);
     v21 = 4u; goto L51;
 L44:;
     v265 = v223.m1;
-    f49(v43, a1, v27, v265, v28);
+    f42(v43, a1, v27, v265, v28);
     v266 = load64(v80);
     store64(a6, v266);
     v21 = 5u; goto L51;
 L45:;
     v267 = v17 + 1448u * 1u;
     v268 = load64(v267);
-    f54(v19, v268, v20, v23, a1, v28);
+    f47(v19, v268, v20, v23, a1, v28);
     v269 = load64(v80);
     store64(a6, v269);
     v21 = 6u; goto L51;
 L46:;
-    f55(v43, 7u, a1, v31, v27, v28);
+    f48(v43, 7u, a1, v31, v27, v28);
     v270 = load64(v80);
     store64(a6, v270);
     v21 = 7u; goto L51;
 L47:;
-    f55(v43, 8u, a1, v31, v27, v28);
+    f48(v43, 8u, a1, v31, v27, v28);
     v271 = load64(v80);
     store64(a6, v271);
     v21 = 8u; goto L51;
 L48:;
-    f55(v43, 9u, a1, v31, v27, v28);
+    f48(v43, 9u, a1, v31, v27, v28);
     v272 = load64(v80);
     store64(a6, v272);
     v21 = 9u; goto L51;
@@ -43977,7 +43733,7 @@ L19:;
     if (v185) { goto L22; }
     else { goto L20; }
 L20:;
-    v186 = f45(v73, v56);
+    v186 = f39(v73, v56);
     if (v186) { goto L21; }
     else { v35 = 1u; goto L88; }
 L21:;
@@ -44100,7 +43856,7 @@ L30:;
     store_address(v262, v252);
     v263 = v54 + 16u * 1u;
     store64(v263, v253);
-    v264 = f47(v206, v53, v242, v54);
+    v264 = f41(v206, v53, v242, v54);
     v265 = v264.m0;
     switch (v265) {
     case 0u: v25 = v242; v26 = v233; v27 = v251; goto L79;
@@ -44182,7 +43938,7 @@ L34:;
     v305 = swap16(v257);
     v306 = v51 + 52u * 1u;
     store16(v306, v305);
-    f74(v73, v50, v268, v51);
+    f67(v73, v50, v268, v51);
     v307 = load8(v281);
     v308 = v73 + 392u * 1u;
     v309 = load_address(v308);
@@ -44254,7 +44010,7 @@ L42:;
     if (v344) { goto L44; }
     else { v18 = v343; goto L42; }
 L43:;
-    f50(v324, v252, v253);
+    f43(v324, v252, v253);
     goto L44;
 L44:;
     v345 = v324 + 2129u * 1u;
@@ -44305,10 +44061,10 @@ L50:;
     memory_move(v358, v353, 80u);
     goto L68;
 L51:;
-    f51(v358, v353, v352);
+    f44(v358, v353, v352);
     goto L68;
 L52:;
-    f52(v358, v353, v352);
+    f45(v358, v353, v352);
     goto L68;
 L53:;
     v364 = v324 + 1464u * 1u;
@@ -44334,7 +44090,7 @@ L56:;
     memory_move(v368, v353, 80u);
     goto L58;
 L57:;
-    f51(v368, v353, v352);
+    f44(v368, v353, v352);
     goto L58;
 L58:;
     store64(v365, v352);
@@ -44377,7 +44133,7 @@ L66:;
     store64(v379, 0u);
     goto L67;
 L67:;
-    f77(v58, v346);
+    f70(v58, v346);
     goto L68;
 L68:;
     v33 = 5u; v34 = 0u; goto L87;
@@ -44449,7 +44205,7 @@ L77:;
 L78:;
     v416 = v21 + 1448u * 1u;
     v417 = load64(v416);
-    f78(v23, v417, v24, v52, a1, v58);
+    f71(v23, v417, v24, v52, a1, v58);
     v33 = 6u; v34 = 0u; goto L87;
 L79:;
     v418 = v14 == 0u;
@@ -44527,7 +44283,7 @@ L79:;
     v467 = swap16(v431);
     v468 = v49 + 52u * 1u;
     store16(v468, v467);
-    f79(v73, v48, v49);
+    f72(v73, v48, v49);
     v469 = load64(v206);
     v470 = load64(v209);
     v28 = v470; v29 = v469; v30 = 9u; goto L80;
@@ -44734,7 +44490,7 @@ L4:;
     UNREACHABLE;
 L5:;
     v17 = load_address(v4);
-    v18 = f80(v17, v8, a2);
+    v18 = f73(v17, v8, a2);
     v19 = v18.m0;
     v20 = v19 == 1u;
     if (v20) { goto L6; }
@@ -44802,12 +44558,12 @@ L2:;
     if (v31) { goto L3; }
     else { goto L4; }
 L3:;
-    f83(v8, v23);
+    f76(v8, v23);
     v32 = v7 + 8u * 1u;
     memory_cpy(v32, v8, 384u);
     v5 = 1u; goto L5;
 L4:;
-    f84(v7, v23);
+    f77(v7, v23);
     v33 = load8(v7);
     v34 = v33 == 0u;
     v5 = v34; goto L5;
@@ -44831,7 +44587,7 @@ L5:;
     else { goto L12; }
 L6:;
     v47 = load_address(v22);
-    v48 = f80(v47, v14, a2);
+    v48 = f73(v47, v14, a2);
     v49 = v48.m0;
     v50 = v48.m1;
     v51 = v49 == 1u;
@@ -45042,7 +44798,7 @@ L6:;
     goto L8;
 L7:;
     v27 = (u64)v21;
-    f51(v26, v22, v27);
+    f44(v26, v22, v27);
     goto L8;
 L8:;
     v28 = load64(v15);
@@ -45323,12 +45079,12 @@ L14:;
     if (v93) { goto L15; }
     else { goto L16; }
 L15:;
-    f83(v17, v39);
+    f76(v17, v39);
     v94 = v16 + 8u * 1u;
     memory_cpy(v94, v17, 384u);
     v9 = 1u; goto L17;
 L16:;
-    f84(v16, v39);
+    f77(v16, v39);
     v95 = load8(v16);
     v96 = v95 == 0u;
     v9 = v96; goto L17;
@@ -45364,12 +45120,12 @@ L18:;
     if (v116) { goto L19; }
     else { goto L20; }
 L19:;
-    f83(v19, v39);
+    f76(v19, v39);
     v117 = v23 + 7u * 1u;
     memory_cpy(v117, v19, 384u);
     v10 = v117; goto L25;
 L20:;
-    f84(v18, v39);
+    f77(v18, v39);
     v118 = load8(v18);
     v119 = v18 + 8u * 1u;
     v120 = v23 + 7u * 1u;
@@ -45753,158 +45509,133 @@ L2:;
 }
 
 u32 portable_ptpm_clock_take(address a0, u16 a1, address a2, u64 a3, address a4, u8 a5, address a6, u64 a7, address a8) {
-    u8 v9, v13, v24, v27, v32, v33, v35, v36, v39, v41, v43, v44, v49, v55, v59, v70;
-    u8 v77, v79, v80, v81;
-    u64 v10, v11, v12, v25, v28, v48, v51, v58, v62, v64;
-    u32 v14, v15, v74, v75, v82, v83, v86;
-    address v16, v17, v18, v19, v20, v21, v22, v23, v26, v29, v30, v31, v34, v37, v38, v40;
-    address v42, v45, v46, v47, v50, v52, v53, v54, v56, v57, v60, v61, v63, v65, v66, v67;
-    address v68, v69, v71, v72, v73, v76, v78, v84, v85;
-    u64 block0[12];
-    u64 block1[12];
+    u8 v9, v10, v13, v14, v21, v24, v29, v30, v32, v33, v37, v39, v41, v42, v47, v49;
+    u8 v55, v58, v60, v66, v68, v69, v70;
+    u64 v11, v12, v22, v25, v46, v51, v57, v62;
+    u32 v15, v63, v64, v71, v72, v75;
+    address v16, v17, v18, v19, v20, v23, v26, v27, v28, v31, v34, v35, v36, v38, v40, v43;
+    address v44, v45, v48, v50, v52, v53, v54, v56, v59, v61, v65, v67, v73, v74;
+    u64 block0[2];
+    u64 block1[2];
     u64 block2[3];
-    u64 block3[1];
-    u64 block4[9];
-    u64 block5[12];
-    u64 block6[4];
-    u64 block7[10];
+    u64 block3[2];
+    u64 block4[4];
     v16 = ADDRESS(block0);
     v17 = ADDRESS(block1);
     v18 = ADDRESS(block2);
     v19 = ADDRESS(block3);
     v20 = ADDRESS(block4);
-    v21 = ADDRESS(block5);
-    v22 = ADDRESS(block6);
-    v23 = ADDRESS(block7);
-    v24 = a2 == 0u;
+    v21 = a2 == 0u;
+    v22 = v21 ? 4096u : 0u;
+    v23 = a2 + v22 * 1u;
+    v24 = a6 == 0u;
     v25 = v24 ? 4096u : 0u;
-    v26 = a2 + v25 * 1u;
-    v27 = a6 == 0u;
-    v28 = v27 ? 4096u : 0u;
-    v29 = a6 + v28 * 1u;
+    v26 = a6 + v25 * 1u;
     memory_set(a8, 0u, 88u);
-    v30 = a0 + 9u * 1u;
-    store8(v30, 0u);
-    v31 = a0 + 8u * 1u;
-    v32 = load8(v31);
-    v33 = (u8)((v32) & UINT64_C(1));
-    if (v33) { goto L1; }
-    else { v15 = 32u; goto L29; }
+    v27 = a0 + 9u * 1u;
+    store8(v27, 0u);
+    v28 = a0 + 8u * 1u;
+    v29 = load8(v28);
+    v30 = (u8)((v29) & UINT64_C(1));
+    if (v30) { goto L1; }
+    else { v15 = 32u; goto L28; }
 L1:;
-    v34 = load_address(a0);
-    v35 = a5 == 1u;
-    v36 = load8(v34);
-    switch (v36) {
+    v31 = load_address(a0);
+    v32 = a5 == 1u;
+    v33 = load8(v31);
+    switch (v33) {
     case 1u: goto L2;
-    case 4u: goto L27;
-    case 0u: v15 = 32u; goto L29;
-    case 2u: v15 = 32u; goto L29;
-    case 3u: v15 = 32u; goto L29;
-    case 5u: v15 = 32u; goto L29;
-    case 6u: v15 = 32u; goto L29;
-    case 7u: v15 = 32u; goto L29;
-    default: goto L28;
+    case 4u: goto L26;
+    case 0u: v15 = 32u; goto L28;
+    case 2u: v15 = 32u; goto L28;
+    case 3u: v15 = 32u; goto L28;
+    case 5u: v15 = 32u; goto L28;
+    case 6u: v15 = 32u; goto L28;
+    case 7u: v15 = 32u; goto L28;
+    default: goto L27;
     }
 L2:;
-    v37 = v34 + 8u * 1u;
-    v38 = load_address(v37);
-    memory_set(a8, 0u, 88u);
-    memory_set(v22, 0u, 32u);
-    f20(v22, v38, a1, a4, a7);
-    v39 = load8(v22);
-    v40 = v22 + 8u * 1u;
+    v34 = v31 + 8u * 1u;
+    v35 = load_address(v34);
+    v36 = a8 + 16u * 1u;
+    memory_set(v20, 0u, 32u);
+    f20(v20, v35, a1, a4, a7);
+    v37 = load8(v20);
+    v38 = v20 + 8u * 1u;
+    v39 = load8(v38);
+    v40 = v20 + 9u * 1u;
     v41 = load8(v40);
-    v42 = v22 + 9u * 1u;
-    v43 = load8(v42);
-    v44 = v39 == 0u;
-    if (v44) { goto L3; }
+    v42 = v37 == 0u;
+    if (v42) { goto L3; }
     else { goto L25; }
 L3:;
-    v45 = v22 + 16u * 1u;
-    v46 = load_address(v45);
-    v47 = v22 + 24u * 1u;
-    v48 = load64(v47);
-    memory_set(v21, 0u, 96u);
-    if (v35) { goto L4; }
+    v43 = v20 + 16u * 1u;
+    v44 = load_address(v43);
+    v45 = v20 + 24u * 1u;
+    v46 = load64(v45);
+    memory_set(v19, 0u, 16u);
+    if (v32) { goto L4; }
     else { goto L5; }
 L4:;
-    f22(v21, v38, a1, v26, a3, v29, a7);
-    v49 = load8(v21);
-    v50 = v21 + 8u * 1u;
+    f22(v19, v35, a1, v23, a3, v26, a7, v36);
+    v47 = load8(v19);
+    v48 = v19 + 1u * 1u;
+    v49 = load8(v48);
+    v50 = v19 + 8u * 1u;
     v51 = load64(v50);
-    v12 = v51; v13 = v49; goto L14;
+    v12 = v51; v13 = v49; v14 = v47; goto L14;
 L5:;
     store64(v18, 0u);
-    store8(v18, v41);
+    store8(v18, v39);
     v52 = v18 + 1u * 1u;
-    store8(v52, v43);
+    store8(v52, v41);
     v53 = v18 + 8u * 1u;
-    store_address(v53, v46);
+    store_address(v53, v44);
     v54 = v18 + 16u * 1u;
-    store64(v54, v48);
-    v55 = f58(v38, v26, a3, v18);
+    store64(v54, v46);
+    v55 = f51(v35, v23, a3, v18);
     if (v55) { goto L6; }
     else { goto L7; }
 L6:;
-    memory_set(v16, 0u, 96u);
-    f44(v16, v38, a1, v26, a3, v29, a7);
-    v56 = v16 + 24u * 1u;
-    v57 = v16 + 8u * 1u;
-    v58 = load64(v57);
-    memory_set(v19, 0u, 7u);
-    memory_cpy(v20, v56, 68u);
-    v9 = 5u; v10 = v58; v11 = 0u; goto L13;
+    memory_set(v16, 0u, 16u);
+    f38(v16, v35, a1, v23, a3, v26, a7, v36);
+    v56 = v16 + 8u * 1u;
+    v57 = load64(v56);
+    v9 = 5u; v10 = 0u; v11 = v57; goto L13;
 L7:;
-    memory_set(v17, 0u, 96u);
-    switch (v41) {
+    memory_set(v17, 0u, 16u);
+    switch (v39) {
     case 0u: goto L8;
     case 1u: goto L9;
     case 2u: goto L10;
     default: goto L11;
     }
 L8:;
-    f44(v17, v38, a1, v26, a3, v29, a7);
+    f38(v17, v35, a1, v23, a3, v26, a7, v36);
     goto L12;
 L9:;
-    f64(v17, v38, a1, v26, a3, v43, v29, a7);
+    f57(v17, v35, a1, v23, a3, v41, v26, a7, v36);
     goto L12;
 L10:;
-    f69(v17, v38, a1, v26, a3, v46, v48, v29, a7);
+    f62(v17, v35, a1, v23, a3, v44, v46, v26, a7, v36);
     goto L12;
 L11:;
     UNREACHABLE;
 L12:;
-    v59 = load8(v17);
-    v60 = v17 + 1u * 1u;
+    v58 = load8(v17);
+    v59 = v17 + 1u * 1u;
+    v60 = load8(v59);
     v61 = v17 + 8u * 1u;
     v62 = load64(v61);
-    v63 = v17 + 16u * 1u;
-    v64 = load64(v63);
-    v65 = v17 + 24u * 1u;
-    memory_cpy(v19, v60, 7u);
-    memory_cpy(v20, v65, 68u);
-    v9 = v59; v10 = v62; v11 = v64; goto L13;
+    v9 = v58; v10 = v60; v11 = v62; goto L13;
 L13:;
-    v66 = v21 + 1u * 1u;
-    memory_cpy(v66, v19, 7u);
-    v67 = v21 + 16u * 1u;
-    store64(v67, v11);
-    v68 = v21 + 24u * 1u;
-    memory_cpy(v68, v20, 68u);
-    v12 = v10; v13 = v9; goto L14;
+    v12 = v11; v13 = v10; v14 = v9; goto L14;
 L14:;
-    v69 = v21 + 1u * 1u;
-    v70 = load8(v69);
-    v71 = v21 + 16u * 1u;
-    memory_cpy(v23, v71, 76u);
     store64(a8, v12);
-    v72 = v23 + 8u * 1u;
-    v73 = a8 + 16u * 1u;
-    memory_cpy(v73, v72, 68u);
-    switch (v13) {
+    switch (v14) {
     case 0u: goto L15;
     case 9u: goto L23;
-    case 1u: v14 = 1u; goto L26;
+    case 1u: v15 = 1u; goto L28;
     case 2u: goto L16;
     case 3u: goto L17;
     case 4u: goto L18;
@@ -45915,47 +45646,45 @@ L14:;
     default: goto L24;
     }
 L15:;
-    v74 = (u32)v70;
-    v75 = (u32)((u32)v74 + (u32)16u);
-    v14 = v75; goto L26;
+    v63 = (u32)v13;
+    v64 = (u32)((u32)v63 + (u32)16u);
+    v15 = v64; goto L28;
 L16:;
-    v14 = 2u; goto L26;
+    v15 = 2u; goto L28;
 L17:;
-    v14 = 3u; goto L26;
+    v15 = 3u; goto L28;
 L18:;
-    v14 = 4u; goto L26;
+    v15 = 4u; goto L28;
 L19:;
-    v14 = 5u; goto L26;
+    v15 = 5u; goto L28;
 L20:;
-    v14 = 6u; goto L26;
+    v15 = 6u; goto L28;
 L21:;
-    v14 = 7u; goto L26;
+    v15 = 7u; goto L28;
 L22:;
-    v14 = 8u; goto L26;
+    v15 = 8u; goto L28;
 L23:;
-    v14 = 9u; goto L26;
+    v15 = 9u; goto L28;
 L24:;
     UNREACHABLE;
 L25:;
-    v76 = v22 + 2u * 1u;
-    v77 = load8(v76);
-    v78 = v22 + 1u * 1u;
-    v79 = load8(v78);
-    v80 = v79 == 0u;
-    v81 = v77 == 0u;
-    v82 = v81 ? 33u : 34u;
-    v83 = v80 ? v82 : 121u;
-    v14 = v83; goto L26;
+    v65 = v20 + 2u * 1u;
+    v66 = load8(v65);
+    v67 = v20 + 1u * 1u;
+    v68 = load8(v67);
+    v69 = v68 == 0u;
+    v70 = v66 == 0u;
+    v71 = v70 ? 33u : 34u;
+    v72 = v69 ? v71 : 121u;
+    v15 = v72; goto L28;
 L26:;
-    v15 = v14; goto L29;
+    v73 = v31 + 8u * 1u;
+    v74 = load_address(v73);
+    v75 = f78(v74, a1, v23, a3, a4, v32, v26, a7, a8);
+    v15 = v75; goto L28;
 L27:;
-    v84 = v34 + 8u * 1u;
-    v85 = load_address(v84);
-    v86 = f85(v85, a1, v26, a3, a4, v35, v29, a7, a8);
-    v15 = v86; goto L29;
-L28:;
     UNREACHABLE;
-L29:;
+L28:;
     return v15;
 }
 
@@ -46062,7 +45791,7 @@ u32 portable_ptpm_field_parse(u16 a0, address a1, u64 a2, address a3, u64 a4, ad
     u8 v276, v277, v278, v279, v280, v281, v282, v283, v284, v285, v286, v287, v288, v289, v290, v291;
     u8 v293, v295, v297, v299, v300, v303;
     u32 v71;
-    struct s5 v265;
+    struct s4 v265;
     u64 block0[1];
     u64 block1[1];
     u64 block2[1];
@@ -46199,7 +45928,7 @@ L4:;
     if (v138) { goto L7; }
     else { v10 = v136; v11 = v137; v12 = v135; goto L3; }
 L5:;
-    f27(v79, v9, v11);
+    f25(v79, v9, v11);
     v139 = load8(v79);
     v140 = v139 == 0u;
     if (v140) { goto L6; }
@@ -46416,7 +46145,7 @@ L30:;
     v52 = 11u; v53 = 4u; goto L31;
 L31:;
     memory_set(v78, 0u, 144u);
-    v232 = f88(v52, v53);
+    v232 = f81(v52, v53);
     v233 = v232 > 130u;
     if (v233) { goto L33; }
     else { goto L32; }
@@ -46526,7 +46255,7 @@ L52:;
     store8(v241, v263);
     v264 = load8(v244);
     store8(v243, v264);
-    v265 = f94(v75);
+    v265 = f87(v75);
     v266 = v265.m0;
     v267 = v265.m1;
     v268 = v257 == v267;
@@ -46560,7 +46289,7 @@ L55:;
 L56:;
     v61 = v264; v62 = v263; v63 = v262; v64 = 2u; goto L58;
 L57:;
-    f89(v76, v74, v259, v261, v78);
+    f82(v76, v74, v259, v261, v78);
     v285 = load8(v76);
     v286 = load8(v245);
     v287 = load8(v246);
@@ -46574,7 +46303,7 @@ L58:;
 L59:;
     goto L62;
 L60:;
-    f89(v77, v54, v51, v50, v78);
+    f82(v77, v54, v51, v50, v78);
     v291 = load8(v77);
     v292 = v77 + 1u * 1u;
     v293 = load8(v292);
@@ -46621,7 +46350,7 @@ L69:;
     store8(v304, v67);
     v305 = v72 + 2u * 1u;
     store8(v305, v68);
-    v306 = f96(a0, v72);
+    v306 = f89(a0, v72);
     v69 = 0u; v70 = v306; v71 = 116u; goto L71;
 L70:;
     store8(v73, v66);
@@ -46629,7 +46358,7 @@ L70:;
     store8(v307, v67);
     v308 = v73 + 2u * 1u;
     store8(v308, v68);
-    v309 = f96(a0, v73);
+    v309 = f89(a0, v73);
     v69 = 0u; v70 = v309; v71 = 117u; goto L71;
 L71:;
     store64(a5, v69);
@@ -46733,7 +46462,7 @@ L19:;
     if (v35) { goto L20; }
     else { goto L49; }
 L20:;
-    f97(1u, 1u, v19);
+    f90(1u, 1u, v19);
     v36 = load8(v31);
     v37 = v36 == 1u;
     if (v37) { goto L21; }
@@ -46769,7 +46498,7 @@ L25:;
     store64(v32, v6);
     goto L26;
 L26:;
-    f97(1u, 2u, v19);
+    f90(1u, 2u, v19);
     v51 = load8(v31);
     v52 = v51 == 1u;
     if (v52) { goto L27; }
@@ -46805,7 +46534,7 @@ L31:;
     store64(v32, v8);
     goto L32;
 L32:;
-    f97(1u, 3u, v19);
+    f90(1u, 3u, v19);
     v66 = load8(v31);
     v67 = v66 == 1u;
     if (v67) { goto L33; }
@@ -46841,7 +46570,7 @@ L37:;
     store64(v32, v10);
     goto L38;
 L38:;
-    f97(1u, 4u, v19);
+    f90(1u, 4u, v19);
     v81 = load8(v31);
     v82 = v81 == 1u;
     if (v82) { goto L39; }
@@ -46877,7 +46606,7 @@ L43:;
     store64(v32, v12);
     goto L44;
 L44:;
-    f97(1u, 254u, v19);
+    f90(1u, 254u, v19);
     v96 = load8(v31);
     v97 = v96 == 1u;
     if (v97) { goto L45; }
@@ -47078,7 +46807,7 @@ u64 portable_ptpm_field_text(u16 a0, address a1, u64 a2, address a3, u64 a4) {
     address v614, v624, v626, v634, v636, v645, v647, v655, v657, v658, v660, v670, v672, v680, v682, v686;
     address v694, v696, v704, v706, v710, v716, v718, v719, v730, v732, v740, v742, v747, v748, v759, v761;
     address v769, v771, v775, v782, v784, v791, v793;
-    struct s5 v211, v307, v389;
+    struct s4 v211, v307, v389;
     u16 v385, v386, v615;
     u64 block0[5];
     u64 block1[1];
@@ -47105,7 +46834,7 @@ u64 portable_ptpm_field_text(u16 a0, address a1, u64 a2, address a3, u64 a4) {
     store64(v209, 1u);
     v210 = v201 + 24u * 1u;
     store64(v210, 0u);
-    v211 = f98(a0, v204, a2);
+    v211 = f91(a0, v204, a2);
     v212 = v211.m0;
     v213 = v211.m1;
     v214 = v213 == 0u;
@@ -47286,7 +47015,7 @@ L26:;
     store8(v200, v286);
     store8(v215, v288);
     store8(v216, v290);
-    v307 = f94(v200);
+    v307 = f87(v200);
     v308 = v307.m0;
     v309 = v307.m1;
     v310 = v41 == 1u;
@@ -47441,7 +47170,7 @@ L49:;
     if (v380) { v168 = v85; v169 = v86; v170 = v87; v171 = v88; v172 = v89; v173 = v90; v174 = v91; v175 = v92; v176 = v93; v177 = v94; v178 = v95; v179 = v96; goto L176; }
     else { v69 = v85; v70 = v86; v71 = v87; v72 = v88; v73 = v89; v74 = v90; v75 = v91; v76 = v92; v77 = v93; v78 = v94; v79 = v95; v80 = v96; v81 = v97; v82 = v379; goto L43; }
 L50:;
-    f100(v199, v294, v296, v298, v299);
+    f93(v199, v294, v296, v298, v299);
     v381 = load8(v199);
     v382 = load8(v217);
     v383 = load8(v218);
@@ -47467,11 +47196,11 @@ L50:;
     default: goto L174;
     }
 L51:;
-    f101(v387, v201);
+    f94(v387, v201);
     goto L175;
 L52:;
     memory_set(v196, 0u, 40u);
-    v389 = f102(v196, v387);
+    v389 = f95(v196, v387);
     v390 = v389.m0;
     v391 = v389.m1;
     v392 = v98 == 1u;
@@ -47581,7 +47310,7 @@ L68:;
     goto L69;
 L69:;
     v443 = (u64)((u64)v433 >> (16u & 63u));
-    f101(v443, v201);
+    f94(v443, v201);
     v444 = load8(v209);
     v445 = v444 == 1u;
     if (v445) { goto L70; }
@@ -47610,7 +47339,7 @@ L74:;
     v454 = (u32)((u32)v117 * (u32)10u);
     v455 = (u32)((u32)v454 >> (16u & 31u));
     v456 = (u64)v455;
-    f101(v456, v201);
+    f94(v456, v201);
     v457 = (u32)((u32)v454 & (u32)65534u);
     v458 = v457 == 0u;
     v459 = (u8)((u32)v118 + (u32)255u);
@@ -47762,10 +47491,10 @@ L95:;
     goto L96;
 L96:;
     v528 = (u64)((u64)v491 & (u64)65535u);
-    f101(v528, v201);
+    f94(v528, v201);
     goto L175;
 L97:;
-    f97(v382, v383, v201);
+    f90(v382, v383, v201);
     goto L175;
 L98:;
     v529 = v103 == 1u;
@@ -47811,7 +47540,7 @@ L103:;
     goto L104;
 L104:;
     v547 = (u64)v383;
-    f101(v547, v201);
+    f94(v547, v201);
     v548 = load8(v209);
     v549 = v548 == 1u;
     if (v549) { goto L105; }
@@ -48460,13 +48189,13 @@ u32 portable_ptpm_id_named(address a0, u64 a1) {
     u8 v2, v6, v7;
     u64 v3;
     address v4;
-    struct s4 v5;
+    struct s3 v5;
     u16 v8;
     u32 v9, v10;
     v2 = a0 == 0u;
     v3 = v2 ? 4096u : 0u;
     v4 = a0 + v3 * 1u;
-    v5 = f103(v4, a1);
+    v5 = f96(v4, a1);
     v6 = v5.m0;
     v7 = v6 == 1u;
     v8 = v5.m1;
@@ -48476,7 +48205,7 @@ u32 portable_ptpm_id_named(address a0, u64 a1) {
 }
 
 u32 portable_ptpm_id_parse(address a0, u64 a1) {
-    struct s4 v2, v13, v14, v17, v23, v24;
+    struct s3 v2, v13, v14, v17, v23, v24;
     u8 v3, v6, v7, v8, v10, v15, v18, v20, v21, v25, v26;
     u64 v4, v12;
     address v5, v9, v11;
@@ -48504,19 +48233,19 @@ L2:;
 L3:;
     v11 = v5 + 2u * 1u;
     v12 = (u64)((u64)a1 + (u64)UINT64_C(18446744073709551614));
-    v13 = f104(v11, v12);
+    v13 = f97(v11, v12);
     v2 = v13; goto L5;
 L4:;
-    v14 = f103(v5, a1);
+    v14 = f96(v5, a1);
     v15 = v14.m0;
     v16 = v14.m1;
-    v17 = f104(v5, a1);
+    v17 = f97(v5, a1);
     v18 = v17.m0;
     v19 = v17.m1;
     v20 = (u8)((v15) & UINT64_C(1));
     v21 = v20 ? 1u : v18;
     v22 = v20 ? v16 : v19;
-    v23 = (struct s4){ 0 };
+    v23 = (struct s3){ 0 };
     v23.m0 = v21;
     v24 = v23;
     v24.m1 = v22;
@@ -48543,7 +48272,7 @@ u8 portable_ptpm_identity_parse(address a0, u64 a1, address a2) {
     v8 = a0 + v7 * 1u;
     memory_set(v5, 0u, 9u);
     memory_set(v4, 0u, 24u);
-    f27(v4, v8, a1);
+    f25(v4, v8, a1);
     v9 = load8(v4);
     v10 = v9 == 0u;
     if (v10) { goto L2; }
@@ -48555,7 +48284,7 @@ L2:;
     v12 = load_address(v11);
     v13 = v4 + 16u * 1u;
     v14 = load64(v13);
-    f105(v5, v12, v14);
+    f98(v5, v12, v14);
     v15 = load8(v5);
     v16 = v15 == 1u;
     if (v16) { goto L3; }
@@ -48594,7 +48323,7 @@ L1:;
     v18 = v7 + 4u * 1u;
     store64(v18, v17);
     store64(v16, 12u);
-    v19 = f106(v14, a2, v7, 12u);
+    v19 = f99(v14, a2, v7, 12u);
     v20 = swap32(v19);
     v21 = v7 + 12u * 1u;
     store32(v21, v20);
@@ -48620,7 +48349,7 @@ u32 portable_ptpm_image_unseal(address a0, u64 a1, address a2, address a3) {
     memory_set(v5, 0u, 24u);
     store64(a2, 0u);
     store64(a3, 0u);
-    f107(v5, v8, a1);
+    f100(v5, v8, a1);
     v9 = load8(v5);
     v10 = v9 == 0u;
     if (v10) { goto L1; }
@@ -48880,7 +48609,7 @@ L12:;
     v186 = v19 + 24u * 1u;
     store64(v186, v13);
     v187 = load_address(v179);
-    f108(v20, v187, v19, v23, a3, v26, a5, v29, a7);
+    f101(v20, v187, v19, v23, a3, v26, a5, v29, a7);
     v188 = load8(v20);
     v189 = v188 == 0u;
     if (v189) { goto L13; }
@@ -48970,7 +48699,7 @@ L1:;
 L2:;
     v29 = v26 + 8u * 1u;
     v30 = load_address(v29);
-    f113(v19, v30, v22, a2);
+    f106(v19, v30, v22, a2);
     v31 = load8(v19);
     v32 = v31 == 0u;
     if (v32) { goto L3; }
@@ -49209,11 +48938,11 @@ u16 portable_ptpm_limits_say(address a0, u64 a1, address a2) {
     default: goto L11;
     }
 L1:;
-    v11 = f115(v8, a1, a2);
+    v11 = f108(v8, a1, a2);
     if (v11) { v5 = 6u; goto L12; }
     else { goto L11; }
 L2:;
-    v12 = f115(v8, a1, a2);
+    v12 = f108(v8, a1, a2);
     if (v12) { v5 = 5u; goto L12; }
     else { goto L3; }
 L3:;
@@ -49281,14 +49010,14 @@ u32 portable_ptpm_member_kind(u16 a0, address a1, u64 a2, u64 a3) {
     address v5, v8, v12, v14, v15, v17, v19, v22, v25;
     u8 v6, v11, v16, v18, v20, v24, v26;
     u64 v7, v10, v13, v21, v23;
-    struct s5 v9;
+    struct s4 v9;
     u64 block0[3];
     v5 = ADDRESS(block0);
     v6 = a1 == 0u;
     v7 = v6 ? 4096u : 0u;
     v8 = a1 + v7 * 1u;
     memory_set(v5, 0u, 24u);
-    v9 = f98(a0, v8, a2);
+    v9 = f91(a0, v8, a2);
     v10 = v9.m1;
     v11 = a3 < v10;
     if (v11) { goto L1; }
@@ -49306,7 +49035,7 @@ L1:;
     v21 = (u64)v20;
     v22 = v8 + v21 * 1u;
     v23 = (u64)((u64)a2 - (u64)v21);
-    f100(v5, v16, v18, v22, v23);
+    f93(v5, v16, v18, v22, v23);
     v24 = load8(v5);
     switch (v24) {
     case 0u: v4 = 1u; goto L12;
@@ -49375,7 +49104,7 @@ L3:;
     memory_set(v17, 0u, 24u);
     v26 = (u64)((u64)v5 * (u64)a2);
     v27 = v20 + v26 * 1u;
-    f107(v17, v27, a2);
+    f100(v17, v27, a2);
     v28 = load8(v17);
     v29 = v28 == 0u;
     if (v29) { goto L5; }
@@ -49429,7 +49158,7 @@ L1:;
     v12 = a1 + v11 * 1u;
     v13 = (u8)(v8);
     memory_set(v7, 0u, 24u);
-    f27(v7, v12, a2);
+    f25(v7, v12, a2);
     v14 = load8(v7);
     v15 = v14 == 0u;
     if (v15) { goto L2; }
@@ -49453,7 +49182,7 @@ L2:;
 L3:;
     v29 = v25 + v3 * 1u;
     v30 = load8(v29);
-    f92(v6, v13, v30);
+    f85(v6, v13, v30);
     v31 = load8(v6);
     v32 = v31 == 1u;
     if (v32) { goto L4; }
@@ -49600,7 +49329,7 @@ u32 portable_ptpm_other_id_named(address a0, u64 a1) {
     v7 = v6 ? 4096u : 0u;
     v8 = a0 + v7 * 1u;
     memory_set(v5, 0u, 24u);
-    f27(v5, v8, a1);
+    f25(v5, v8, a1);
     v9 = load8(v5);
     v10 = v9 == 0u;
     if (v10) { goto L1; }
@@ -49668,7 +49397,7 @@ u8 portable_ptpm_passed_on_is_first(address a0, address a1, u64 a2, u64 a3, u64 
     v8 = v7 ? 4096u : 0u;
     v9 = a1 + v8 * 1u;
     v10 = load64(a0);
-    f116(v6, v9, a2);
+    f109(v6, v9, a2);
     v11 = load8(v6);
     v12 = v11 == 1u;
     if (v12) { goto L1; }
@@ -49676,7 +49405,7 @@ u8 portable_ptpm_passed_on_is_first(address a0, address a1, u64 a2, u64 a3, u64 
 L1:;
     v13 = a0 + 8u * 1u;
     v14 = v6 + 8u * 1u;
-    v15 = f118(v10, v13, 4096u, v14, a3, a4);
+    v15 = f111(v10, v13, 4096u, v14, a3, a4);
     v5 = v15; goto L2;
 L2:;
     return v5;
@@ -49699,14 +49428,14 @@ L1:;
     v14 = a3 == 0u;
     v15 = v14 ? 4096u : 0u;
     v16 = a3 + v15 * 1u;
-    f116(v8, v16, a4);
+    f109(v8, v16, a4);
     v17 = load8(v8);
     v18 = v17 == 1u;
     if (v18) { goto L2; }
     else { v7 = 0u; goto L3; }
 L2:;
     v19 = v8 + 8u * 1u;
-    v20 = f118(a0, v11, a2, v19, a5, a6);
+    v20 = f111(a0, v11, a2, v19, a5, a6);
     v7 = v20; goto L3;
 L3:;
     return v7;
@@ -49749,7 +49478,7 @@ u8 portable_ptpm_port_identity_parse(address a0, u64 a1, address a2, address a3)
     v11 = v10 ? 4096u : 0u;
     v12 = a0 + v11 * 1u;
     memory_set(v9, 0u, 24u);
-    f27(v9, v12, a1);
+    f25(v9, v12, a1);
     v13 = load8(v9);
     v14 = v13 == 0u;
     if (v14) { goto L2; }
@@ -49763,7 +49492,7 @@ L2:;
     v18 = load64(v17);
     memory_set(v7, 0u, 12u);
     memory_set(v8, 0u, 12u);
-    f119(v7, 47u, v16, v18);
+    f112(v7, 47u, v16, v18);
     v19 = load8(v7);
     v20 = v19 == 1u;
     v21 = v8 + 10u * 1u;
@@ -49777,7 +49506,7 @@ L3:;
     v25 = load16(v21);
     v4 = v25; v5 = v24; goto L5;
 L4:;
-    f119(v8, 45u, v16, v18);
+    f112(v8, 45u, v16, v18);
     v26 = load8(v8);
     v27 = v8 + 2u * 1u;
     v28 = load64(v27);
@@ -50337,7 +50066,7 @@ L28:;
     v241 = load64(v240);
     memory_set(v112, 0u, 32u);
     memory_set(v113, 0u, 32u);
-    f121(v112, v237, v239, v241);
+    f114(v112, v237, v239, v241);
     v242 = load8(v112);
     v243 = v242 == 0u;
     if (v243) { goto L29; }
@@ -50349,7 +50078,7 @@ L29:;
     v247 = load64(v246);
     v248 = v112 + 24u * 1u;
     v249 = load64(v248);
-    f121(v113, v237, v10, v9);
+    f114(v113, v237, v10, v9);
     v250 = load8(v113);
     v251 = v250 == 0u;
     if (v251) { goto L30; }
@@ -51889,7 +51618,7 @@ L54:;
     v746 = v146 + 176u * 1u;
     v747 = v146 + 174u * 1u;
     v748 = load64(a1);
-    f128(v146, v748);
+    f121(v146, v748);
     v85 = v745; v86 = v746; v87 = v747; v88 = v147; v89 = v146; goto L190;
 L55:;
     v749 = load16(v218);
@@ -51938,7 +51667,7 @@ L61:;
     store16(v760, 1u);
     v773 = (u16)(v30);
     store16(v761, v773);
-    v774 = f109(v759, v131);
+    v774 = f102(v759, v131);
     if (v774) { v31 = 1u; v32 = v773; goto L63; }
     else { goto L62; }
 L62:;
@@ -52097,7 +51826,7 @@ L88:;
 L89:;
     v853 = v130 + 8u * 1u;
     memory_set(v853, 0u, 40u);
-    f130(v130, v134, a3);
+    f123(v130, v134, a3);
     v854 = load8(v130);
     v855 = load16(v853);
     v856 = v130 + 10u * 1u;
@@ -52184,7 +51913,7 @@ L98:;
     if (v909) { goto L101; }
     else { v59 = v908; goto L97; }
 L99:;
-    v910 = f43(v48, v47, v867, v47);
+    v910 = f28(v48, v47, v867, v47);
     if (v910) { goto L101; }
     else { v60 = 3u; goto L106; }
 L100:;
@@ -52213,7 +51942,7 @@ L105:;
 L106:;
     v919 = v129 + 8u * 1u;
     memory_set(v919, 0u, 40u);
-    f130(v129, v134, a3);
+    f123(v129, v134, a3);
     v920 = load8(v129);
     v921 = v920 == 1u;
     v922 = v129 + 16u * 1u;
@@ -52274,7 +52003,7 @@ L112:;
     store16(v220, 0u);
     v107 = 3u; v108 = v749; v109 = 65535u; v110 = 0u; goto L227;
 L113:;
-    f128(v214, v215);
+    f121(v214, v215);
     v85 = v220; v86 = v219; v87 = v218; v88 = v216; v89 = v214; goto L190;
 L114:;
     store64(v127, 2u);
@@ -52293,7 +52022,7 @@ L114:;
     memory_set(v128, 0u, 16u);
     v946 = load_address(v938);
     v947 = load64(v939);
-    f108(v128, v937, v127, ADDRESS(c155), 0u, ADDRESS(c155), 0u, v946, v947);
+    f101(v128, v937, v127, ADDRESS(c155), 0u, ADDRESS(c155), 0u, v946, v947);
     v948 = load8(v128);
     v949 = v948 == 0u;
     if (v949) { goto L115; }
@@ -52327,7 +52056,7 @@ L117:;
     memory_set(v126, 0u, 16u);
     v959 = load_address(v938);
     v960 = load64(v939);
-    f108(v126, v937, v125, ADDRESS(c155), 0u, ADDRESS(c155), 0u, v959, v960);
+    f101(v126, v937, v125, ADDRESS(c155), 0u, ADDRESS(c155), 0u, v959, v960);
     v961 = load8(v126);
     v962 = v961 == 0u;
     if (v962) { goto L118; }
@@ -52361,7 +52090,7 @@ L120:;
     memory_set(v124, 0u, 16u);
     v972 = load_address(v938);
     v973 = load64(v939);
-    f108(v124, v937, v123, ADDRESS(c155), 0u, ADDRESS(c155), 0u, v972, v973);
+    f101(v124, v937, v123, ADDRESS(c155), 0u, ADDRESS(c155), 0u, v972, v973);
     v974 = load8(v124);
     v975 = v974 == 0u;
     if (v975) { goto L121; }
@@ -52398,7 +52127,7 @@ L125:;
     store16(v220, 0u);
     v107 = 3u; v108 = v749; v109 = 65535u; v110 = 0u; goto L227;
 L126:;
-    f131(v214, v749, v61);
+    f124(v214, v749, v61);
     v85 = v220; v86 = v219; v87 = v218; v88 = v216; v89 = v214; goto L190;
 L127:;
     v979 = v935 == 1u;
@@ -52420,7 +52149,7 @@ L129:;
     store8(v988, 1u);
     goto L130;
 L130:;
-    f128(v214, v215);
+    f121(v214, v215);
     v85 = v220; v86 = v219; v87 = v218; v88 = v216; v89 = v214; goto L190;
 L131:;
     v989 = (u16)v56;
@@ -52432,7 +52161,7 @@ L131:;
     store16(v220, v55);
     v85 = v220; v86 = v219; v87 = v218; v88 = v216; v89 = v214; goto L190;
 L132:;
-    f128(v214, v215);
+    f121(v214, v215);
     v85 = v220; v86 = v219; v87 = v218; v88 = v216; v89 = v214; goto L190;
 L133:;
     if (v54) { goto L134; }
@@ -52486,7 +52215,7 @@ L138:;
     v1009 = load_address(v1008);
     v1010 = v214 + 192u * 1u;
     v1011 = load64(v1010);
-    f108(v122, v1007, v121, ADDRESS(c155), 0u, ADDRESS(c155), 0u, v1009, v1011);
+    f101(v122, v1007, v121, ADDRESS(c155), 0u, ADDRESS(c155), 0u, v1009, v1011);
     v1012 = load8(v122);
     v1013 = v1012 == 0u;
     if (v1013) { goto L139; }
@@ -52524,7 +52253,7 @@ L141:;
     v1026 = load_address(v1025);
     v1027 = v214 + 192u * 1u;
     v1028 = load64(v1027);
-    f108(v120, v1024, v119, ADDRESS(c155), 0u, ADDRESS(c155), 0u, v1026, v1028);
+    f101(v120, v1024, v119, ADDRESS(c155), 0u, ADDRESS(c155), 0u, v1026, v1028);
     v1029 = load8(v120);
     v1030 = v1029 == 0u;
     if (v1030) { goto L142; }
@@ -52544,7 +52273,7 @@ L143:;
 L144:;
     UNREACHABLE;
 L145:;
-    f128(v214, v215);
+    f121(v214, v215);
     v85 = v220; v86 = v219; v87 = v218; v88 = v216; v89 = v214; goto L190;
 L146:;
     v1034 = load16(v157);
@@ -52581,7 +52310,7 @@ L148:;
     v1051 = load_address(v1050);
     v1052 = v153 + 192u * 1u;
     v1053 = load64(v1052);
-    f108(v118, v1049, v117, ADDRESS(c155), 0u, ADDRESS(c155), 0u, v1051, v1053);
+    f101(v118, v1049, v117, ADDRESS(c155), 0u, ADDRESS(c155), 0u, v1051, v1053);
     v1054 = load8(v118);
     v1055 = v1054 == 0u;
     if (v1055) { goto L149; }
@@ -52603,22 +52332,22 @@ L151:;
     v1060 = v175 + 176u * 1u;
     v1061 = v175 + 174u * 1u;
     v1062 = load64(a1);
-    f132(v175, v1062, 4u, 0u, ADDRESS(c155), 0u);
+    f125(v175, v1062, 4u, 0u, ADDRESS(c155), 0u);
     v85 = v1059; v86 = v1060; v87 = v1061; v88 = v176; v89 = v175; goto L190;
 L152:;
     if (v29) { goto L153; }
     else { v63 = v19; v64 = v20; v65 = v21; v66 = v22; v67 = v23; v68 = v24; v69 = v25; v70 = v26; goto L154; }
 L153:;
-    f132(v24, v23, 0u, 0u, v25, v26);
+    f125(v24, v23, 0u, 0u, v25, v26);
     v85 = v19; v86 = v20; v87 = v21; v88 = v22; v89 = v24; goto L190;
 L154:;
-    f132(v68, v67, 1u, 0u, v69, v70);
+    f125(v68, v67, 1u, 0u, v69, v70);
     v85 = v63; v86 = v64; v87 = v65; v88 = v66; v89 = v68; goto L190;
 L155:;
-    f132(v76, v75, 2u, v77, ADDRESS(c155), 0u);
+    f125(v76, v75, 2u, v77, ADDRESS(c155), 0u);
     v85 = v71; v86 = v72; v87 = v73; v88 = v74; v89 = v76; goto L190;
 L156:;
-    f132(v179, v180, 3u, 0u, ADDRESS(c155), 0u);
+    f125(v179, v180, 3u, 0u, ADDRESS(c155), 0u);
     v85 = v185; v86 = v184; v87 = v183; v88 = v181; v89 = v179; goto L190;
 L157:;
     v1063 = load8(v192);
@@ -52736,7 +52465,7 @@ L171:;
     store8(v1119, 1u);
     goto L172;
 L172:;
-    f128(v188, v189);
+    f121(v188, v189);
     v85 = v194; v86 = v193; v87 = v192; v88 = v190; v89 = v188; goto L190;
 L173:;
     store16(v190, 13u);
@@ -52746,11 +52475,11 @@ L173:;
     store16(v194, v1065);
     v105 = 1u; v106 = v1065; goto L225;
 L174:;
-    f128(v188, v189);
+    f121(v188, v189);
     v85 = v194; v86 = v193; v87 = v192; v88 = v190; v89 = v188; goto L190;
 L175:;
     v1120 = (u8)((v1066) & UINT64_C(1));
-    f131(v188, v1065, v1120);
+    f124(v188, v1065, v1120);
     v85 = v194; v86 = v193; v87 = v192; v88 = v190; v89 = v188; goto L190;
 L176:;
     store16(v190, 4u);
@@ -52773,7 +52502,7 @@ L177:;
 L178:;
     UNREACHABLE;
 L179:;
-    f128(v188, v189);
+    f121(v188, v189);
     v85 = v194; v86 = v193; v87 = v192; v88 = v190; v89 = v188; goto L190;
 L180:;
     v1126 = v162 + 178u * 1u;
@@ -52796,7 +52525,7 @@ L181:;
     v1134 = v116 + 18u * 1u;
     store16(v1134, v1131);
     v1135 = v167 + 8u * 1u;
-    v1136 = f109(v1135, v116);
+    v1136 = f102(v1135, v116);
     if (v1136) { goto L182; }
     else { goto L185; }
 L182:;
@@ -52808,7 +52537,7 @@ L182:;
     v1139 = load_address(v1138);
     v1140 = v167 + 192u * 1u;
     v1141 = load64(v1140);
-    f108(v115, v1135, v114, ADDRESS(c155), 0u, ADDRESS(c155), 0u, v1139, v1141);
+    f101(v115, v1135, v114, ADDRESS(c155), 0u, ADDRESS(c155), 0u, v1139, v1141);
     v1142 = load8(v115);
     v1143 = v1142 == 0u;
     if (v1143) { goto L183; }
@@ -54883,7 +54612,7 @@ L47:;
     if (v626) { goto L48; }
     else { v21 = v503; v22 = v502; goto L50; }
 L48:;
-    v627 = f134(v159);
+    v627 = f127(v159);
     v628 = v627 == 0u;
     if (v628) { goto L49; }
     else { goto L56; }
@@ -55410,7 +55139,7 @@ L10:;
     v100 = v38 + 8u * 1u;
     store16(v100, v79);
     store64(v39, v68);
-    f137(v37, v64, a4, v38, v39, v73, v5);
+    f130(v37, v64, a4, v38, v39, v73, v5);
     v101 = load8(v37);
     v102 = v101 == 0u;
     if (v102) { goto L11; }
@@ -55942,7 +55671,7 @@ L1:;
     if (v45) { goto L26; }
     else { goto L2; }
 L2:;
-    v46 = f43(v30, 4u, (ADDRESS(c347) + 8u * 1u), 4u);
+    v46 = f28(v30, 4u, (ADDRESS(c347) + 8u * 1u), 4u);
     if (v46) { goto L3; }
     else { goto L26; }
 L3:;
@@ -56021,7 +55750,7 @@ L6:;
     store8(v94, v63);
     v95 = v22 + 15u * 1u;
     store8(v95, v65);
-    v96 = f43(v30, 16u, v22, 16u);
+    v96 = f28(v30, 16u, v22, 16u);
     v97 = v71 >= v69;
     v98 = v96 ? v97 : 0u;
     if (v98) { goto L7; }
@@ -56134,13 +55863,13 @@ L18:;
     if (v169) { goto L19; }
     else { goto L20; }
 L19:;
-    f139(v23, a1, a2, v27, a4, v99, v100);
+    f132(v23, a1, a2, v27, a4, v99, v100);
     v170 = load8(v23);
     v171 = v170 == 0u;
     if (v171) { goto L23; }
     else { goto L24; }
 L20:;
-    v172 = f138(v27, a4);
+    v172 = f131(v27, a4);
     v173 = v172.m0;
     v174 = v173 == 1u;
     if (v174) { goto L21; }
@@ -56186,7 +55915,7 @@ L24:;
 L25:;
     v14 = v9; v15 = v10; v16 = v11; v17 = v12; v18 = v13; goto L27;
 L26:;
-    f139(v24, a1, a2, v27, a4, v30, a6);
+    f132(v24, a1, a2, v27, a4, v30, a6);
     v199 = load8(v24);
     v200 = v24 + 1u * 1u;
     v201 = load8(v200);
@@ -56277,7 +56006,7 @@ u32 portable_ptpm_clock_start(address a0, address a1, address a2, u64 a3, addres
     u8 v73, v74, v75, v76, v81, v86, v87, v88, v94, v96, v98, v100, v101;
     u64 v17, v20, v28, v36, v44, v46, v49, v52, v57, v78, v80, v82, v90, v104;
     u16 v58;
-    struct s3 v71;
+    struct s5 v71;
     struct pair v79;
     u64 block0[6];
     u64 block1[1];
@@ -56320,7 +56049,7 @@ L1:;
     goto L2;
 L2:;
     memory_set(v12, 0u, 424u);
-    f157(v12, a1, v18, a3, v21, a5);
+    f154(v12, a1, v18, a3, v21, a5);
     v30 = load8(v12);
     v31 = v30 == 0u;
     if (v31) { goto L3; }
@@ -56358,7 +56087,7 @@ L3:;
     v56 = v39 == 0u;
     v57 = v56 ? v49 : v44;
     v58 = (u16)(v57);
-    f153(v7, v8, v58, v21, a5);
+    f150(v7, v8, v58, v21, a5);
     v59 = load8(v7);
     v60 = v7 + 8u * 1u;
     v61 = v13 + 7u * 1u;
@@ -56385,7 +56114,7 @@ L4:;
     v70 = v14 + 376u * 1u;
     store64(v70, v49);
     memory_cpy(v15, v61, 40u);
-    v71 = f154(v14, v15);
+    v71 = f151(v14, v15);
     v72 = v71.m0;
     v73 = v72 == 0u;
     if (v73) { goto L8; }
@@ -56797,7 +56526,7 @@ L1:;
     store_address(v68, v61);
     v85 = v68 + 8u * 1u;
     memory_set(v85, 0u, 16u);
-    f113(v69, v66, v76, a2);
+    f106(v69, v66, v76, a2);
     v86 = load8(v69);
     v87 = v86 == 0u;
     if (v87) { goto L2; }
@@ -56938,7 +56667,7 @@ L20:;
     if (v159) { goto L21; }
     else { v13 = v158; goto L23; }
 L21:;
-    v160 = f158(v67);
+    v160 = f155(v67);
     if (v160) { goto L22; }
     else { goto L27; }
 L22:;
@@ -56979,7 +56708,7 @@ L23:;
     if (v179) { goto L24; }
     else { v14 = v5; v15 = v178; goto L26; }
 L24:;
-    v180 = f159(v68);
+    v180 = f156(v68);
     if (v180) { goto L25; }
     else { goto L49; }
 L25:;
@@ -57101,7 +56830,7 @@ L47:;
     v231 = (u64)((u64)v230 + (u64)v117);
     v232 = v76 + v231 * 1u;
     v233 = (u64)((u64)a2 - (u64)v231);
-    f113(v69, v66, v232, v233);
+    f106(v69, v66, v232, v233);
     v234 = load8(v69);
     v235 = v234 == 0u;
     if (v235) { v5 = v17; v6 = v18; v7 = v232; v8 = v231; goto L3; }
@@ -57192,7 +56921,7 @@ L63:;
     store8(v72, 5u);
     v272 = v72 + 1u * 1u;
     store8(v272, 0u);
-    v273 = f109(v70, v72);
+    v273 = f102(v70, v72);
     if (v273) { goto L80; }
     else { goto L65; }
 L64:;
@@ -57337,7 +57066,7 @@ L89:;
     if (v328) { goto L90; }
     else { v32 = v23; v33 = v24; v34 = v25; v35 = v63; goto L92; }
 L90:;
-    v329 = f160(v65);
+    v329 = f157(v65);
     if (v329) { goto L91; }
     else { goto L108; }
 L91:;
@@ -57872,7 +57601,7 @@ u32 portable_ptpm_session_restore(address a0, address a1, address a2, u64 a3) {
     v20 = load16(v19);
     v21 = a1 + 4u * 1u;
     v22 = load16(v21);
-    f137(v5, v12, a3, v6, v7, v20, v22);
+    f130(v5, v12, a3, v6, v7, v20, v22);
     v23 = load8(v5);
     v24 = v23 == 0u;
     if (v24) { goto L1; }
@@ -58253,7 +57982,7 @@ L3:;
     memory_set(v43, 0u, 24u);
     v44 = v4 + 136u * 1u;
     store64(v44, UINT64_C(2611923443488327891));
-    v45 = f161(a0, v4);
+    v45 = f158(a0, v4);
     v2 = v45; goto L4;
 L4:;
     return v2;
@@ -58353,7 +58082,7 @@ L6:;
     memory_set(v48, 0u, 24u);
     v49 = v5 + 136u * 1u;
     store64(v49, UINT64_C(2611923443488327891));
-    v50 = f161(a0, v5);
+    v50 = f158(a0, v5);
     v3 = v50; goto L7;
 L7:;
     return v3;
@@ -58744,12 +58473,12 @@ L46:;
 L47:;
     v54 = v33 + 8u * 1u;
     v55 = load_address(v54);
-    f162(v16, v55, a1, v20, a3);
+    f159(v16, v55, a1, v20, a3);
     v5 = v25; v6 = v27; v7 = v29; v8 = v31; v9 = v16; goto L2;
 L48:;
     v56 = v33 + 8u * 1u;
     v57 = load_address(v56);
-    f166(v17, v57, a1, v20, a3);
+    f163(v17, v57, a1, v20, a3);
     v5 = v26; v6 = v28; v7 = v30; v8 = v32; v9 = v17; goto L2;
 L49:;
     UNREACHABLE;
@@ -58927,7 +58656,7 @@ L28:;
 L29:;
     v10 = 11u; v11 = 4u; goto L39;
 L30:;
-    f39(v6, v7, v17);
+    f36(v6, v7, v17);
     v42 = load64(v41);
     v15 = v42; goto L47;
 L31:;
@@ -59156,7 +58885,7 @@ L6:;
     if (v44) { v14 = 0u; goto L34; }
     else { goto L7; }
 L7:;
-    f117(v16, v19, a3);
+    f110(v16, v19, a3);
     v45 = load8(v16);
     v46 = v45 == 1u;
     if (v46) { goto L8; }
@@ -59316,7 +59045,7 @@ L30:;
     memory_move(v110, v19, 80u);
     goto L32;
 L31:;
-    f51(v110, v19, v50);
+    f44(v110, v19, v50);
     goto L32;
 L32:;
     v111 = load8(v91);
@@ -59379,7 +59108,7 @@ L1:;
 L2:;
     v21 = v19 + 8u * 1u;
     v22 = load_address(v21);
-    f167(v10, v22, a1, a2, a3, v14, a5);
+    f164(v10, v22, a1, a2, a3, v14, a5);
     v23 = load8(v10);
     v24 = v10 + 1u * 1u;
     v25 = load8(v24);
@@ -59422,7 +59151,7 @@ L10:;
     v34 = load_address(v33);
     memory_set(v9, 0u, 72u);
     v35 = load_address(v34);
-    f167(v9, v35, a1, a2, a3, v14, a5);
+    f164(v9, v35, a1, a2, a3, v14, a5);
     v36 = load8(v9);
     v37 = v36 == 0u;
     if (v37) { goto L11; }
@@ -59508,7 +59237,7 @@ L1:;
 L2:;
     v18 = v16 + 8u * 1u;
     v19 = load_address(v18);
-    f168(v8, v19, a1, v12, a3);
+    f165(v8, v19, a1, v12, a3);
     v20 = load8(v8);
     v21 = v20 == 0u;
     if (v21) { goto L3; }
@@ -59541,7 +59270,7 @@ L7:;
 L8:;
     v29 = v16 + 8u * 1u;
     v30 = load_address(v29);
-    f169(v9, v30, a1, v12, a3);
+    f166(v9, v30, a1, v12, a3);
     v31 = load8(v9);
     v32 = v31 == 0u;
     if (v32) { goto L9; }
@@ -59887,7 +59616,7 @@ L6:;
     if (v38) { goto L7; }
     else { goto L16; }
 L7:;
-    f169(v10, v22, a1, v14, a3);
+    f166(v10, v22, a1, v14, a3);
     v39 = load8(v10);
     v40 = v39 == 0u;
     if (v40) { goto L8; }
@@ -59901,7 +59630,7 @@ L8:;
     v46 = load_address(v45);
     v47 = v44 + 432u * 1u;
     v48 = load64(v47);
-    f87(v9, v44, v46, v48, v14, a3);
+    f80(v9, v44, v46, v48, v14, a3);
     v49 = load8(v9);
     v50 = v49 == 1u;
     if (v50) { goto L10; }

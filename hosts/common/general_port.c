@@ -1,7 +1,6 @@
 #include "general_port.h"
 #include "message_places.h"
 #include "netlink.h"
-#include "route.h"
 #include "socket_option.h"
 #include "udp.h"
 #include <arpa/inet.h>
@@ -9,13 +8,11 @@
 #include <linux/if_ether.h>
 #include <linux/if_packet.h>
 #include <linux/inet_diag.h>
-#include <linux/netlink.h>
 #include <linux/sock_diag.h>
 #include <net/if_arp.h>
 #include <netinet/udp.h>
 #include <string.h>
 #include <sys/stat.h>
-#include <unistd.h>
 
 enum { FOUR_FROM_AT = 12, FOUR_TO_AT = 16, SIX_FROM_AT = 8, SIX_TO_AT = 24, SIX_HEAD = 40 };
 enum { GROUPS_FOUR = 0xe0, GROUPS_SIX = 0xff, UPPER_HALF = 0xf0, PORT_AT = 2 };
@@ -193,10 +190,7 @@ static struct question question_of(unsigned interface, bool is_six) {
 static ino_t file_of_owner(unsigned interface, bool is_six) {
     struct question question = question_of(interface, is_six);
     struct answer answer = { .head = { 0 } };
-    int netlink = socket(AF_NETLINK, SOCK_RAW | SOCK_CLOEXEC, NETLINK_SOCK_DIAG);
-    if (netlink < 0) return 0;
-    ssize_t size = send(netlink, &question, sizeof question, 0) < 0 ? -1 : recv(netlink, &answer, sizeof answer, MSG_DONTWAIT);
-    close(netlink);
+    ssize_t size = ask_kernel(NETLINK_SOCK_DIAG, &question.head, &answer, sizeof answer);
     bool is_told = size >= (ssize_t)(sizeof answer.head + sizeof answer.of) && answer.head.nlmsg_type == SOCK_DIAG_BY_FAMILY;
     return is_told ? answer.of.idiag_inode : 0;
 }

@@ -9,9 +9,7 @@
 #include "output.h"
 #include "peers.h"
 #include "ptp4l.h"
-#include "ptp4l_values.h"
 #include "saving.h"
-#include "unicast.h"
 #include "values.h"
 #include "words.h"
 #include <errno.h>
@@ -30,22 +28,16 @@ enum {
 
 static struct ptpm_clock clock_held;
 
-static void start_held_clock(void) {
-    struct ptpm_port_settings settings[PORTS];
-    if (restore_clock(&clock_held)) return;
-    size_t count = clock_ports();
-    for (size_t i = 0; i < count; i++) ptpm_port_defaults(&settings[i]);
-    enum ptpm_started answer = ptpm_clock_start(&clock_held, &options->settings, settings, count, options->managers,
-                                                options->manager_count);
-    if (answer == PTPM_STARTED) return;
-    say("it does not start: %s", answer_name(answer));
-    exit(1);
-}
-
 void start_clock(void) {
-    start_held_clock();
-    enum ptpm_relaying answer = ptpm_clock_relay(&clock_held, options->relayed, options->relayed_count);
-    if (answer == PTPM_RELAYING) return;
+    struct ptpm_port_settings settings[PORTS];
+    size_t count = clock_ports();
+    uint32_t answer = PTPM_STARTED;
+    for (size_t i = 0; i < count; i++) ptpm_port_defaults(&settings[i]);
+    if (!restore_clock(&clock_held)) {
+        answer = ptpm_clock_start(&clock_held, &options->settings, settings, count, options->managers, options->manager_count);
+    }
+    if (!ptpm_is_refusal(answer)) answer = ptpm_clock_relay(&clock_held, options->relayed, options->relayed_count);
+    if (!ptpm_is_refusal(answer)) return;
     say("it does not start: %s", answer_name(answer));
     exit(1);
 }
@@ -130,7 +122,7 @@ static void print_all_changed(const struct ptpm_changed *changed) {
 
 /* Places for the messages of a turn. What is to go out goes first, if it leaves too few. */
 static struct ptpm_sent *free_places(void) {
-    if (places_to_send() == NULL) count_dropped(send_round());
+    if (places_to_send() == NULL) counts[DROPPED] += send_round();
     return places_to_send();
 }
 
@@ -177,7 +169,7 @@ static unsigned long hand_on(const struct heard *heard, enum ptpm_handled answer
 
 /* The library asks no device about what the owner asks. A GET that the device answers is judged like that of a stranger. */
 static bool is_judged_as_owner(const struct heard *heard, const struct ptpm_say *say) {
-    bool is_given = say != NULL && say->kind == PTPM_GIVES && !is_of_manager(heard, options->settings.identity);
+    bool is_given = say != NULL && say->kind == PTPM_GIVES && !is_of_manager(heard);
     return heard->is_of_owner && !is_given;
 }
 
@@ -198,7 +190,7 @@ static unsigned long take_turn(struct heard *heard, const struct ptpm_say *say) 
     enum ptpm_handled answer = ptpm_clock_take(&clock_held, handed_in_at(heard), heard->octets, heard->size, say != NULL ? say : &nothing,
                                                is_judged_as_owner(heard, say), places, TURN, &taken);
     if (answer == PTPM_HANDLE_UNSAVED || answer == PTPM_HANDLE_UNDER_WAY) {
-        count_manager_dropped();
+        counts[OVER_RATE_OF_MANAGERS]++;
         return 0;
     }
     if (options->limits.is_passed_on_unread && taken.count == 0) {
@@ -240,11 +232,11 @@ static unsigned long take_request(struct heard *held) {
 /* A manager's request is not taken without a place to wait for a save. Nor is a copy of one that waits: one answer does for both. */
 static unsigned long take_datagram(struct heard *heard) {
     if (!admit_datagram(heard)) return 0;
-    if (!heard->is_of_owner && !is_of_manager(heard, options->settings.identity)) return take_turn(heard, NULL);
+    if (!heard->is_of_owner && !is_of_manager(heard)) return take_turn(heard, NULL);
     if (!admit_manager(heard)) return 0;
     bool has_place = heard->port == NULL ? peers_asking() < PEERS_A_SAVE : port_messages() < MOST_OF_PORTS;
     if (has_place && !is_asking(heard)) return take_request(heard);
-    count_manager_dropped();
+    counts[OVER_RATE_OF_MANAGERS]++;
     return 0;
 }
 
@@ -253,7 +245,7 @@ static struct heard heard_now[ROUND];
 static void take_all(size_t count) {
     unsigned long lost = 0;
     for (size_t i = 0; i < count; i++) lost += take_datagram(&heard_now[i]);
-    count_dropped(lost + send_round());
+    counts[DROPPED] += lost + send_round();
 }
 
 size_t room_for_peers(void) {
@@ -263,13 +255,9 @@ size_t room_for_peers(void) {
     return left < most ? left : most;
 }
 
-void take_round(const struct port *port, int socket) {
-    take_all(hear_round(port, socket, port != NULL ? ROUND : room_for_peers(), heard_now));
-}
-
-void take_owner_round(int socket) {
-    size_t count = hear_round(NULL, socket, room_for_peers(), heard_now);
-    for (size_t i = 0; i < count; i++) heard_now[i].is_of_owner = true;
+void take_round(const struct port *port, int socket, bool is_of_owner) {
+    size_t count = hear_round(port, socket, port != NULL ? ROUND : room_for_peers(), heard_now);
+    for (size_t i = 0; i < count; i++) heard_now[i].is_of_owner = is_of_owner;
     take_all(count);
 }
 
@@ -281,7 +269,7 @@ static bool take_decided(void) {
     if (ptpm_clock_free(&clock_held) < ptpm_clock_most_sent(&clock_held)) return false;
     struct heard *change = take_change(&say);
     if (change != NULL && say != NULL && say->kind == PTPM_AGREES && options->value_count > 0) say = value_by_now(change, say);
-    if (change != NULL) count_dropped((is_under_way() ? end_change(change, say) : take_turn(change, say)) + send_round());
+    if (change != NULL) counts[DROPPED] += (is_under_way() ? end_change(change, say) : take_turn(change, say)) + send_round();
     return change != NULL;
 }
 
@@ -316,9 +304,7 @@ static long take_changes(void) {
 }
 
 long take_waiting(void) {
-    unsigned long dropped = 0;
-    long left = take_changes(), again = answer_again(&dropped);
-    count_dropped(dropped);
+    long left = take_changes(), again = answer_again();
     return again < 0 || (left >= 0 && left < again) ? left : again;
 }
 
@@ -334,7 +320,7 @@ static void send_released(void) {
         use_places(1);
         if (options->is_verbose && asker->count == 0) print_all_changed(&asker->changed);
     }
-    count_dropped(lost + send_round());
+    counts[DROPPED] += lost + send_round();
 }
 
 /* Ends a save, and sends what waited for it; whether the device is to be asked now. */
@@ -348,26 +334,22 @@ void take_saved(void) {
     if (give_out() && is_under_way()) ask_program(&under_way);
 }
 
-static void tell_left(uint64_t left) {
-    for (unsigned i = 0; i < PORTS; i++) {
-        if (left >> i & 1) say_at_times("%s: port %u stays DISABLED", options->source, i + 1);
-    }
-}
-
 /* The clock observes what a text says, all of it or nothing. */
 void observe(char *text) {
     struct observation observation;
     uint64_t left = 0;
     if (!read_observation(&observation, options->source, text)) {
-        count_observation(false);
+        counts[NOT_OBSERVED]++;
         return;
     }
     enum ptpm_observed answer = ptpm_clock_observe(&clock_held, &observation.clock, observation.ports, observation.port_count,
                                                    &left);
-    count_observation(answer == PTPM_OBSERVED);
+    counts[answer == PTPM_OBSERVED ? OBSERVED : NOT_OBSERVED]++;
     if (answer != PTPM_OBSERVED) say_at_times("%s: nothing is observed: %s", options->source, answer_name(answer));
     else if (options->is_verbose) print_line("observed");
-    tell_left(left);
+    for (unsigned i = 0; i < PORTS; i++) {
+        if (left >> i & 1) say_at_times("%s: port %u stays DISABLED", options->source, i + 1);
+    }
 }
 
 void stop_clock(void) {

@@ -3,6 +3,7 @@
 
 #include "options.h"
 #include "ports.h"
+#include <stdbool.h>
 
 /* Starts it with a port for each interface, afresh or as the file of its state has it. Ends the program with status 1, and says
    why, if the library does not start it. */
@@ -18,12 +19,9 @@ void report_twin(void);
 void say_started(void);
 
 /* Takes the datagrams that have come in at a port, or on the Unix socket if there is none. Sends their answers, and what is
-   forwarded, also during a save. What shows a change waits for that to be saved. */
-void take_round(const struct port *port, int socket);
-
-/* The same for datagrams of the device's owner. What they ask is carried out as that of a manager with every right, and waits
-   as theirs does. It is passed on to nobody. */
-void take_owner_round(int socket);
+   forwarded, also during a save. What shows a change waits for that to be saved. What the device's owner asks is carried out as that
+   of a manager with every right, and waits as theirs does. It is passed on to nobody. */
+void take_round(const struct port *port, int socket, bool is_of_owner);
 
 /* The same for datagrams that were sent over UDP to this host by unicast. */
 void take_unicast_round(void);

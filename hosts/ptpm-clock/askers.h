@@ -4,7 +4,7 @@
 
 #include "ethernet.h"
 #include "message_places.h"
-#include "ptp4l_values.h"
+#include "ptp4l.h"
 #include "ptpm.h"
 #include "rounds.h"
 #include <stdbool.h>

@@ -8,7 +8,6 @@
 #include "agent.h"
 #include "counts.h"
 #include "device.h"
-#include "device_program.h"
 #include "monotonic.h"
 #include "netlink.h"
 #include "network_limits.h"
@@ -19,18 +18,19 @@
 #include "privileges.h"
 #include "program.h"
 #include "ptp4l.h"
-#include "ptp4l_socket.h"
 #include "saving.h"
 #include "service.h"
 #include "source.h"
 #include "udp.h"
-#include "unicast.h"
 #include "values.h"
-#include "waking.h"
 #include <errno.h>
+#include <signal.h>
 #include <stdbool.h>
 #include <string.h>
 #include <sys/epoll.h>
+#include <sys/signalfd.h>
+#include <sys/timerfd.h>
+#include <unistd.h>
 
 enum { SECOND = 1000 };
 
@@ -38,6 +38,47 @@ const char program[] = "ptpm-clock";
 
 static struct source observations;
 static int unix_socket = -1, owner_socket = -1, source = -1, signals, links, timer;
+
+/* SIGHUP, SIGINT and SIGTERM ask it to end, and SIGUSR1 for its counts. From now on they end nothing by themselves. One that was ignored
+   when the program began stays so, except SIGUSR1; SIGPIPE is ignored. */
+static void open_signals(void) {
+    static const int ends[] = { SIGHUP, SIGINT, SIGTERM };
+    struct sigaction before;
+    sigset_t held;
+    signal(SIGPIPE, SIG_IGN);
+    sigemptyset(&held);
+    sigaddset(&held, SIGUSR1);
+    for (size_t i = 0; i < sizeof ends / sizeof *ends; i++) {
+        if (sigaction(ends[i], NULL, &before) == 0 && before.sa_handler != SIG_IGN) sigaddset(&held, ends[i]);
+    }
+    sigprocmask(SIG_BLOCK, &held, NULL);
+    signals = signalfd(-1, &held, SFD_NONBLOCK | SFD_CLOEXEC);
+    if (signals < 0) give_up("signalfd");
+}
+
+/* Whether the program goes on. */
+static bool take_signal(void) {
+    struct signalfd_siginfo found;
+    if (read(signals, &found, sizeof found) != (ssize_t)sizeof found) return true;
+    if (found.ssi_signo == SIGUSR1) print_counts();
+    return found.ssi_signo == SIGUSR1;
+}
+
+static int64_t wakes = INT64_MAX;      /* when the timer does, in milliseconds */
+
+/* The program wakes at that time, or earlier, if it was to wake earlier anyway. A time-out for each wait would cost a kernel timer for each
+   datagram. */
+static void wake_at(int64_t time) {
+    struct itimerspec at = { .it_value = { .tv_sec = time / 1000, .tv_nsec = (long)(time % 1000) * 1000000 } };
+    if (wakes <= time) return;
+    if (timerfd_settime(timer, TFD_TIMER_ABSTIME, &at, NULL)) give_up("timerfd_settime");
+    wakes = time;
+}
+
+static void take_time(void) {
+    uint64_t times;
+    if (read(timer, &times, sizeof times) == (ssize_t)sizeof times) wakes = INT64_MAX;
+}
 
 static void observe_all(void) {
     source = read_source(&observations);
@@ -95,27 +136,25 @@ static void wait_at_ports(void) {
 
 /* What has come in there; whether the program goes on. */
 static bool take_event(uint32_t what) {
-    enum asked asked = NOTHING_ASKED;
     switch (what) {
-    case UNIX_SOCKET: take_round(NULL, unix_socket); break;
-    case OWNER_SOCKET: take_owner_round(owner_socket); break;
+    case UNIX_SOCKET: take_round(NULL, unix_socket, false); break;
+    case OWNER_SOCKET: take_round(NULL, owner_socket, true); break;
     case UNICAST: take_unicast_round(); break;
     case SOURCE:
         observe_all();
         wait_at(source, SOURCE);
         break;
     case LIMITS: read_limits(); break;
-    case SIGNALS: asked = read_signal(signals); break;
+    case SIGNALS: return take_signal();
     case LINKS: hear_of_links(); break;
-    case TIMER: read_timer(); break;
+    case TIMER: take_time(); break;
     case SAVED: take_saved(); break;
     case RUNS: hear_program(); break;
     case PTP4L: take_answers(); break;
     default:
-        if (ports[what].socket >= 0) take_round(&ports[what], ports[what].socket);
+        if (ports[what].socket >= 0) take_round(&ports[what], ports[what].socket, false);
     }
-    if (asked == COUNTS_ASKED) print_counts();
-    return asked != END_ASKED;
+    return true;
 }
 
 /* Once a second: what came in at a socket that was at the path for a moment. Then the source and the limits, if they moved, and who
@@ -124,7 +163,7 @@ static void look_around(int64_t now) {
     static int64_t next;
     if (now < next) return;
     next = now + SECOND;
-    for (size_t i = 0; unix_socket >= 0 && i < WAYS_BACK; i++) take_round(NULL, way_back_socket(i));
+    for (size_t i = 0; unix_socket >= 0 && i < WAYS_BACK; i++) take_round(NULL, way_back_socket(i), false);
     if (source >= 0 && follow_source(&observations)) observe_all();
     follow_limits();
     renew_unicast();
@@ -139,7 +178,7 @@ static void run(int64_t end) {
     wait_at_all();
     say_started();
     say_deaf_ports();
-    report_ready();
+    report_state("READY=1");
     while (is_going_on) {
         int64_t now = milliseconds();
         if (end != 0 && now >= end) return;
@@ -159,11 +198,12 @@ static void run(int64_t end) {
 }
 
 static void open_all(void) {
-    signals = open_signals();
+    open_signals();
     transport = options->transport;
     if (options->ptp4l != NULL && transport != ETHERNET && options->diverted_port != GENERAL_PORT) diverted_port = options->diverted_port;
     links = open_netlink();
-    timer = open_timer();
+    timer = timerfd_create(CLOCK_MONOTONIC, TFD_NONBLOCK | TFD_CLOEXEC);
+    if (timer < 0) give_up("timerfd_create");
     for (size_t i = 0; i < options->interface_count; i++) open_port(options->interfaces[i]);
     open_unicast();
     if (options->meeting.path != NULL) unix_socket = open_peers(&options->meeting);
@@ -185,7 +225,7 @@ static void say_user(const char *what, const char *why) {
 }
 
 static void end_in_order(void) {
-    report_stopping();
+    report_state("STOPPING=1");
     close_device_program();
     stop_clock();
     close_ports();
@@ -204,7 +244,7 @@ int main(int argc, char **argv) {
     report_twin();
     let_go_of_rights(&options->privileges, needs());
     end_otherwise(2, say_user);
-    if (options->source != NULL) source = open_source(&observations, options->source);
+    if (options->source != NULL) source = open_source(&observations, options->source, true);
     start_device();
     check_device_program();
     start_limits();

@@ -1,11 +1,10 @@
 #include "device.h"
-#include "device_limits.h"
-#include "device_program.h"
+#include "counts.h"
 #include "ethernet.h"
 #include "message_places.h"
 #include "names.h"
 #include "output.h"
-#include "ptp4l_change.h"
+#include "ptp4l.h"
 #include "source.h"
 #include <stdlib.h>
 #include <string.h>
@@ -14,7 +13,6 @@ bool has_device;
 
 static struct source source;
 static struct device_limits rooms[2], *limits = &rooms[0];
-static struct device_counts counts;
 
 /* Changes that wait. The program is asked about the first, which is then decided and taken. A manager has one of them at most. */
 static struct { struct heard heard; uint8_t octets[MOST_HEARD], station[STATION]; } waiting[MANAGERS];
@@ -35,7 +33,7 @@ static enum file_says take_limits(void) {
     read_source(&source);
     bool is_empty = is_empty_file(&source), has_text = next_text(&source, &text);
     if (!has_text && !is_empty) return SAYS_NOTHING;
-    if (!read_device_limits(other, clock_ports(), source.path, text)) return IS_WRONG;
+    if (!read_device_limits(other, source.path, text)) return IS_WRONG;
     limits = other;
     return SAYS_LIMITS;
 }
@@ -43,7 +41,7 @@ static enum file_says take_limits(void) {
 void start_device(void) {
     has_device = options->limits_file != NULL || has_program();
     if (options->limits_file == NULL) return;
-    open_file_source(&source, options->limits_file);
+    open_source(&source, options->limits_file, false);
     if (take_limits() != SAYS_LIMITS) exit(2);
 }
 
@@ -66,7 +64,7 @@ void follow_limits(void) {
 static void object(struct ptpm_say *say, uint16_t error) {
     say->kind = PTPM_OBJECTS;
     say->error = error;
-    counts.objected++;
+    counts[OBJECTED]++;
 }
 
 const struct ptpm_say *objection_of_limits(const struct ptpm_question *asked) {
@@ -83,7 +81,7 @@ bool is_passed_over(const struct heard *heard) {
     for (size_t i = 0; i < count; i++) {
         const uint8_t *octets = waiting[(first + i) % MANAGERS].heard.octets;
         if (memcmp(octets + SOURCE_AT, heard->octets + SOURCE_AT, SEQUENCE_AT - SOURCE_AT) != 0) continue;
-        counts.passed_over++;
+        counts[NOT_TAKEN_MEANWHILE]++;
         return true;
     }
     return false;
@@ -91,7 +89,7 @@ bool is_passed_over(const struct heard *heard) {
 
 void wait_for_program(const struct heard *change) {
     if (count == MANAGERS) {            /* the first is of an earlier run */
-        counts.passed_over++;
+        counts[NOT_TAKEN_MEANWHILE]++;
         return;
     }
     size_t place = (first + count++) % MANAGERS;
@@ -132,13 +130,13 @@ static const char *asked_program(void) { return options->ptp4l != NULL ? options
 /* It said nothing, so the change counts as lost, and its manager sends it again. */
 static void drop_change(const char *why) {
     say_at_times("%s %s, and the change counts as lost", asked_program(), why);
-    counts.silent++;
+    counts[SILENT]++;
     let_go_of_change();
 }
 
 static void agree(void) {
     static const struct ptpm_say agreement = { .kind = PTPM_AGREES };
-    counts.agreed++;
+    counts[AGREED]++;
     decide_change(&agreement);
 }
 
@@ -166,7 +164,7 @@ void ask_program(const struct ptpm_question *asked) {
     else if (options->state == NULL) drop_change("could not be asked");
     else {
         say_at_times("%s could not be asked: GENERAL_ERROR", asked_program());
-        counts.silent++;
+        counts[SILENT]++;
         refuse(PTPM_ERROR_GENERAL_ERROR);
     }
 }
@@ -220,7 +218,7 @@ static void take_silence(const char *why) {
         return;
     }
     say_at_times("%s %s, and is asked whether the device has the change", options->device_program, why);
-    counts.silent++;
+    counts[SILENT]++;
     look();
 }
 
@@ -245,5 +243,3 @@ struct heard *take_change(const struct ptpm_say **say) {
     let_go_of_change();
     return change;
 }
-
-const struct device_counts *device_counts_so_far(void) { return &counts; }

@@ -7,6 +7,7 @@
 #include "ptpm.h"
 #include "rounds.h"
 #include <stdbool.h>
+#include <stddef.h>
 
 /* Whether a device is asked at all. Each turn at a manager's request looks at it, so it is not a call. */
 extern bool has_device;
@@ -65,7 +66,49 @@ void hear_program(void);
    waits. NULL if none is decided. */
 struct heard *take_change(const struct ptpm_say **say);
 
-/* How often the program agreed; how often it or the limits objected; how often it said nothing; what was dropped meanwhile. */
-struct device_counts { unsigned long long agreed, objected, silent, passed_over; };
+/* What a text says of the values that the hardware has, as limits for ptpm_limits_say. It has a line for each id at all ports, and
+   for each id at one port. */
 
-const struct device_counts *device_counts_so_far(void);
+/* As many as there are ids of the profile, for all ports together and for each. */
+enum { MOST_LIMITS = 32 * (1 + PTPM_MOST_PORTS) };
+
+struct device_limits {
+    struct ptpm_limit all[MOST_LIMITS];
+    int lines[MOST_LIMITS];             /* which line each is of */
+    size_t count;
+};
+
+/* Reads them from lines, the text's own: `ID VALUE..`, or `port PORT ID VALUE..` for one port. A VALUE is one of the id as
+   ptpm-manage takes it, or a range of numbers such as -4..1. Only `never` is for an id that is not set, or a command that is not
+   carried out. An empty line and one that begins with # say nothing. Whether every line is right, and there is a limit. If not,
+   each wrong line is said on standard error, after `name` and its number. */
+bool read_device_limits(struct device_limits *limits, const char *name, char *text);
+
+/* The program of the device (--ask PROGRAM), which is asked for each change. A process beside the clock starts it, one run after
+   another. That process is made before the clock has any socket, file or filter of system calls. So a run inherits none of these,
+   and may make other calls than the clock. */
+
+/* What became of a run. It exited with a status, a signal ended it, or its time was up. Or it could not be started, as an errno
+   says. Before that it has begun, with the number of its process. */
+enum run_end { RUN_EXITED, RUN_KILLED, RUN_TOOK_TOO_LONG, RUN_NOT_STARTED, RUN_BEGUN };
+
+struct run { enum run_end end; int number; };
+
+/* Makes the process, which becomes the user of the clock and keeps no capability. A run takes the seconds of --ask-time at most. Ends the program
+   with status 2 if that can't be had. Comes before anything is opened. */
+void open_device_program(void);
+
+/* Sees that the program is there, with the rights that the clock keeps. If not, ends the clock with status 2. */
+void check_device_program(void);
+
+/* What is to be polled: it can be read once a run has ended. -1 if there is no program. */
+int device_program_event(void);
+
+/* Starts a run about a change, or one that looks whether the device has it; whether it could. */
+bool start_run(const struct ptpm_question *asked, bool is_look);
+
+/* How a run has ended; whether one has. Ends the clock with status 2 if the process beside it is gone. */
+bool end_run(struct run *run);
+
+/* Ends the run that is under way, if there is one, and the process. */
+void close_device_program(void);

@@ -1,4 +1,4 @@
-#include "device_limits.h"
+#include "device.h"
 #include "message_places.h"
 #include "names.h"
 #include "output.h"
@@ -13,7 +13,6 @@ struct reading {
     const char *name;
     int line;
     bool is_wrong;
-    size_t port_count;
     char *rest;                         /* the words that are left */
 };
 
@@ -105,10 +104,10 @@ static const char *read_port(struct reading *reading, const char *word, uint16_t
         fault(reading, "it takes port PORT ID VALUE..");
         return NULL;
     }
-    long found = decimal(number, (long)reading->port_count);
+    long found = decimal(number, (long)clock_ports());
     *port = (uint16_t)found;
     if (found >= 1) return id;
-    fault(reading, "port %s: it takes a number from 1 to %zu, of a port of the clock", number, reading->port_count);
+    fault(reading, "port %s: it takes a number from 1 to %zu, of a port of the clock", number, clock_ports());
     return NULL;
 }
 
@@ -136,8 +135,8 @@ static void read_line(struct reading *reading, struct device_limits *limits, cha
     limits->count++;
 }
 
-bool read_device_limits(struct device_limits *limits, size_t port_count, const char *name, char *text) {
-    struct reading reading = { .name = name, .port_count = port_count };
+bool read_device_limits(struct device_limits *limits, const char *name, char *text) {
+    struct reading reading = { .name = name };
     limits->count = 0;
     for (char *line; (line = strsep(&text, "\n")) != NULL && limits->count < MOST_LIMITS;) {
         reading.line++;

@@ -1,4 +1,4 @@
-#include "device_program.h"
+#include "device.h"
 #include "field_text.h"
 #include "message_places.h"
 #include "names.h"

@@ -1,11 +1,11 @@
 #include "network_limits.h"
+#include "counts.h"
 #include "message_places.h"
 #include "monotonic.h"
 #include "netlink.h"
 #include "options.h"
 #include "output.h"
 #include "program.h"
-#include "route.h"
 #include <errno.h>
 #include <string.h>
 #include <sys/random.h>
@@ -28,7 +28,6 @@ struct shares {
     uint64_t own;                   /* tokens of an address a second */
 };
 
-static struct kept_back kept_back;
 static struct ptpm_passed_on passed_on;
 static struct shares copies[PORTS], answers[PORTS], requests[PORTS];
 
@@ -99,7 +98,7 @@ bool admit_datagram(const struct heard *heard) {
     bool is_near = !options->limits.is_near || !heard->is_unicast || heard->own.ttl == FULL_TTL;
     bool is_of_link = !heard->is_passed_on && is_on_link(heard->port->index, &heard->sender.any);
     if (is_near && (options->limits.is_any_source || is_of_link)) return true;
-    kept_back.strangers++;
+    counts[NOT_ON_LINK]++;
     return false;
 }
 
@@ -110,8 +109,9 @@ void lower_hops(struct heard *heard) {
     heard->octets[STARTING_HOPS_AT] = starting > less ? (uint8_t)(starting - less) : 0;
 }
 
-bool is_of_manager(const struct heard *heard, const uint8_t own[8]) {
-    if (heard->size < LEAST_MESSAGE || memcmp(heard->octets + TARGET_AT, own, 8) != 0) return false;
+bool is_of_manager(const struct heard *heard) {
+    const uint8_t *own = options->settings.identity;
+    if (heard->size < LEAST_MESSAGE || memcmp(heard->octets + TARGET_AT, own, CLOCK_IDENTITY) != 0) return false;
     const uint8_t *source = heard->octets + SOURCE_AT;
     uint16_t port = number_at(heard->octets + SOURCE_PORT_AT);
     for (size_t i = 0; i < options->manager_count; i++) {
@@ -123,18 +123,16 @@ bool is_of_manager(const struct heard *heard, const uint8_t own[8]) {
 
 bool admit_manager(const struct heard *heard) {
     if (heard->port == NULL || take_share(&requests[ingress_of(heard) - 1], heard, time_now())) return true;
-    kept_back.managers++;
+    counts[OVER_RATE_OF_MANAGERS]++;
     return false;
 }
-
-void count_manager_dropped(void) { kept_back.managers++; }
 
 /* Whether a message is to be forwarded at all. It is asked once for each, since it is recorded. */
 static bool admit_copies(const struct heard *heard, uint64_t now) {
     if (!options->limits.is_passed_on || options->limits.hops == 0) return false;
     if (heard->port == NULL && (heard->is_of_owner || !options->limits.is_passed_on_from_host)) return false;
     if (ptpm_passed_on_is_first(&passed_on, heard->octets, heard->size, now, NOTED)) return true;
-    kept_back.again++;
+    counts[NOT_PASSED_ON_AGAIN]++;
     return false;
 }
 
@@ -142,12 +140,12 @@ static bool admit_copies(const struct heard *heard, uint64_t now) {
 static bool admit_answer(const struct heard *heard, uint32_t answer, uint64_t now) {
     if (heard->port == NULL || answer != PTPM_ANSWERED_UNNUMBERED || heard->share == HAS_SHARE) return true;
     if (heard->share == NO_SHARE_ASKED && take_share(&answers[ingress_of(heard) - 1], heard, now)) return true;
-    kept_back.unanswered++;
+    counts[OVER_RATE_ANSWERED]++;
     return false;
 }
 
-bool admit_answer_ahead(struct heard *heard, const uint8_t own[8]) {
-    if (heard->port == NULL || is_of_manager(heard, own)) return true;
+bool admit_answer_ahead(struct heard *heard) {
+    if (heard->port == NULL || is_of_manager(heard)) return true;
     bool is_admitted = take_share(&answers[ingress_of(heard) - 1], heard, time_now());
     if (heard->share != HAS_SHARE) heard->share = is_admitted ? HAS_SHARE : OVER_RATE;
     return is_admitted;
@@ -168,9 +166,7 @@ size_t keep_back(const struct heard *heard, uint32_t answer, const struct ptpm_s
         is_asked = true;
         if (!is_going_on) continue;
         if (take_share(&copies[sent[i].port - 1], heard, now)) kept[left++] = &sent[i];
-        else kept_back.over_rate++;
+        else counts[OVER_RATE_PASSED_ON]++;
     }
     return left;
 }
-
-const struct kept_back *kept_back_so_far(void) { return &kept_back; }

@@ -18,9 +18,6 @@ struct limits {
     bool is_near;                       /* of unicast only what no router has passed on (RFC 5082) */
 };
 
-/* What was kept back since the start. */
-struct kept_back { unsigned long long strangers, again, over_rate, unanswered, managers; };
-
 void start_limits(void);
 
 /* Says at which interfaces nobody is heard, since they have no address whose network a sender could be in. */
@@ -31,16 +28,13 @@ bool admit_datagram(const struct heard *heard);
 
 /* Whether it is from a manager and only for this clock, so that it may be answered as a numbered request, and be saved. Nobody can
    know who sent it. */
-bool is_of_manager(const struct heard *heard, const uint8_t own[8]);
+bool is_of_manager(const struct heard *heard);
 
 /* Whether such a datagram is taken: its sender has not sent too many, or is a program of this host. One that is not is counted. */
 bool admit_manager(const struct heard *heard);
 
 /* Whether the answer to a GET is within the rate, before its value is read. Then it is not asked again. */
-bool admit_answer_ahead(struct heard *heard, const uint8_t own[8]);
-
-/* Counts one that finds no room, or is a copy of one that waits. */
-void count_manager_dropped(void);
+bool admit_answer_ahead(struct heard *heard);
 
 /* Lowers boundaryHops (octet 45) to the limit, and startingBoundaryHops (octet 44) by the same amount. So an answer has as many
    hops as it would have otherwise (15.4.1), and what is forwarded has fewer. */
@@ -50,5 +44,3 @@ void lower_hops(struct heard *heard);
    others forward it. Keeps them in their order at the head of the places; how many there are. */
 size_t keep_back(const struct heard *heard, uint32_t answer, const struct ptpm_sent *sent, size_t count,
                  const struct ptpm_sent *kept[TURN]);
-
-const struct kept_back *kept_back_so_far(void);

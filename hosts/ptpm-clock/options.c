@@ -3,7 +3,7 @@
 #include "monotonic.h"
 #include "names.h"
 #include "output.h"
-#include "ptp4l_mute.h"
+#include "ptp4l.h"
 #include "udp.h"
 #include "words.h"
 #include <getopt.h>
@@ -105,11 +105,6 @@ static const char help_end[] =
     "SIGTERM ends it; at its end, and at SIGUSR1, it prints how often each answer was given.\n"
     "Exit status: 0 it ended cleanly; 1 the clock does not start; 2 a wrong option, or a socket or file can't be opened.\n";
 
-_Noreturn static void usage(void) {
-    fputs("ptpm-clock: see ptpm-clock --help\n", stderr);
-    exit(2);
-}
-
 __attribute__((format(printf, 1, 2))) _Noreturn static void refuse_command_line(const char *format, ...) {
     va_list values;
     fputs("ptpm-clock: ", stderr);
@@ -149,10 +144,6 @@ static bool find_user(struct privileges *privileges, const char *name) {
     privileges->user = found->pw_uid;
     privileges->group = found->pw_gid;
     return true;
-}
-
-static void take_user(struct privileges *privileges) {
-    if (!find_user(privileges, optarg)) refuse_command_line("--user %s: there is no such user", optarg);
 }
 
 /* Root stays root only if it is named. The Unix socket stays in root's group, so that what root asks there can be answered. */
@@ -280,7 +271,9 @@ static void take_limit(int option) {
     case TRANSIT: given.limits.is_passed_on_unread = true; break;
     case ANY_SOURCE: given.limits.is_any_source = true; break;
     case TTL_SECURITY: given.limits.is_near = true; break;
-    case USER: take_user(&given.privileges); break;
+    case USER:
+        if (!find_user(&given.privileges, optarg)) refuse_command_line("--user %s: there is no such user", optarg);
+        break;
     case UNIX_GROUP: given.meeting.group = group_named(); break;
     case UNIX_MODE: given.meeting.mode = mode(); break;
     case OWNER: given.owner = socket_path("--owner"); break;
@@ -292,7 +285,9 @@ static void take_limit(int option) {
     case DIVERTED: given.diverted_port = port_diverted_to(); break;
     case PTP4L_RULES: given.is_asked_for_rules = true; break;
     case ASK_TIME: given.device_seconds = number("--ask-time", 1, MOST_ASK_TIME); break;
-    default: usage();
+    default:
+        fputs("ptpm-clock: see ptpm-clock --help\n", stderr);
+        exit(2);
     }
 }
 

@@ -1,4 +1,5 @@
 #include "peers.h"
+#include "counts.h"
 #include "monotonic.h"
 #include "program.h"
 #include "socket_option.h"
@@ -137,7 +138,7 @@ static bool keep(int from, const struct ptpm_sent *message, const struct heard *
     return true;
 }
 
-long answer_again(unsigned long *dropped) {
+long answer_again(void) {
     while (kept.count > 0) {
         const struct ptpm_sent *message = &kept.messages[kept.first];
         if (sendto(kept.socket, message->octets, message->size, MSG_DONTWAIT, &kept.peer.any, kept.size) >= 0) {
@@ -145,7 +146,7 @@ long answer_again(unsigned long *dropped) {
         } else if (errno == EAGAIN && milliseconds() < kept.end) {
             return PAUSE;
         } else {
-            *dropped += kept.count;
+            counts[DROPPED] += kept.count;
             kept.count = 1;
         }
         kept.first++;

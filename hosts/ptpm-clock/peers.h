@@ -30,6 +30,6 @@ bool answer_peer(const struct ptpm_sent *message, const struct heard *answered);
 
 /* Sends what is kept as far as there is room. All of it is dropped if its peer has read nothing for a while, and then counted. In how many
    milliseconds it is to be called again; -1 if nothing is kept. */
-long answer_again(unsigned long *dropped);
+long answer_again(void);
 
 void close_peers(void);

@@ -2,10 +2,6 @@
 #include "message_places.h"
 #include "monotonic.h"
 #include "output.h"
-#include "ptp4l_change.h"
-#include "ptp4l_mute.h"
-#include "ptp4l_socket.h"
-#include "ptp4l_values.h"
 #include "words.h"
 #include <errno.h>
 #include <stdlib.h>
@@ -109,7 +105,7 @@ enum found find_ptp4l(void) {
     verdict = judge_clock();
     if (verdict == IS_OURS) verdict = judge_ports();
     if (verdict == IS_OURS) compare_transports();
-    tell(&is_told_silent, verdict == IS_SILENT, "the ptp4l does not answer: ", "is -d its domainNumber?");
+    tell(&is_told_silent, verdict == IS_SILENT, "the ptp4l does not answer: ", "is -d its domainNumber, and its transportSpecific 0?");
     if (verdict == IS_OURS && is_told_other) say("%s: the ptp4l of this clock is there now", options->ptp4l);
     is_told_other = verdict == IS_ANOTHER_CLOCK || verdict == HAS_OTHER_PORTS || (is_told_other && verdict == IS_SILENT);
     return verdict;

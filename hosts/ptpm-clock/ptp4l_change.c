@@ -1,10 +1,8 @@
-#include "ptp4l_change.h"
+#include "ptp4l.h"
 #include "device.h"
 #include "message_places.h"
 #include "monotonic.h"
 #include "output.h"
-#include "ptp4l.h"
-#include "ptp4l_mute.h"
 #include <poll.h>
 #include <signal.h>
 #include <stdlib.h>

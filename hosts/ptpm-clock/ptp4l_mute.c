@@ -1,9 +1,7 @@
-#include "ptp4l_mute.h"
+#include "ptp4l.h"
 #include "message_places.h"
 #include "monotonic.h"
 #include "output.h"
-#include "ptp4l.h"
-#include "ptp4l_socket.h"
 #include "socket_option.h"
 #include "udp.h"
 #include <stdio.h>
@@ -57,13 +55,6 @@ static bool read_all_counts(uint64_t heard[PORTS]) {
     return false;
 }
 
-/* Which port has heard something since its count was read; how many ports there are if none has. */
-static size_t port_that_heard(const uint64_t now[PORTS]) {
-    size_t port = 0;
-    while (port < clock_ports() && now[port] == counts[port]) port++;
-    return port;
-}
-
 static const char *advice(void) {
     return diverted_port != 0 ? "nft list table inet ptpm shows whether they are diverted"
            : transport == ETHERNET ? "it was started without libptpm_mute.so" : "network_management of its configuration is not 0";
@@ -76,7 +67,8 @@ static enum compared compare_counts(void) {
     uint64_t now[PORTS], all;
     bool is_read = diverted_port == 0 ? read_all_counts(now) : read_counts(now, &all);
     if (!is_read || ptp4l_life() != probed_life) return NOT_KNOWN;
-    size_t port = port_that_heard(now);
+    size_t port = 0;
+    while (port < clock_ports() && now[port] == counts[port]) port++;
     if (diverted_port != 0) memcpy(counts, now, sizeof counts);
     if (port == clock_ports()) return ARE_SAME;
     if (!is_told) say("the ptp4l still hears management messages at %s, and no change is taken: %s", options->interfaces[port], advice());

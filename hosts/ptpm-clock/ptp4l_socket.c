@@ -1,4 +1,4 @@
-#include "ptp4l_socket.h"
+#include "ptp4l.h"
 #include "message_places.h"
 #include "monotonic.h"
 #include "ptpm.h"

@@ -1,10 +1,8 @@
-#include "ptp4l_values.h"
+#include "ptp4l.h"
 #include "message_places.h"
 #include "monotonic.h"
 #include "names.h"
 #include "network_limits.h"
-#include "ptp4l.h"
-#include "ptp4l_socket.h"
 #include <string.h>
 
 /* Questions a second for others than managers, who have a rate of their own. */
@@ -82,8 +80,8 @@ static bool ask_value(size_t place, uint16_t port) {
 
 static bool admit_question(struct heard *heard) {
     static struct ptpm_rate rate;
-    if (!admit_answer_ahead(heard, options->settings.identity)) return false;
-    if (is_of_manager(heard, options->settings.identity)) return true;
+    if (!admit_answer_ahead(heard)) return false;
+    if (is_of_manager(heard)) return true;
     if (rate.rate == 0) ptpm_rate_start(&rate, QUESTIONS, (uint64_t)milliseconds());
     return ptpm_rate_take(&rate, (uint64_t)milliseconds());
 }

@@ -1,5 +1,5 @@
 /* Datagrams in rounds: what has come in at a socket by now, up to 64 at once, and what goes out after a round. Nothing waits for a
-   round to be full. */
+   round to be full. They come in at the ports, and by unicast at UDP port 320 of this host, or at the port to which all is diverted. */
 #pragma once
 
 #include "ports.h"
@@ -45,9 +45,20 @@ static inline uint16_t ingress_of(const struct heard *heard) { return heard->por
    until the next round. */
 size_t hear_round(const struct port *port, int socket, size_t most, struct heard heard[ROUND]);
 
-/* The same at a socket of what is sent to this host by unicast, or of all that is diverted. It may hear copies of the first, whose packets
-   are heard at another one (general_port.h). What comes in at no interface of a port is left out. */
-size_t hear_host(int socket, bool is_copied, int packets, struct heard heard[ROUND]);
+/* Opens what hears unicast: copies of it if the program may, and otherwise the port itself, if nobody else has it. Comes after the ports
+   are open and before rights are dropped. */
+void open_unicast(void);
+
+/* Once a second: takes the port if nobody else has it any more, and says at which interface another program has it by now. */
+void renew_unicast(void);
+
+/* What is polled; -1 if nothing is heard. */
+int unicast_socket(void);
+
+/* Takes what has come in there, as hear_round does. What comes in at no interface of a port is left out. */
+size_t hear_unicast(struct heard heard[ROUND]);
+
+void close_unicast(void);
 
 /* The places of a turn's messages, TURN of them. NULL if there are fewer: then what is to go out has to be sent first. */
 struct ptpm_sent *places_to_send(void);

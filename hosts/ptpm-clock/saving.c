@@ -1,5 +1,6 @@
 #include "saving.h"
 #include "askers.h"
+#include "counts.h"
 #include "kept_file.h"
 #include "monotonic.h"
 #include "names.h"
@@ -36,7 +37,6 @@ static unsigned long begun;         /* when that was begun, in microseconds */
 static uint64_t token;              /* of the clock's image in it */
 static int64_t next_save;           /* when one may begin, in milliseconds */
 bool is_saving, is_failing;
-static struct saves saves;
 
 /* A thread replaces the file, so that nobody else waits for the disk. The file, its octets and what became of it are the thread's from
    `asked` to `done`. The event can be read from then on. */
@@ -188,10 +188,12 @@ bool restore_clock(struct ptpm_clock *clock) {
 static unsigned long microseconds(void) { return (unsigned long)(nanoseconds() / 1000); }
 
 static void count_save(size_t size, unsigned long time) {
-    saves.made++;
-    saves.all += time;
-    if (saves.made == 1 || time < saves.least) saves.least = time;
-    if (time > saves.most) saves.most = time;
+    static unsigned long long all;
+    all += time;
+    counts[SAVES]++;
+    counts[MEAN_SAVE] = all / counts[SAVES];
+    if (counts[SAVES] == 1 || time < counts[LEAST_SAVE]) counts[LEAST_SAVE] = time;
+    if (time > counts[MOST_SAVE]) counts[MOST_SAVE] = time;
     if (options->is_verbose) print_line("saved: %zu octets in %lu us", size, time);
 }
 
@@ -216,7 +218,7 @@ static enum ptpm_saved succeed(struct ptpm_clock *clock) {
 
 /* A save was not made, or nobody knows. What waited goes on waiting, for the next one. */
 static enum ptpm_saved fail(void) {
-    saves.failed++;
+    counts[SAVES_FAILED]++;
     is_failing = true;
     next_save = milliseconds() + SECOND;
     const char *why = errno == ENOENT ? "its folder is missing" : errno == EAGAIN ? "another clock has it" : strerror(errno);
@@ -299,5 +301,3 @@ enum ptpm_saved end_save(struct ptpm_clock *clock) {
     if (became == IN_DOUBT) saves_of_file++;
     return fail();
 }
-
-const struct saves *saves_so_far(void) { return &saves; }

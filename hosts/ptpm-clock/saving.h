@@ -36,8 +36,3 @@ long until_save(void);
 /* Whether a save may be made now for requests at a port. There may be a fifth as many saves a second as requests of managers, and
    as many at once. So only a part of the time is spent waiting for the disk. */
 bool may_save(void);
-
-/* Saves that were made and that failed, and how many microseconds those that were made took. */
-struct saves { unsigned long long made, failed, least, most, all; };
-
-const struct saves *saves_so_far(void);

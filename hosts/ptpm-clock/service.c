@@ -25,19 +25,15 @@ void open_service(void) {
     if (time > 0 && (process == NULL || decimal(process, INT_MAX) == getpid())) every = time / 2000 > 0 ? time / 2000 : 1;
 }
 
-static void say_state(const char *state) {
+void report_state(const char *state) {
     if (service_socket < 0) return;
     sendto(service_socket, state, strlen(state), MSG_DONTWAIT | MSG_NOSIGNAL, (const struct sockaddr *)&service_manager, size);
 }
 
-void report_ready(void) { say_state("READY=1"); }
-
-void report_stopping(void) { say_state("STOPPING=1"); }
-
 void report_alive(int64_t now) {
     if (every == 0 || now < next) return;
     next = now + every;
-    say_state("WATCHDOG=1");
+    report_state("WATCHDOG=1");
 }
 
 int64_t until_alive(int64_t now, int64_t most) {

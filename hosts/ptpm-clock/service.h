@@ -7,13 +7,11 @@
 /* Finds out to whom it is reported, and how often; to nobody if no one asks for it. Comes before rights are dropped. */
 void open_service(void);
 
-/* Reports that its sockets are open. */
-void report_ready(void);
+/* Reports a state: READY=1 once its sockets are open, STOPPING=1 at the end. */
+void report_state(const char *state);
 
 /* Reports that it is still running, when half of the time has passed in which it has to. */
 void report_alive(int64_t now);
-
-void report_stopping(void);
 
 /* In how many milliseconds it has to be reported again that the program is still running, at most `most`. */
 int64_t until_alive(int64_t now, int64_t most);

@@ -51,42 +51,24 @@ static void watch_folders(struct source *source) {
     if (realpath(source->path, target) != NULL) watch_folder(source->polled, &source->of_target, &source->of_path, target);
 }
 
-_Noreturn static void refuse(const struct source *source, const char *what) {
-    complain(source, what);
-    exit(2);
-}
-
-/* Opens it as whatever it is; what that is. */
-static mode_t start_source(struct source *source, const char *path) {
+int open_source(struct source *source, const char *path, bool may_be_pipe) {
     struct stat found;
     source->path = path;
     source->is_first = true;
     source->of_path.number = source->of_target.number = -1;
     source->polled = open_to_read(path, &found);
     if (source->polled < 0) give_up(path);
-    source->is_pipe = S_ISFIFO(found.st_mode);
-    return found.st_mode;
-}
-
-/* Polls a file that can be read for its changes. */
-static int watch_file(struct source *source) {
+    source->is_pipe = may_be_pipe && S_ISFIFO(found.st_mode);
+    if (source->is_pipe) return source->polled;
+    if (!S_ISREG(found.st_mode)) {
+        complain(source, may_be_pipe ? "it is neither a file nor a pipe" : "it is not a regular file");
+        exit(2);
+    }
     close(source->polled);
     source->polled = inotify_init1(IN_NONBLOCK | IN_CLOEXEC);
     if (source->polled >= 0) watch_folders(source);
-    if (source->polled < 0 || source->of_path.number < 0) give_up(source->path);
+    if (source->polled < 0 || source->of_path.number < 0) give_up(path);
     return source->polled;
-}
-
-int open_source(struct source *source, const char *path) {
-    mode_t mode = start_source(source, path);
-    if (source->is_pipe) return source->polled;
-    if (!S_ISREG(mode)) refuse(source, "it is neither a file nor a pipe");
-    return watch_file(source);
-}
-
-int open_file_source(struct source *source, const char *path) {
-    if (!S_ISREG(start_source(source, path))) refuse(source, "it is not a regular file");
-    return watch_file(source);
 }
 
 static bool is_of(const struct watch *watch, const struct inotify_event *event) {
@@ -205,13 +187,6 @@ static bool let_go_text(struct source *source) {
     return is_rest || (source->is_pipe && source->held[source->first] == '\n');
 }
 
-/* More of it than there is room for, and no end. */
-static void let_go_all(struct source *source) {
-    complain(source, "what came in at once has over 65,535 octets");
-    source->size = source->searched = 0;
-    source->is_too_long = true;
-}
-
 /* Drops the latest text. */
 static void go_behind(struct source *source) {
     source->first += source->taken;
@@ -231,6 +206,10 @@ bool next_text(struct source *source, char **text) {
         return true;
     }
     if (source->is_ended) source->is_ended = source->is_too_long = false;
-    if (source->size == SOURCE_ROOM) let_go_all(source);
+    if (source->size == SOURCE_ROOM) {                      /* more of it than there is room for, and no end */
+        complain(source, "what came in at once has over 65,535 octets");
+        source->size = source->searched = 0;
+        source->is_too_long = true;
+    }
     return false;
 }

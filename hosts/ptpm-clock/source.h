@@ -30,11 +30,9 @@ struct source {
    they can't read. */
 int open_to_read(const char *path, struct stat *found);
 
-/* Opens it, and returns what is to be polled. Ends the program with status 2 if there is no such file or pipe. */
-int open_source(struct source *source, const char *path);
-
-/* The same for a file. A pipe ends the program too. */
-int open_file_source(struct source *source, const char *path);
+/* Opens it, and returns what is to be polled: changes of a file that can be read, or a pipe, if it may be one. Ends the program with
+   status 2 if it is neither. */
+int open_source(struct source *source, const char *path, bool may_be_pipe);
 
 /* Watches what leads to it by now: a folder may have been made again, and a link may lead elsewhere. Whether it is another file than
    the one that was read, and so is to be read although nothing was polled. */

@@ -62,7 +62,7 @@ static const char *read_value(const char *path, struct ptpm_say *say) {
 }
 
 /* Whether the answer is kept, for a manager or since the owner asks like one. Then there is one, also to a GET of every port. */
-static bool is_kept(const struct heard *heard) { return heard->is_of_owner || is_of_manager(heard, options->settings.identity); }
+static bool is_kept(const struct heard *heard) { return heard->is_of_owner || is_of_manager(heard); }
 
 /* Reads the value at this place; whether the device gives it. */
 static bool give(size_t place) {
@@ -82,7 +82,7 @@ const struct ptpm_say *value_to_give(const struct ptpm_clock *clock, struct hear
         if (!is_asked(heard, value)) continue;
         if (ptpm_clock_ask(clock, ingress_of(heard), heard->octets, heard->size, &asked) != PTPM_ASKED_VALUE) return NULL;
         if (value->port != 0 && asked.port == EVERY_PORT && is_kept(heard) && value->port != ingress_of(heard)) continue;
-        if (!admit_answer_ahead(heard, options->settings.identity)) break;
+        if (!admit_answer_ahead(heard)) break;
         said_count += give(place);
     }
     return said_count > 0 ? &said[0].say : NULL;

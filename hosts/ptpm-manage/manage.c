@@ -4,16 +4,13 @@
    What is here and in the files below it is not proved. It reads words, moves octets, measures time and prints. It chooses the
    number of a session's first request, and when a request goes out again. It judges which answers of a site are copies of others.
    docs/architecture.md has more of that ("Decisions of the hosts"). */
-#include "apply.h"
-#include "asking.h"
-#include "collect.h"
 #include "in_session.h"
 #include "notices.h"
 #include "program.h"
 #include "random.h"
-#include "status.h"
 #include "stopping.h"
 #include "transport.h"
+#include "verbs.h"
 #include <errno.h>
 #include <stdbool.h>
 #include <stdio.h>

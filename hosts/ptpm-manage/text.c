@@ -4,6 +4,13 @@
 #include <stdbool.h>
 #include <string.h>
 
+const char *utc_text(const char *format, time_t time) {
+    static char text[sizeof "2026-01-01T00:00:00Z"];
+    struct tm parts;
+    bool is_time = gmtime_r(&time, &parts) != NULL && strftime(text, sizeof text, format, &parts) > 0;
+    return is_time ? text : "";
+}
+
 /* How many octets the character at the head has, and its number; 0 if there is no well-formed one (RFC 3629). */
 static size_t character(const uint8_t *octets, size_t size, uint32_t *number) {
     static const uint32_t least[] = { 0, 0, 0x80, 0x800, 0x10000 };
@@ -54,34 +61,35 @@ static bool is_plain_character(const uint8_t *octets, size_t count, uint32_t num
     return count > 0 && is_shown(number) && (reads_utf8() || !has_control(octets, count));
 }
 
-static void print_character(FILE *to, const uint8_t *octets, size_t count, bool is_plain) {
-    for (size_t i = 0; i < count; i++) {
-        if (is_plain) putc(octets[i], to);
-        else fprintf(to, "\\x%02x", octets[i]);
-    }
-}
+/* Prints one character, with this number. It has `count` octets, 0 if it is none. */
+typedef void printing(FILE *to, const uint8_t *octets, size_t count, uint32_t number);
 
-void print_text(FILE *to, const uint8_t *octets, size_t size) {
-    for (size_t i = 0; i < size;) {
+static void print_each(FILE *to, const uint8_t *octets, size_t size, printing *print) {
+    for (size_t i = 0, count; i < size; i += count > 0 ? count : 1) {
         uint32_t number = 0;
-        size_t count = character(octets + i, size - i, &number);
-        bool is_plain = is_plain_character(octets + i, count, number);
-        if (count == 0) count = 1;
-        print_character(to, octets + i, count, is_plain);
-        i += count;
+        count = character(octets + i, size - i, &number);
+        print(to, octets + i, count, number);
     }
 }
 
-void print_lines(FILE *to, const char *text, size_t size) {
-    const uint8_t *octets = (const uint8_t *)text;
-    for (size_t i = 0; i < size;) {
-        uint32_t number;
-        size_t count = character(octets + i, size - i, &number);
-        if (count == 0) count = 1;
-        print_character(to, octets + i, count, reads_utf8() || !has_control(octets + i, count));
-        i += count;
-    }
+static void print_octets(FILE *to, const uint8_t *octets, size_t count, bool is_plain) {
+    if (is_plain) fwrite(octets, 1, count, to);
+    for (size_t i = 0; i < count && !is_plain; i++) fprintf(to, "\\x%02x", octets[i]);
 }
+
+static void print_of_text(FILE *to, const uint8_t *octets, size_t count, uint32_t number) {
+    print_octets(to, octets, count > 0 ? count : 1, is_plain_character(octets, count, number));
+}
+
+static void print_of_line(FILE *to, const uint8_t *octets, size_t count, uint32_t number) {
+    (void)number;
+    if (count == 0) count = 1;
+    print_octets(to, octets, count, reads_utf8() || !has_control(octets, count));
+}
+
+void print_text(FILE *to, const uint8_t *octets, size_t size) { print_each(to, octets, size, print_of_text); }
+
+void print_lines(FILE *to, const char *text, size_t size) { print_each(to, (const uint8_t *)text, size, print_of_line); }
 
 /* A character by its number: beyond 16 bits in two halves (RFC 8259, 7). */
 static void print_json_number(FILE *to, uint32_t number) {
@@ -89,32 +97,27 @@ static void print_json_number(FILE *to, uint32_t number) {
     else fprintf(to, "\\u%04x\\u%04x", 0xd800 + ((number - 0x10000) >> 10), 0xdc00 + ((number - 0x10000) & 0x3ff));
 }
 
-/* Prints the character at the head. It has `count` octets, 0 if it is none. */
 static void print_json_character(FILE *to, const uint8_t *octets, size_t count, uint32_t number) {
     if (count == 0) print_json_number(to, 0xfffd);
     else if (is_plain_character(octets, count, number)) fwrite(octets, 1, count, to);
     else print_json_number(to, number);
 }
 
-void print_json(FILE *to, const char *text, size_t size) {
-    const uint8_t *octets = (const uint8_t *)text;
-    for (size_t i = 0; i < size;) {
-        uint32_t number = 0;
-        size_t count = character(octets + i, size - i, &number);
-        if (octets[i] < 0x7f) putc(octets[i], to);
-        else print_json_character(to, octets + i, count, number);
-        i += count > 0 ? count : 1;
-    }
+/* What is ASCII has its meaning in JSON. */
+static void print_of_json(FILE *to, const uint8_t *octets, size_t count, uint32_t number) {
+    if (*octets < 0x7f) putc(*octets, to);
+    else print_json_character(to, octets, count, number);
 }
+
+static void print_of_json_text(FILE *to, const uint8_t *octets, size_t count, uint32_t number) {
+    if (*octets == '"' || *octets == '\\') fprintf(to, "\\%c", *octets);
+    else print_json_character(to, octets, count, number);
+}
+
+void print_json(FILE *to, const char *text, size_t size) { print_each(to, (const uint8_t *)text, size, print_of_json); }
 
 void print_json_text(FILE *to, const uint8_t *octets, size_t size) {
     putc('"', to);
-    for (size_t i = 0; i < size;) {
-        uint32_t number = 0;
-        size_t count = character(octets + i, size - i, &number);
-        if (count > 0 && (number == '"' || number == '\\')) fprintf(to, "\\%c", (int)number);
-        else print_json_character(to, octets + i, count, number);
-        i += count > 0 ? count : 1;
-    }
+    print_each(to, octets, size, print_of_json_text);
     putc('"', to);
 }

@@ -1,9 +1,13 @@
-/* Texts that came in from a network. */
+/* Texts that are printed: times, and what came in from a network. */
 #pragma once
 
 #include <stddef.h>
 #include <stdint.h>
 #include <stdio.h>
+#include <time.h>
+
+/* A time in UTC, as strftime writes it; "" if it can't be. It is there until the next call. */
+const char *utc_text(const char *format, time_t time);
 
 /* Prints a text of UTF-8 so that it stays on its line and moves nothing on a terminal. A backslash is printed as \x and two
    hexadecimal digits. So is each octet that is not UTF-8, or of a character that controls, formats or fills. If the locale does

@@ -8,7 +8,6 @@
 #include "netlink.h"
 #include "notices.h"
 #include "program.h"
-#include "route.h"
 #include "socket_option.h"
 #include "stopping.h"
 #include "udp.h"
@@ -224,11 +223,6 @@ static bool open_end(struct end *end, const char **what) {
     return false;
 }
 
-static void open_at_interface(struct end *end) {
-    const char *what;
-    if (!open_end(end, &what)) refuse("nothing was sent: %s: %s%s", what, strerror(errno), right_needed(is_ethernet));
-}
-
 static sa_family_t family(void) { return is_six ? AF_INET6 : AF_INET; }
 
 /* The bridge or the bond to which an interface hands what comes in there; whether there is one. */
@@ -254,11 +248,18 @@ static void tell_bridge(const char *interface) {
     complain("%s is a part of %s, which takes what comes in there: --interface %s asks there", interface, bridge, bridge);
 }
 
+static bool is_running(int socket, const char *interface) {
+    struct ifreq request = { 0 };
+    snprintf(request.ifr_name, sizeof request.ifr_name, "%s", interface);
+    return ioctl(socket, SIOCGIFFLAGS, &request) || request.ifr_flags & IFF_RUNNING;
+}
+
 void tell_unfit_interfaces(void) {
     forget_networks();
     for (size_t i = 0; i < end_count; i++) {
         const char *interface = ends[i].interface;
         if (interface != NULL) tell_bridge(interface);
+        if (interface != NULL && !is_running(ends[i].socket, interface)) complain("%s has no carrier: nothing comes in there", interface);
         if (interface == NULL || is_ethernet) continue;
         unsigned index = index_of(ends[i].socket, interface);
         if (index == 0) complain("%s is gone", interface);
@@ -284,17 +285,13 @@ static int open_beside(const char *path) {
     return open_unix(own_path);
 }
 
-static bool is_answered_at(const struct sockaddr_un *address) {
-    int probe = socket(AF_UNIX, SOCK_DGRAM | SOCK_CLOEXEC, 0);
-    bool is_there = probe >= 0 && connect(probe, (const struct sockaddr *)address, sizeof *address) == 0;
-    close_quietly(probe);
-    return is_there;
-}
-
 bool is_own_clock_left_out(const char *path) {
     if (own_clock.socket >= 0 || strlen(path) >= sizeof own_clock_address.sun_path) return false;
     strcpy(own_clock_address.sun_path, path);
-    return is_answered_at(&own_clock_address);
+    int probe = socket(AF_UNIX, SOCK_DGRAM | SOCK_CLOEXEC, 0);
+    bool is_there = probe >= 0 && connect(probe, (const struct sockaddr *)&own_clock_address, sizeof own_clock_address) == 0;
+    close_quietly(probe);
+    return is_there;
 }
 
 bool ask_own_clock(const char *path) {
@@ -304,8 +301,11 @@ bool ask_own_clock(const char *path) {
 }
 
 void open_transport(const struct task *task) {
+    const char *what;
     if (task->path != NULL) ends[0] = (struct end){ .socket = open_beside(task->path), .asking = -1, .events = -1 };
-    for (size_t i = 0; i < end_count && task->path == NULL; i++) open_at_interface(&ends[i]);
+    for (size_t i = 0; i < end_count && task->path == NULL; i++) {
+        if (!open_end(&ends[i], &what)) refuse("nothing was sent: %s: %s%s", what, strerror(errno), right_needed(is_ethernet));
+    }
     if (task->path == NULL && !is_ethernet) copies = open_copies(is_six);
     if (copies >= 0) packets = open_packets(is_six);
     has_several_ways = end_count > 1 || task->own_socket != NULL;
@@ -313,16 +313,17 @@ void open_transport(const struct task *task) {
 }
 
 static void widen(int socket) {
+    if (socket < 0) return;
     if (!set_number(socket, SOL_SOCKET, SO_RCVBUFFORCE, ROOM_FOR_MANY)) set_number(socket, SOL_SOCKET, SO_RCVBUF, ROOM_FOR_MANY);
 }
 
 void widen_transport(void) {
     for (size_t i = 0; i < end_count; i++) {
         widen(ends[i].socket);
-        if (ends[i].asking >= 0) widen(ends[i].asking);
+        widen(ends[i].asking);
     }
-    if (copies >= 0) widen(copies);
-    if (packets >= 0) widen(packets);
+    widen(copies);
+    widen(packets);
 }
 
 /* The latest sender of a copy that another neighbour sent. */
@@ -605,26 +606,14 @@ void tell_silent_ways(void) {
     }
 }
 
-static const char *station_text(const struct sockaddr_ll *sender) {
-    static char text[3 * STATION];
-    const uint8_t *a = sender->sll_addr;
-    snprintf(text, sizeof text, "%02x:%02x:%02x:%02x:%02x:%02x", a[0], a[1], a[2], a[3], a[4], a[5]);
-    return text;
-}
-
-/* A path may have no octet 0 at its end. */
-static const char *path_text(const struct sockaddr_un *sender) {
-    static char text[sizeof sender->sun_path + 1];
-    memcpy(text, sender->sun_path, sizeof sender->sun_path);
-    return text;
-}
-
 const char *sender_text(void) {
-    static char text[INET6_ADDRSTRLEN];
-    const struct sockaddr *sender = (const struct sockaddr *)&latest_place.sender;
-    if (sender->sa_family == AF_PACKET) return station_text((const struct sockaddr_ll *)sender);
-    if (sender->sa_family == AF_UNIX) return path_text((const struct sockaddr_un *)sender);
-    write_address(text, sender);
+    static char text[sizeof ((struct sockaddr_un *)0)->sun_path + 1];
+    const struct sockaddr_storage *sender = &latest_place.sender;
+    const uint8_t *a = ((const struct sockaddr_ll *)sender)->sll_addr;
+    /* A path may have no octet 0 at its end. */
+    if (sender->ss_family == AF_UNIX) memcpy(text, ((const struct sockaddr_un *)sender)->sun_path, sizeof text - 1);
+    else if (sender->ss_family != AF_PACKET) write_address(text, (const struct sockaddr *)sender);
+    else snprintf(text, sizeof text, "%02x:%02x:%02x:%02x:%02x:%02x", a[0], a[1], a[2], a[3], a[4], a[5]);
     return text;
 }
 

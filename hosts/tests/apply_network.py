@@ -1,20 +1,24 @@
 """A network for hosts/tests/apply: clock.c in namespaces, on links that are bridges, a manager's end whose frames this process moves
-(apply_link.py), and an observer beside each clock (apply_observer.py). It needs root and /dev/net/tun."""
+(apply_link.py), and an observer beside each clock. It needs root and /dev/net/tun."""
 import fcntl
 import os
 import pty
 import re
+import select
+import socket
 import struct
 import subprocess
+import threading
 import time
 
-from apply_link import Middle
-from apply_observer import Observer
-from trying import CLOCK, HOME, MANAGE, run
+from apply_link import Middle, request_of
+from trying import CLOCK, HOME, MANAGE, inside, run
 
 MANAGER, OTHER = "000000fffe000010/1", "0a0000fffe000099/1"
 MANAGERS_STATION = "02:00:00:00:00:10"
 TUNSETIFF, IFF_TAP, IFF_NO_PI = 0x400454CA, 2, 0x1000
+ETH_P_IP = 0x0800
+MOST_WAITING = 1 << 22              # octets in a socket of an observer
 ANSWERED_NEW = "5"
 NUMBERED = "5678"                   # answers of a clock to what a manager of it asks it by itself
 
@@ -201,3 +205,42 @@ class Network:
                 clock.process.wait()
         for name in [self.hub, self.near, self.beside] + [clock.namespace for clock in self.clocks.values() if clock.namespace]:
             run("ip", "netns", "del", name)
+
+
+def listen(device):
+    """A socket that gets each frame that comes in there, and none that goes out."""
+    opened = socket.socket(socket.AF_PACKET, socket.SOCK_RAW, socket.htons(ETH_P_IP))
+    opened.setsockopt(socket.SOL_SOCKET, socket.SO_RCVBUF, MOST_WAITING)
+    opened.bind((device, ETH_P_IP))
+    return opened
+
+
+class Observer(threading.Thread):
+    """Of each clock's name, the requests that came in at a device of its namespace, in order."""
+
+    def __init__(self, namespaces, device):
+        super().__init__(daemon=True)
+        self.namespaces, self.device = namespaces, device
+        self.seen = {name: [] for name in namespaces}
+        self.is_ready, self.is_over = threading.Event(), False
+        self.start()
+        if not self.is_ready.wait(60):
+            raise OSError("no observer has started")
+
+    def run(self):
+        sockets = {}
+        for name, namespace in self.namespaces.items():
+            with inside(namespace):
+                sockets[listen(self.device)] = name
+        self.is_ready.set()
+        while not self.is_over:
+            for ready in select.select(list(sockets), [], [], 0.1)[0]:
+                request = request_of(ready.recv(2048))
+                if request is not None:
+                    self.seen[sockets[ready]].append(request)
+        for opened in sockets:
+            opened.close()
+
+    def end(self):
+        self.is_over = True
+        self.join()

@@ -91,7 +91,6 @@ def limits_of_hardware():
     check("a file that is moved there counts", wait_until(lambda: clock.text().count("limits read: 1\n") == 2)
           and asked(peer, field_set(11, "6000", b"\xfe\0")) == (11, "value", 0xFE))
     check("it ends in order", clock.end()[0] == 0 and "the device objected: 7\n" in clock.text())
-    peer.close()
 
 
 def limits_that_are_wrong():
@@ -203,7 +202,6 @@ def programs_that_say_nothing():
     check("its manager is told that this may be why", status == 3 and "or its device has not agreed yet" in said)
     check("and has the answer later", wait_until(lambda: asked(other, message(9, STRANGER, ME)) == (9, "value", 60)))
     check("it ends in order", clock.end()[0] == 0 and "the device said nothing: 2\n" in clock.text())
-    peer.close(), other.close()
 
 
 def changes_that_wait():
@@ -226,7 +224,6 @@ def changes_that_wait():
     check("each was asked about once", [one.split("|")[:2] for one in runs()] == [[MANAGER + "/1", "7"], [SECOND_MANAGER + "/1", "3"]])
     check("what was lost comes again", asked(peer, set_of(8, 60)) == (8, "value", 60) and asked(other, set_of(4, 80, SECOND_MANAGER)) == (4, "value", 80))
     check("it ends in order", clock.end()[0] == 0 and "not taken while the device was asked: 53\n" in clock.text())
-    peer.close(), other.close()
 
 
 def floods_while_a_program_runs():
@@ -258,7 +255,6 @@ def floods_while_a_program_runs():
     check("and then is answered its change", [(one[31], one[54]) for one in found[:1]] == [(7, 100)])
     check("it ends in order", clock.end()[0] == 0)
     wire.remove()
-    peer.close()
 
 
 # A device that writes down what it was asked for, and looks there whether it has a change.
@@ -304,7 +300,6 @@ def kills_while_a_program_runs():
     os.kill(int(beside[0]), signal.SIGKILL)
     check("without the process between, the clock ends, and says so", clock.end(None)[0] == 2 and "the process that runs it is gone\n" in clock.text())
     check("and its program with it", wait_until(lambda: processes_with(LONG) == 0, 1))
-    peer.close()
 
 
 def values_over_the_rate():
@@ -395,7 +390,6 @@ def changes_that_are_not_saved():
     check("it is asked and answered once it can", answer_at(peer) == (8, "value", 60) and changes() == [7, 8])
     check("so is another manager", answer_at(other) == (3, "value", 100))
     check("it ends in order", clock.end()[0] == 0)
-    peer.close(), other.close()
 
 
 def what_a_look_says():
@@ -435,7 +429,6 @@ def looks_while_a_clock_runs():
     check("one that takes too long before its write has not made it", answer_at(peer, 4) == (2, "error", GENERAL_ERROR) and changes() == [1])
     write("says", JOURNAL.replace("WORK", work) + "exit 0\n")
     check("it ends in order", clock.end()[0] == 0 and "the device said nothing: 2\n" in clock.text())
-    peer.close(), other.close()
 
 
 def devices_that_are_gone():
@@ -471,8 +464,6 @@ def owners_that_move_the_domain():
         other.socket.sendto(field_set(number, *field, STRANGER), owner)
         check(f"the owner's SET of {field[0]} is answered {taken}", answer_at(other, 4 if taken else 0.5) == taken)
     check("it ends in order", clock.end()[0] == 0)
-    peer.close(), other.close()
-    os.unlink(os.path.join(work, "saved"))
 
 
 def states_of_another_clock():
@@ -484,7 +475,6 @@ def states_of_another_clock():
     clock.end(signal.SIGKILL)
     clock = Clock("-s", saved, "-u", path, "aabbccfffeddee02")
     check("another clock does not start", clock.end(None)[0] == 1 and f"it has the state of clock {ME}\n" in clock.text())
-    peer.close()
 
 
 # Where a clock is killed in a SET: at each of four fsync, of two saves, and as it or the process beside it sends. Its device kills it too, and
@@ -559,7 +549,6 @@ def questions_that_are_not_taken():
     calls.mend()
     check("so is another manager's", asked(peer, set_of(3, 60, SECOND_MANAGER)) == (3, "value", 60))
     check("it ends in order", clock.end()[0] == 0 and "the device said nothing: 1\n" in clock.text())
-    peer.close()
 
 
 def is_child(process, parent):

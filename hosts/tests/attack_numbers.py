@@ -188,7 +188,6 @@ def clocks_that_are_not_there():
         time.sleep(0.02)
     check("a run without an answer has its turn alone", most == 1)
     check("it leaves no file of its session, and no lock", os.listdir(work) == ["socket"])
-    deaf.close()
 
 
 def losses_of_power():

@@ -190,7 +190,6 @@ def programs_beside_saves_that_fail():
     answers = [peer.socket.recv(2048)[31] for _ in range(10)]
     check(f"ten are answered once a save works: {answers}", answers == list(range(1, 11)))
     check("the others are counted, and it ends in order", clock.end()[0] == 0 and "not taken of managers over their rate: 20\n" in clock.text())
-    peer.close(), other.close()
 
 
 def askers_without_end_during_a_save():

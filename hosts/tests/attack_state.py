@@ -263,7 +263,6 @@ def calls_that_fail():
     check("a clock whose file is gone answers no manager", not peer.is_answered(number))
     os.rmdir(state + ".new")
     check("and then it has a file again", wait_until(lambda: os.path.exists(state)) and clock.end()[0] == 0 and image_in(octets(state)) is not None)
-    peer.close()
 
 
 ATTACKS = [states, configurations, damages, files_in_the_way, places_without_rights, second_clocks, full_disks, calls_that_fail]

@@ -184,7 +184,7 @@ class Peer:
 
 
 def clear():
-    """What an attack that broke off left."""
+    """What an attack left: its programs, and its files, among them the sockets of its peers."""
     while started:
         process = started.pop()
         if process.poll() is None:

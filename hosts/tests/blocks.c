@@ -1,6 +1,7 @@
 /* blocks: clocks, sessions, surveys and askers in a block of the host's own (ptpm_memory.h). Each has the room that the header says, in any
-   order of calls. One octet less is refused by PTPM_NO_MEMORY, and changes nothing. What is stopped is given back whole. Prints what
-   does not hold and `blocks: N passed, M failed`; its status is 1 if one failed. */
+   order of calls. One octet less is refused by PTPM_NO_MEMORY, and changes nothing. What is stopped is given back whole, whatever was
+   left in it, and so is what a refused start was for. Prints what does not hold and `blocks: N passed, M failed`; its status is 1 if one
+   failed. */
 #include "checking.h"
 #include "ptpm.h"
 #include "ptpm_memory.h"
@@ -95,9 +96,14 @@ static enum ptpm_session_received receive(size_t size) {
     return ptpm_session_receive(&session, octets, whole);
 }
 
-static enum ptpm_started start_survey(void) {
+static struct ptpm_survey_settings of_survey(void) {
     struct ptpm_survey_settings settings = { .port = 1, .number = 7, .id = PTPM_ID_USER_DESCRIPTION, .hops = 1 };
     memcpy(settings.clock, manager, 8);
+    return settings;
+}
+
+static enum ptpm_started start_survey(void) {
+    struct ptpm_survey_settings settings = of_survey();
     return ptpm_survey_start(&survey, &settings);
 }
 
@@ -167,6 +173,56 @@ static void stop_all(void) {
     ptpm_survey_stop(&survey);
     ptpm_asker_stop(&asker);
     check(ptpm_memory_taken() == 0, "what is stopped is given back");
+}
+
+/* A message waits in a clock that is then started again. A start that is refused leaves nothing. */
+static void left_clocks(void) {
+    static const struct ptpm_say agrees;
+    static struct ptpm_sent sent[PTPM_MOST_SENT_OF(FEW_PORTS)];
+    uint8_t request[HEAD] = { 0x0d, 0x12, 0, HEAD, [29] = 1, [31] = 7, [42] = 0xff, 0xff, [49] = 1, [51] = 2, 0x20, 0x05 };
+    struct ptpm_taken taken = { 0 };
+    size_t size;
+    uint64_t token;
+    memcpy(request + 20, manager, 8);
+    memcpy(request + 34, target, 8);
+    ptpm_memory_give(block, ROOM);
+    for (int times = 0; times < 2; times++) {
+        check(start_clock(&clocks[0]) == PTPM_STARTED && ptpm_clock_saving(&clocks[0], PTPM_MOST_SENT) == PTPM_SAVING
+              && ptpm_clock_image_of(&clocks[0], image, sizeof image, &size, &token) == PTPM_SAVED
+              && ptpm_clock_saved(&clocks[0], token) == PTPM_SAVED, "a clock that saves");
+        ptpm_clock_take(&clocks[0], 1, request, sizeof request, &agrees, 0, sent, PTPM_MOST_SENT_OF(FEW_PORTS), &taken);
+        check(taken.waiting == 1, "a message that waits");
+    }
+    managers[1].port = managers[0].port;
+    check(start_clock(&clocks[0]) == PTPM_MANAGER_TWICE && !holds_clock(&clocks[0]), "a start of a clock that is refused");
+    managers[1].port = 2;
+    check(ptpm_memory_taken() == 0, "what it was for is given back");
+    stop_all();
+}
+
+/* The others are started again while they have a request or answers. A restore that is refused leaves the asker as it was. */
+static void left_managers(void) {
+    struct ptpm_survey_settings of_every = of_survey();
+    struct ptpm_asker_settings settings = of_asker();
+    struct ptpm_handed next;
+    size_t size;
+    ptpm_memory_give(block, ROOM);
+    for (int times = 0; times < 2; times++) {
+        check(start_session() == PTPM_STARTED && begin(128) == PTPM_BEGUN && receive(128) == PTPM_ANSWERED, "a session that was answered");
+        check(begin(3) == PTPM_BAD_VALUE && begin(128) == PTPM_BEGUN && ptpm_session_give_up(&session) == PTPM_GIVEN_UP
+              && begin(128) == PTPM_BEGUN, "a session that asks");
+        check(start_survey() == PTPM_STARTED && survey_receive(1, 2) == PTPM_TAKEN && survey_receive(1, 2) == PTPM_AGAIN, "a survey with an answer");
+        check(start_asker() == PTPM_STARTED && ptpm_asker_ask(&asker, 0, 1, PTPM_SET, PTPM_ID_USER_DESCRIPTION, 0, field, 128, 0, &next)
+              == PTPM_ASKED && restart_asker(0, &next) == PTPM_ASKED, "an asker that asks");
+    }
+    ptpm_asker_image(&asker, image, sizeof image, &size);
+    check((uint32_t)ptpm_asker_restore(&asker, &settings, drawn, image, size - 1) == PTPM_DAMAGED
+          && ptpm_asker_image(&asker, image, sizeof image, &size) == PTPM_ASKED, "a restore of an asker that is refused");
+    settings.session.target_ports = 0;
+    memset(of_every.clock, 0xff, 8);
+    check(ptpm_session_start(&session, &settings.session) == PTPM_NO_PORTS && ptpm_survey_start(&survey, &of_every) == PTPM_MANAGER_IS_EVERY
+          && ptpm_asker_start(&asker, &settings, drawn) == PTPM_NO_PORTS && ptpm_memory_taken() == 0, "starts that are refused");
+    stop_all();
 }
 
 static void nothing_given(void) {
@@ -381,6 +437,8 @@ int main(void) {
     }
     nothing_given();
     given_again();
+    left_clocks();
+    left_managers();
     exact_managers();
     for (clock_managers = 1; clock_managers <= FEW_MANAGERS; clock_managers += FEW_MANAGERS - 1) {
         for (int all = 1; all <= CLOCKS; all++) exact_clocks(all);

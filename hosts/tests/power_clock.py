@@ -3,7 +3,6 @@ makes a call of the system, most often one of a save, or at any moment, also aft
 synchronized may be lost with it. Then it is started again from its file. Each run sets USER_DESCRIPTION to a greater number, or reads it; between them copies of earlier requests come in again.
 What the clock has is compared with what was reported, and every reply with those before it. Then the same of a clock that asks a device
 (--ask), which may also kill it before it writes, or after. What the device was asked for is compared too: nothing twice."""
-import ctypes
 import os
 import random
 import re
@@ -14,7 +13,7 @@ import threading
 import time
 
 from power_cuts import FAR, ME, NEAR, WIDTH, Cut, Seen, lose, read, socket_path, value, work
-from trying import CLOCK, MANAGE, run
+from trying import CLOCK, MANAGE, inside, run
 
 MANAGERS = [f"020000fffe0000{number}/1" for number in ("10", "11", "12")]
 # Calls of a save, and how often a start makes them, which looks for room and saves; and further calls of the clock.
@@ -22,7 +21,7 @@ OF_SAVES = {"openat": 12, "write": 3, "fsync": 3, "renameat": 1, "unlinkat": 4, 
 SAVE_FAILS = ["write", "fsync", "renameat"]
 CALLS = {**OF_SAVES, "close": 12, "recvmmsg": 1, "epoll_wait": 1, "fcntl": 1, "sendto": 0}
 state, log = (os.path.join(work, name) for name in ("state", "clock_log"))
-NEW_NETWORK, ALL_FRAMES, OUTGOING = 0x40000000, 3, 4
+ALL_FRAMES, OUTGOING = 3, 4
 RUN = ["ip", "netns", "exec"]
 # A device that writes down what it was asked for, and looks there whether it has a change. It kills the clock where a file says so.
 DEVICE = """#!/bin/sh
@@ -38,14 +37,9 @@ seen = Seen()
 
 def socket_in(network, interface):
     """A socket for all frames at an interface of another network namespace."""
-    enter = ctypes.CDLL(None, use_errno=True).setns
-    with open("/proc/thread-self/ns/net") as own, open(f"/run/netns/{network}") as other:
-        enter(other.fileno(), NEW_NETWORK)
-        try:
-            found = socket.socket(socket.AF_PACKET, socket.SOCK_RAW, socket.htons(ALL_FRAMES))
-            found.bind((interface, ALL_FRAMES))
-        finally:
-            enter(own.fileno(), NEW_NETWORK)
+    with inside(network):
+        found = socket.socket(socket.AF_PACKET, socket.SOCK_RAW, socket.htons(ALL_FRAMES))
+        found.bind((interface, ALL_FRAMES))
     found.setblocking(False)
     return found
 

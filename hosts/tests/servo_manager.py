@@ -1,10 +1,11 @@
 """The manager of hosts/tests/servo."""
-import ctypes
 import random
 import socket
 import struct
 import threading
 import time
+
+from trying import inside
 
 GROUP, PRIORITY2, GET, SET = "224.0.1.129", 0x2006, 0, 1
 GETS = [0x2000, 0x2001, 0x2002, 0x2004, 0x2005, PRIORITY2, 0xC000]
@@ -12,14 +13,11 @@ GETS = [0x2000, 0x2001, 0x2002, 0x2004, 0x2005, PRIORITY2, 0xC000]
 
 def socket_of(name, address):
     """A socket in that network namespace, which asks and hears at the group."""
-    enter = ctypes.CDLL(None, use_errno=True).setns
-    with open("/proc/thread-self/ns/net") as own, open(f"/run/netns/{name}") as other:
-        enter(other.fileno(), 0)
+    with inside(name):
         asker = socket.socket(socket.AF_INET, socket.SOCK_DGRAM)
         asker.setsockopt(socket.SOL_SOCKET, socket.SO_REUSEADDR, 1)
         asker.bind((GROUP, 320))
         asker.setsockopt(socket.IPPROTO_IP, socket.IP_ADD_MEMBERSHIP, socket.inet_aton(GROUP) + socket.inet_aton(address))
-        enter(own.fileno(), 0)
     asker.setsockopt(socket.IPPROTO_IP, socket.IP_MULTICAST_IF, socket.inet_aton(address))
     asker.setsockopt(socket.IPPROTO_IP, socket.IP_MULTICAST_LOOP, 0)
     return asker

@@ -101,7 +101,7 @@ def refused_by_site():
         done = subprocess.run(words, stdout=full, stderr=subprocess.DEVNULL, timeout=120, check=False, env=WITH_OWN)
     check("a plugin whose output is full ends as a plugin", done.returncode == 3)
     write(f"{work}/file", "")
-    for path, said in ((f"{work}/file/ptp4l", "Not a directory"), (f"{work}/lacking/ptp4l", "No such file or directory")):
+    for path, said in ((f"{work}/file/ptp4l", "Not a directory"), (f"{work}/lacking/ptp4l", "its folder is missing")):
         done = run(MANAGE, "-u", path, "--nagios", "status", env=WITH_OWN)
         check(f"a plugin that has no socket ends as one: {said}", done.returncode == 3 and done.stdout.startswith(f"PTP UNKNOWN - {path}")
               and done.stdout.endswith(f": {said}\n"))

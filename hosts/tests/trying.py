@@ -1,5 +1,7 @@
-"""What the trials in Python share: where the programs are, one that is run, a wait, a link between two network namespaces, and the count of
-what holds."""
+"""What the trials in Python share: where the programs are, one that is run, a wait, network namespaces and a link between two, and the count
+of what holds."""
+import contextlib
+import ctypes
 import os
 import subprocess
 import threading
@@ -42,6 +44,19 @@ def sealed(image, saves=1):
     """What a file has that was saved so often."""
     octets = image + b"ptps" + saves.to_bytes(8, "big")
     return octets + zlib.crc32(octets).to_bytes(4, "big")
+
+
+@contextlib.contextmanager
+def inside(namespace):
+    """Meanwhile this thread is in that network namespace, in which its sockets then stay."""
+    enter, new_network = ctypes.CDLL(None, use_errno=True).setns, 0x40000000
+    with open("/proc/thread-self/ns/net") as own, open(f"/run/netns/{namespace}") as there:
+        if enter(there.fileno(), new_network):
+            raise OSError(ctypes.get_errno(), namespace)
+        try:
+            yield
+        finally:
+            enter(own.fileno(), new_network)
 
 
 def bring_up(name, device, station, address):

@@ -5,7 +5,7 @@ from __future__ import annotations
 import ctypes
 from typing import Callable
 
-from ._header import HandleAnswer as HandleAnswer, SessionAnswer as SessionAnswer, SurveyAnswer as SurveyAnswer
+from ._header import WHY, HandleAnswer as HandleAnswer, SessionAnswer as SessionAnswer, SurveyAnswer as SurveyAnswer
 from ._library import library, text_by
 
 
@@ -20,10 +20,10 @@ class PtpmError(Exception):
 
 
 class Error(PtpmError):
-    """A call was refused, and changed nothing."""
+    """A call was refused, and changed nothing. It is written as its name and why: `NO_PORT: the clock lacks the port`."""
 
     def __init__(self, number: int) -> None:
-        super().__init__(answer_name(number))
+        super().__init__(": ".join(filter(None, (answer_name(number), WHY.get(number)))))
         self.number = number
 
     @property

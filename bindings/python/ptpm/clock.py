@@ -166,7 +166,7 @@ class Clock(Handle):
         the cached answer. The port 0xFFFF is every port. Returns the members that changed, or raises ChangeRefused."""
         changed, error = header.ptpm_changed(), ctypes.c_uint16()
         field = octets_of(octets)
-        words = (action, id_of(named), port_number(port), field, len(field), ctypes.byref(changed), ctypes.byref(error))
+        words = (Action(action), id_of(named), port_number(port), field, len(field), ctypes.byref(changed), ctypes.byref(error))
         if judged(self._call(library.ptpm_clock_set, *words)) == header.PTPM_REFUSED:
             raise ChangeRefused(error.value)
         return Changed.of_library(changed)

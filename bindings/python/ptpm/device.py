@@ -12,7 +12,7 @@ from ._library import library, octets_of
 from .answers import PtpmError
 from .identity import Identity, PortIdentity
 from .ids import Action, IdLike, error_name, id_of
-from .settings import Rights, write_number
+from .settings import Rights, sum_of, write_number
 
 
 class ChangeRefused(PtpmError):
@@ -110,7 +110,7 @@ class RelayedId:
         bits = {Action.SET: header.PTPM_MAY_SET, Action.COMMAND: header.PTPM_MAY_COMMAND}
         row = header.ptpm_relayed_id(id=id_of(self.id), actions=sum(bits.get(action, 1) for action in self.actions))
         row.scope = header.PTPM_OF_PORT if self.is_of_port else header.PTPM_OF_CLOCK
-        for name, number in (("right", self.right), ("least", self.sizes[0]), ("most", self.sizes[1])):
+        for name, number in (("right", sum_of(self.right)), ("least", self.sizes[0]), ("most", self.sizes[1])):
             write_number(row, name, number)
         return row
 

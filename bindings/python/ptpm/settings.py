@@ -52,6 +52,13 @@ class Rights(IntFlag):
     ALL = CLOCK_SET | PORT_SET | PORT_COMMAND
 
 
+def sum_of(rights: int) -> int:
+    """Rights as the library takes them, or a ValueError."""
+    if not 0 <= rights <= Rights.ALL:
+        raise ValueError(f"rights are a sum of the three, and not {int(rights)}")
+    return int(rights)
+
+
 def write_number(struct: ctypes.Structure, member: str, value: int) -> None:
     """Writes a member, and refuses a value that does not fit, which ctypes would cut off. A number that is not whole is refused
     too (TypeError): an offset is a TimeInterval here, not a number of nanoseconds."""
@@ -178,8 +185,6 @@ class Manager:
         """As the library takes it. A ValueError for rights that are not a sum of these three, which the library
         would accept."""
         identity = PortIdentity.of(self.identity)
-        if not 0 <= self.rights <= Rights.ALL:
-            raise ValueError(f"rights are a sum of the three, and not {int(self.rights)}")
-        struct = header.ptpm_manager_settings(port=identity.port, rights=int(self.rights))
+        struct = header.ptpm_manager_settings(port=identity.port, rights=sum_of(self.rights))
         write_octets(struct, "clock", identity.clock.octets)
         return struct

@@ -4,6 +4,7 @@ Expected octets are those of IEEE 1588-2019, clauses 13.3, 15.4 and 15.5."""
 from __future__ import annotations
 
 import copy
+import dataclasses
 import doctest
 import os
 import signal
@@ -358,11 +359,22 @@ class Clocks(unittest.TestCase):
             self.assertRaises(TypeError, copy.copy, asked)
             self.assertRaises(TypeError, copy.deepcopy, asked)
 
+    def test_ids_of_the_device(self) -> None:
+        own = ptpm.RelayedId(0xD010, {ptpm.Action.SET}, (2, 2), ptpm.Rights.PORT_SET)
+        with clock() as asked:
+            asked.relay([own])
+            question = asked.ask(1, request(7, "aabbccfffeddee01ffff", 1, 1, "d0106400"))
+            self.assertEqual(question and question.octets, b"\x64\0")
+            self.refused("CLOCK_HAS_ID", lambda: asked.relay([dataclasses.replace(own, id="PRIORITY1")]))
+            self.assertRaisesRegex(ValueError, "a sum of the three", asked.relay, [dataclasses.replace(own, right=8)])
+            self.assertRaisesRegex(ValueError, "not a valid Action", asked.set, "PRIORITY1", 1)
+
     def refused(self, name: str, call: object) -> None:
         assert callable(call)
         with self.assertRaises(ptpm.Error) as caught:
             call()
         self.assertEqual(caught.exception.name, name)
+        self.assertRegex(str(caught.exception), f"^{name}: .")
 
 
 class Managers(unittest.TestCase):

@@ -85,7 +85,7 @@ errors! {
     NotAnImage = PTPM_NOT_AN_IMAGE, "the octets are not an image";
     OtherVersion = PTPM_OTHER_VERSION, "the image is of another version";
     OtherKind = PTPM_OTHER_KIND, "the image is of something else";
-    Damaged = PTPM_DAMAGED, "the image is damaged";
+    Damaged = PTPM_DAMAGED, "the image or journal is damaged";
     OtherClock = PTPM_OTHER_CLOCK, "the image is of a clock of another identity";
     OtherPorts = PTPM_OTHER_PORTS, "the image is of a clock with another number of ports";
     OtherSession = PTPM_OTHER_SESSION, "the image is of another manager, clock, number of ports or first number";

@@ -1,4 +1,3 @@
-#include "apply.h"
 #include "apply_report.h"
 #include "exchange.h"
 #include "journals.h"
@@ -9,6 +8,7 @@
 #include "rollout.h"
 #include "stopping.h"
 #include "transport.h"
+#include "verbs.h"
 #include <errno.h>
 #include <string.h>
 #include <unistd.h>
@@ -76,6 +76,7 @@ static int carry_out(const struct task *task, struct journal *journal) {
     if (status == ANSWERED && journal->skipped != NULL) status = IN_PART;
     if (status == ANSWERED && find_rolled_back(&back_of, journal)) status = judge_left_out(task, &back_of);
     print_apply(journal, &back_of, status == LEFT_OPEN, task->is_json);
+    if (journal->ending == IS_OPEN) complain("it is open: ptpm-manage resume goes on with it, and resume --give-up ends it");
     leave_journal(&back_of);
     leave_sessions();
     return status;
@@ -208,18 +209,15 @@ static int resume(const struct task *task) {
 
 /* ---- rollback */
 
-/* The step that takes another one back. */
-static struct step back_of(const struct step *step) {
-    struct step back = *step;
-    back.before = step->after;
-    back.after = step->before;
-    if (step->id == PTPM_ID_DOMAIN) back.domain = step->after.octets[0];
-    return back;
-}
-
 /* Adds the step that takes this one back, if this one is known to be done. */
 static void take_one_back(struct journal *back, const struct journal *journal, size_t place) {
-    if (journal->told[place].outcome == DONE) back->steps[back->count++] = back_of(&journal->steps[place]);
+    const struct step *done = &journal->steps[place];
+    if (journal->told[place].outcome != DONE) return;
+    struct step *step = &back->steps[back->count++];
+    *step = *done;
+    step->before = done->after;
+    step->after = done->before;
+    if (done->id == PTPM_ID_DOMAIN) step->domain = done->after.octets[0];
 }
 
 /* The steps that take back what is known to be done. What was done before the moves of DOMAIN was asked in the earlier domain. So it comes
@@ -269,7 +267,7 @@ static int begin_back(const struct task *task, struct journal *journal, struct j
 }
 
 /* The uncertain step of an apply that is open is settled first. If it was being given up, the apply ends first. */
-static int roll_back_by(const struct task *task, struct journal *journal, struct journal *back) {
+static int roll_back(const struct task *task, struct journal *journal, struct journal *back) {
     bool is_open = journal->ending == IS_OPEN;
     if (is_open) take_up(task, journal);
     int status = is_open ? carry_out_journal(task, journal, PTPM_SETTLE_ALONE) : ANSWERED;
@@ -282,14 +280,6 @@ static int roll_back_by(const struct task *task, struct journal *journal, struct
     if (status == ANSWERED) return begin_back(task, journal, back);
     complain("nothing was rolled back%s", is_open ? ": the apply stays open" : "");
     return is_open && status == NOT_ANSWERED ? LEFT_OPEN : status;
-}
-
-static int roll_back(const struct task *task, struct journal *journal) {
-    struct journal back = { 0 };
-    int status = roll_back_by(task, journal, &back);
-    leave_sessions();
-    leave_journal(&back);
-    return status;
 }
 
 /* Says what a rollback would do. Only reads are sent, and nothing is made. */
@@ -309,7 +299,7 @@ static int show_rollback(const struct task *task) {
 }
 
 static int rollback(const struct task *task) {
-    struct journal journal, open;
+    struct journal journal, open, back = { 0 };
     if (task->plan.is_dry) return show_rollback(task);
     take_journals();
     find_journal(&journal, task->plan.word);
@@ -318,7 +308,9 @@ static int rollback(const struct task *task) {
     }
     leave_journal(&open);
     open_transport(task);
-    int status = roll_back(as_manager(task, &journal), &journal);
+    int status = roll_back(as_manager(task, &journal), &journal, &back);
+    leave_sessions();
+    leave_journal(&back);
     leave_journal(&journal);
     return status;
 }

@@ -9,7 +9,6 @@
 #include "words.h"
 #include <stdlib.h>
 #include <string.h>
-#include <time.h>
 
 /* At this place the name of an apply has its plan: after the time. */
 enum { PLAN_AT = sizeof "20260101-000000" };
@@ -106,11 +105,7 @@ static size_t count_lines(const char *lines) {
 
 /* In UTC; nothing of 0. */
 static void print_time(uint64_t seconds) {
-    char text[sizeof "2026-01-01T00:00:00Z"];
-    struct tm parts;
-    time_t time = (time_t)seconds;
-    bool is_time = seconds != 0 && gmtime_r(&time, &parts) != NULL && strftime(text, sizeof text, "%Y-%m-%dT%H:%M:%SZ", &parts) > 0;
-    if (is_time) fputs(text, stdout);
+    if (seconds != 0) fputs(utc_text("%FT%TZ", (time_t)seconds), stdout);
 }
 
 /* How it ended, and how much of the plan it left out. */
@@ -156,11 +151,10 @@ static void print_state_as_json(const struct journal *journal, size_t place) {
 
 static void print_step_as_json(const struct journal *journal, size_t place) {
     const struct step *step = &journal->steps[place];
-    const char *id = id_name(step->id);
-    printf("{\"number\":%zu,\"domainNumber\":%u,\"clockIdentity\":\"%s\",\"portNumber\":", place + 1, step->domain, identity_text(step->clock));
-    if (step->port == 0) fputs("null", stdout);
-    else printf("%u", step->port);
-    printf(",\"managementId\":\"%s\"", id == NULL ? "" : id);
+    struct ptpm_source source = { .port = step->port };
+    memcpy(source.clock, step->clock, sizeof source.clock);
+    printf("{\"number\":%zu,", place + 1);
+    print_source_as_json(stdout, step->domain, &source, step->id);
     print_state_as_json(journal, place);
     print_value_as_json("before", step->id, &step->before);
     print_value_as_json("after", step->id, &step->after);

@@ -3,6 +3,7 @@
 #include "notices.h"
 #include "random.h"
 #include "session_file.h"
+#include "text.h"
 #include <dirent.h>
 #include <errno.h>
 #include <fcntl.h>
@@ -199,11 +200,7 @@ void tidy_journals(size_t kept) {
 }
 
 void name_journal(struct journal *journal, const char *word) {
-    char text[32];
-    struct tm parts;
-    time_t now = time(NULL);
-    strftime(text, sizeof text, "%Y%m%d-%H%M%S", gmtime_r(&now, &parts));
-    snprintf(journal->name, sizeof journal->name, "%s-%s-%04x", text, word, draw_number());
+    snprintf(journal->name, sizeof journal->name, "%s-%s-%04x", utc_text("%Y%m%d-%H%M%S", time(NULL)), word, draw_number());
     snprintf(journal->path, sizeof journal->path, "%s/%s%s", folder, journal->name, ending);
     memcpy(own, journal->path, sizeof own);
 }

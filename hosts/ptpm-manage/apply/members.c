@@ -5,6 +5,7 @@
 #include "notices.h"
 #include "program.h"
 #include "stopping.h"
+#include "text.h"
 #include "transport.h"
 #include "words.h"
 #include <stdlib.h>
@@ -31,11 +32,8 @@ static char *describe_member(const struct step *step, const struct answer *answe
 }
 
 void show_step(const char *what, long place, size_t count, const struct step *step) {
-    char *member = describe_member(step, NULL, NULL), since[16];
-    time_t now = time(NULL);
-    struct tm parts;
-    strftime(since, sizeof since, "%H:%M:%S", gmtime_r(&now, &parts));
-    head_progress("%s %ld of %zu, %s, since %s UTC", what, place + 1, count, member, since);
+    char *member = describe_member(step, NULL, NULL);
+    head_progress("%s %ld of %zu, %s, since %s UTC", what, place + 1, count, member, utc_text("%T", time(NULL)));
     free(member);
 }
 
@@ -59,12 +57,21 @@ static void say_needless(const struct step *step, const struct answer *answer) {
 
 /* ---- reads */
 
+struct task task_of_step(const struct task *task, const struct step *step) {
+    struct task asked = *task;
+    memcpy(asked.settings.target, step->clock, 8);
+    asked.settings.domain = step->domain;
+    asked.port = step->port;
+    asked.action = PTPM_SET;
+    asked.id = step->id;
+    asked.size = step->after.size;
+    memcpy(asked.octets, step->after.octets, step->after.size);
+    return asked;
+}
+
 static bool is_read(const struct task *task, const struct step *step, uint8_t domain, struct answer *answer) {
-    static struct task reading;
-    reading = *task;
-    memcpy(reading.settings.target, step->clock, 8);
+    struct task reading = task_of_step(task, step);
     reading.settings.domain = domain;
-    reading.port = step->port;
     return read_by_nobody(&reading, step->id, task->settings.attempts, answer);
 }
 

@@ -8,6 +8,9 @@
 /* Shows which step is at work, whose member it is, and since when. */
 void show_step(const char *what, long place, size_t count, const struct step *step);
 
+/* What a step asks, as a task. */
+struct task task_of_step(const struct task *task, const struct step *step);
+
 /* Reads the member of a step in a domain. ANSWERED, or the program's status. */
 int read_member(const struct task *task, const struct step *step, uint8_t domain, struct answer *answer);
 

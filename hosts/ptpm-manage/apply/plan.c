@@ -188,19 +188,12 @@ static void take_json(struct plan *plan, const struct task *task, const struct p
     if (strcmp(id, plan->id) != 0) refuse("nothing was sent: %s has changed meanwhile", task->plan.word);
 }
 
-static bool has_clock(struct domain domain) {
-    for (size_t i = 0; i < seen_count(); i++) {
-        if (is_same_domain(seen_clock(i)->domain, domain) && seen_clock(i)->answered != 0) return true;
-    }
-    return false;
-}
-
 /* A table of every clock is of those that answer. If none does, the plan has nothing of it. Whether one does in each domain. */
 static bool name_silent_domains(const struct domains *domains) {
     struct domain domain;
     bool is_answered = true;
     for (size_t place = 0; next_domain(domains, &place, &domain);) {
-        if (has_clock(domain)) continue;
+        if (answered_in(domain) > 0) continue;
         complain("no clock answered in domain %u", domain.number);
         is_answered = false;
     }
@@ -348,13 +341,8 @@ static void add_refusal(struct plan *plan, const struct task *task, const char *
 /* What a clock is asked, and the session for it. */
 struct probe { struct task request; struct run *run; size_t number; };
 
-static void take_probe(struct probe *probe, const struct task *task, const struct step *step, uint16_t id, uint16_t port) {
-    probe->request = *task;
-    probe->request.action = PTPM_SET;
-    probe->request.id = id;
-    probe->request.port = port;
-    probe->request.settings.domain = step->domain;
-    memcpy(probe->request.settings.target, step->clock, 8);
+static void take_probe(struct probe *probe, const struct task *task, const struct step *asked) {
+    probe->request = task_of_step(task, asked);
     probe->run = take_run(&probe->request, take_answer);
 }
 
@@ -379,7 +367,11 @@ int probe_clocks(struct plan *plan, const struct task *task) {
     struct probe *probes = needed(calloc(plan->count + 1, sizeof *probes), "the probes");
     if (plan->count > 0) state_folder();
     for (const struct step *first = NULL; (first = next_clock(plan->steps, plan->count, first)) != NULL;) {
-        take_probe(&probes[count++], task, first, PTPM_ID_NULL_PTP_MANAGEMENT, port_of(plan, first));
+        struct step nothing = *first;
+        nothing.id = PTPM_ID_NULL_PTP_MANAGEMENT;
+        nothing.port = port_of(plan, first);
+        nothing.after.size = 0;
+        take_probe(&probes[count++], task, &nothing);
     }
     for (size_t i = 0; i < count && status == ANSWERED; i++) status = end_probe(plan, &probes[i], task);
     free(probes);
@@ -393,10 +385,9 @@ int probe_clocks(struct plan *plan, const struct task *task) {
 
 /* The SET of the value that the member of a step has. */
 static void take_standing(struct probe *probe, const struct task *task, const struct step *step) {
-    struct task valued = *task;
-    valued.size = step->before.size;
-    memcpy(valued.octets, step->before.octets, step->before.size);
-    take_probe(probe, &valued, step, step->id, step->port);
+    struct step standing = *step;
+    standing.after = step->before;
+    take_probe(probe, task, &standing);
 }
 
 static void say_refusal(const struct task *task, const struct step *step) {

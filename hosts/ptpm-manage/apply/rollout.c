@@ -1,18 +1,35 @@
 #include "rollout.h"
 #include "answer.h"
 #include "apply_report.h"
-#include "desk.h"
+#include "driving.h"
+#include "exchange.h"
 #include "marks.h"
 #include "members.h"
+#include "monotonic.h"
 #include "names.h"
 #include "notices.h"
 #include "program.h"
 #include "ptpm_program.h"
+#include "session.h"
 #include "stopping.h"
+#include "transport.h"
+#include "unanswered.h"
+#include "words.h"
 #include <errno.h>
 #include <stdlib.h>
 #include <string.h>
 #include <time.h>
+
+/* A clock that an apply changes: its session, held from the first use to the end, and what becomes of what is asked there. */
+struct desk {
+    struct task task;                   /* what is asked of all clocks, with this one as the target */
+    struct kept_session session;
+    struct driver driver;
+    long step;                          /* what it is asked, or NO_STEP: the request of another program */
+    uint8_t domain;                     /* in which that is asked */
+    bool is_begun_now;                  /* that is a step that this run has begun */
+    bool has_failed;                    /* it gave the latest request no answer */
+};
 
 /* The lanes: the clocks of the steps, in the order of their identities. */
 static struct desk **desks;
@@ -26,9 +43,13 @@ static struct desk *desk_of(const struct step *step) {
     return desks[lane];
 }
 
+/* A question that an earlier run left at another port than that step's is given up. */
 static void take_session(const struct task *task, const struct step *first) {
     struct desk *desk = needed(malloc(sizeof *desk), "the sessions");
-    open_desk(desk, task, first);
+    *desk = (struct desk){ .task = task_of_step(task, first) };
+    open_session(&desk->session, &desk->task);
+    desk->driver = (struct driver){ .asker = &desk->session.asker, .task = &desk->task };
+    if (!desk->session.has_file) desk->driver.opened = milliseconds();
     desks = needed(reallocarray(desks, desk_count + 1, sizeof *desks), "the sessions");
     desks[desk_count++] = desk;
 }
@@ -68,6 +89,128 @@ void leave_sessions(void) {
     free(desks);
     desks = NULL;
     desk_count = 0;
+}
+
+/* ---- events */
+
+/* What an action came to, for the rollout. */
+struct event { struct ptpm_rollout_event said; const uint8_t *octets; size_t size; };
+
+/* One that has only its name. */
+static struct event plain_event(uint32_t what) { return (struct event){ .said = { .what = what } }; }
+
+/* What an answer says. */
+static struct event event_of(const struct answer *answer) {
+    struct event event = plain_event(PTPM_EVENT_VALUE);
+    event.octets = answer->octets;
+    event.size = answer->size;
+    if (answer->outcome == PTPM_REFUSED) event.said = (struct ptpm_rollout_event){ .what = PTPM_EVENT_REFUSED, .error = answer->error };
+    return event;
+}
+
+/* The asker has the session that the file has: nothing was asked there since it was opened. */
+static struct event look_at_desk(const struct desk *desk) {
+    static uint8_t image[PTPM_SESSION_IMAGE_OCTETS];
+    struct event event = plain_event(PTPM_EVENT_FOUND);
+    event.octets = image;
+    if (desk->session.has_file) ptpm_asker_image(&desk->session.asker, image, sizeof image, &event.size);
+    return event;
+}
+
+/* What the answer is that was handed out. That to another program's request is said. */
+static struct event take_answer(struct desk *desk) {
+    static struct answer answer;
+    answer.outcome = ptpm_asker_report(&desk->session.asker, answer.octets, sizeof answer.octets, &answer.size, &answer.error);
+    if (desk->step == NO_STEP) say_settled(&desk->session.earlier, &desk->task, &answer);
+    return event_of(&answer);
+}
+
+static struct event not_saved(const struct desk *desk, struct journal *journal) {
+    const char *why = strerror(errno);
+    if (desk->is_begun_now && desk->driver.sent == 0) journal->told[desk->step].is_unsent = true;
+    complain("%s: %s: %s", desk->session.file->path, why, journal_rest(journal));
+    return plain_event(PTPM_EVENT_NOT_WRITTEN);
+}
+
+/* ---- no answer */
+
+/* What is known of a clock that gave this step no answer. One that moves may be in either domain: nothing is said of it. */
+static void say_silence_at(const struct desk *desk, const struct step *step, bool is_begun) {
+    enum unanswered what = is_begun ? REQUEST : desk->session.has_file ? NUMBER : FIRST_NUMBER;
+    if (step->id == PTPM_ID_DOMAIN) return;
+    struct task asked = task_of_step(&desk->task, step);
+    say_silence(&asked, what, desk->driver.number, desk->session.file->path);
+}
+
+static void say_unanswered(const struct desk *desk, const struct journal *journal, bool is_uncertain) {
+    complain("no answer from %s at %s in domain %u to %ld message%s: %s", identity_text(desk->task.settings.target), transport_name(),
+             desk->domain, desk->driver.sent, desk->driver.sent == 1 ? "" : "s",
+             is_uncertain ? "the step may have been carried out" : "the next step was not sent");
+    if (desk->step == NO_STEP) say_before_steps(&desk->session.earlier, &desk->task);
+    else say_silence_at(desk, &journal->steps[desk->step], is_uncertain);
+}
+
+/* No answer came. If no message of a step left that this run has begun, the session was saved without it. */
+static struct event end_unanswered(struct desk *desk, const struct journal *journal) {
+    const struct driver *driver = &desk->driver;
+    bool is_unsent = desk->is_begun_now && driver->handed.what == PTPM_FAILED && !driver->handed.was_sent;
+    desk->has_failed = true;
+    if (!stopped && !driver->is_way_said) {
+        say_unanswered(desk, journal, desk->step != NO_STEP && is_uncertain(journal, desk->step) && !is_unsent);
+    }
+    return plain_event(is_unsent ? PTPM_EVENT_UNSENT : stopped ? PTPM_EVENT_INTERRUPTED : PTPM_EVENT_SILENT);
+}
+
+/* ---- what is asked */
+
+/* Drives the asker until there is something for the rollout. */
+static struct event drive_on(struct desk *desk, struct journal *journal) {
+    for (;;) {
+        switch (drive(&desk->driver)) {
+        case PTPM_NOTE_BEGUN: return (struct event){ .said = { .what = PTPM_EVENT_BEGINS, .number = desk->driver.handed.number } };
+        case PTPM_NOTE_ANSWER: return take_answer(desk);
+        case PTPM_SAVE_IT:
+            if (!save_session(&desk->session)) return not_saved(desk, journal);
+            if (say_saved(&desk->driver)) return plain_event(PTPM_EVENT_DONE);
+            break;
+        default: return end_unanswered(desk, journal);
+        }
+    }
+}
+
+static void begin_at_desk(struct desk *desk, long step, uint8_t domain) {
+    if (desk->has_failed) renew_session(&desk->session, &desk->task);
+    desk->step = step;
+    desk->domain = domain;
+    desk->is_begun_now = desk->has_failed = false;
+    begin_driving(&desk->driver);
+}
+
+static struct event ask_at_desk(struct desk *desk, struct journal *journal, long step) {
+    struct task request = task_of_step(&desk->task, &journal->steps[step]);
+    begin_at_desk(desk, step, request.settings.domain);
+    ask_request(&desk->driver, (uint64_t)step, &request);
+    return drive_on(desk, journal);
+}
+
+static struct event settle_at_desk(struct desk *desk, struct journal *journal, long step, uint8_t domain) {
+    begin_at_desk(desk, step, step == NO_STEP ? desk->session.earlier.task.settings.domain : domain);
+    settle_request(&desk->driver, 0, domain);
+    return drive_on(desk, journal);
+}
+
+static struct event go_on_at_desk(struct desk *desk, struct journal *journal) {
+    desk->is_begun_now |= desk->driver.handed.what == PTPM_NOTE_BEGUN;
+    if (desk->driver.handed.what == PTPM_NOTE_BEGUN) begin_driving(&desk->driver);
+    say_noted(&desk->driver);
+    return drive_on(desk, journal);
+}
+
+/* Gives up the request that is still in the session, and saves that. Nothing is sent. */
+static struct event let_go_at_desk(struct desk *desk, struct journal *journal) {
+    enum ptpm_asked refusal = ptpm_asker_let_go(&desk->session.asker, &desk->driver.handed);
+    if (refusal != PTPM_ASKED) refuse_to_let_go(refusal, &desk->session.earlier, &desk->task);
+    return drive_on(desk, journal);
 }
 
 /* ---- actions */

@@ -108,16 +108,11 @@ static void print_octets_as_json(FILE *to, const uint8_t *octets, size_t size) {
     putc('"', to);
 }
 
-/* How long the part of a member's name is before its dot: the member is one of a structure then. 0 if it has none. */
-static size_t structure_size(const char *name) {
-    const char *dot = strchr(name, '.');
-    return dot == NULL ? 0 : (size_t)(dot - name);
-}
-
-/* The name of a member, and what comes before it. The members of a structure come one after the other. The answer is how long the
-   name of this member's structure is, 0 if it is in none. `before` is that of the member before it. */
+/* The name of a member, and what comes before it. The name of a structure is before a dot, and its members come one after the other. The
+   answer is how long the name of this member's structure is, 0 if it is in none. `before` is that of the member before it. */
 static size_t print_name_as_json(FILE *to, const char *name, bool is_first, size_t before) {
-    size_t structure = structure_size(name);
+    const char *dot = strchr(name, '.');
+    size_t structure = dot == NULL ? 0 : (size_t)(dot - name);
     if (before > 0 && structure == 0) putc('}', to);
     if (!is_first) putc(',', to);
     if (before == 0 && structure > 0) fprintf(to, "\"%.*s\":{", (int)structure, name);
@@ -143,20 +138,13 @@ void print_members_as_json(FILE *to, const char *name, uint16_t id, const uint8_
     fputs(structure > 0 ? "}}" : "}", to);
 }
 
-/* Who answers what: the head of the object. */
-static void print_source_as_json(FILE *to, const struct task *task, const struct ptpm_source *source) {
-    const char *id = read_id_name(task->id);
-    fprintf(to, "{\"domainNumber\":%u,\"clockIdentity\":\"%s\",\"portNumber\":", task->settings.domain, identity_text(source->clock));
+void print_source_as_json(FILE *to, unsigned domain, const struct ptpm_source *source, uint16_t id) {
+    const char *named = read_id_name(id);
+    fprintf(to, "\"domainNumber\":%u,\"clockIdentity\":\"%s\",\"portNumber\":", domain, identity_text(source->clock));
     if (source->port == 0) fputs("null", to);
     else fprintf(to, "%u", source->port);
-    if (id != NULL) fprintf(to, ",\"managementId\":\"%s\"", id);
-    else fprintf(to, ",\"managementId\":\"%04x\"", task->id);
-}
-
-static void print_field_as_json(FILE *to, const struct task *task, const struct answer *answer) {
-    fputs(",\"status\":\"answered\",", to);
-    if (task->is_in_octets) print_octets_as_json(to, answer->octets, answer->size);
-    else print_members_as_json(to, "members", task->id, answer->octets, answer->size);
+    if (named != NULL) fprintf(to, ",\"managementId\":\"%s\"", named);
+    else fprintf(to, ",\"managementId\":\"%04x\"", id);
 }
 
 void print_answer_as_json(FILE *to, const struct task *task, const struct ptpm_source *source, const struct answer *answer) {
@@ -165,10 +153,13 @@ void print_answer_as_json(FILE *to, const struct task *task, const struct ptpm_s
         complain("nothing is reported: %s", answer_name(answer->outcome));
         return;
     }
-    print_source_as_json(to, task, source);
+    putc('{', to);
+    print_source_as_json(to, task->settings.domain, source, task->id);
     if (answer->outcome == PTPM_DONE) fputs(",\"status\":\"done\"", to);
     else if (answer->outcome == PTPM_REFUSED) fprintf(to, ",\"status\":\"refused\",\"managementErrorId\":\"%s\"", error_text(answer->error));
-    else print_field_as_json(to, task, answer);
+    else fputs(",\"status\":\"answered\",", to);
+    if (answer->outcome == PTPM_VALUE && task->is_in_octets) print_octets_as_json(to, answer->octets, answer->size);
+    else if (answer->outcome == PTPM_VALUE) print_members_as_json(to, "members", task->id, answer->octets, answer->size);
     fputs(is_other(task, answer) ? ",\"isAsAsked\":false}\n" : "}\n", to);
 }
 
@@ -209,14 +200,6 @@ void say_other(const struct task *task, const struct answer *answer) {
 
 enum { NOT_SUPPORTED = 6 };         /* a managementErrorId (15.5.4.3) */
 
-/* Prints the answer of the clock that is asked. If no port of it is named, any of them may have answered. */
-static void print_own_answer(const struct task *task, const struct answer *answer) {
-    struct ptpm_source source = { .port = task->port };
-    memcpy(source.clock, task->settings.target, sizeof source.clock);
-    if (task->is_json) print_answer_as_json(stdout, task, &source, answer);
-    else print_answer(stdout, task, "", answer);
-}
-
 void say_of_ptp4l(uint16_t error) {
     static bool is_said;
     if (error != NOT_SUPPORTED || is_said) return;
@@ -235,8 +218,12 @@ void say_right(const struct task *task, uint16_t error) {
     say_of_ptp4l(error);
 }
 
+/* If no port of the clock is named, any of them may have answered. */
 int print_report(const struct task *task, const struct answer *answer) {
-    print_own_answer(task, answer);
+    struct ptpm_source source = { .port = task->port };
+    memcpy(source.clock, task->settings.target, sizeof source.clock);
+    if (task->is_json) print_answer_as_json(stdout, task, &source, answer);
+    else print_answer(stdout, task, "", answer);
     if (fflush(stdout) || ferror(stdout)) return NOT_WRITTEN;
     if (is_other(task, answer)) {
         say_other(task, answer);

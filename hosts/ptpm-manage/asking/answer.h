@@ -20,6 +20,9 @@ void print_answer(FILE *to, const struct task *task, const char *lead, const str
    nobody knows which one answered. */
 void print_answer_as_json(FILE *to, const struct task *task, const struct ptpm_source *source, const struct answer *answer);
 
+/* Prints members of such an object: who answers, or is asked, for an id. */
+void print_source_as_json(FILE *to, unsigned domain, const struct ptpm_source *source, uint16_t id);
+
 /* Prints what the dataField of an id says as JSON: a name, such as `"members":`, and an object of the members by their names. A
    dataField that is not known is `"dataField":` and its octets in hexadecimal. */
 void print_members_as_json(FILE *to, const char *name, uint16_t id, const uint8_t *octets, size_t size);

@@ -1,4 +1,3 @@
-#include "asking.h"
 #include "answer.h"
 #include "exchange.h"
 #include "message_places.h"
@@ -8,6 +7,7 @@
 #include "stopping.h"
 #include "transport.h"
 #include "unanswered.h"
+#include "verbs.h"
 #include "words.h"
 #include <stdbool.h>
 #include <stdio.h>
@@ -123,22 +123,11 @@ static int end_of_survey(const struct task *task, long sent, long lost) {
     return stopped ? BY_SIGNAL + stopped : ANSWERED;
 }
 
-static uint32_t start_survey(const struct task *task, const struct ptpm_survey_settings *settings) {
-    if (task->is_of_clock) return ptpm_survey_start_at(&survey, settings, task->settings.target);
-    return ptpm_survey_start(&survey, settings);
-}
-
 int ask_every_port(const struct task *task) {
-    struct ptpm_survey_settings settings = {
-        .port = task->settings.port, .number = task->settings.first, .id = task->id, .domain = task->settings.domain,
-        .hops = task->settings.hops,
-    };
     static uint8_t message[PTPM_MOST_OCTETS];
     size_t size;
     long sent = 0, lost = 0;
-    memcpy(settings.clock, task->settings.clock, sizeof settings.clock);
-    uint32_t refusal = start_survey(task, &settings);
-    if (refusal == PTPM_STARTED) refusal = ptpm_survey_send(&survey, message, sizeof message, &size);
+    uint32_t refusal = start_survey(&survey, task, task->settings.first, task->id, task->settings.domain, message, &size);
     if (refusal != PTPM_SENT) return not_asked(refusal);
     for (int attempt = 1, quiet = 0; attempt <= task->settings.attempts && !stopped; attempt++) {
         if (quiet >= (ptpm_survey_count(&survey) > 0 ? QUIET : QUIET_AT_FIRST)) break;

@@ -24,6 +24,17 @@ enum ptpm_begun begin_of_task(struct ptpm_session *session, const struct task *t
     return ptpm_session_begin_at(session, task->action, task->id, port, task->octets, task->size);
 }
 
+uint32_t start_survey(struct ptpm_survey *survey, const struct task *task, uint16_t number, uint16_t id, uint8_t domain,
+                      uint8_t message[PTPM_MOST_OCTETS], size_t *size) {
+    struct ptpm_survey_settings settings = {
+        .port = task->settings.port, .number = number, .id = id, .domain = domain, .hops = task->settings.hops,
+    };
+    memcpy(settings.clock, task->settings.clock, sizeof settings.clock);
+    uint32_t refusal = task->is_of_clock ? ptpm_survey_start_at(survey, &settings, task->settings.target)
+                                         : ptpm_survey_start(survey, &settings);
+    return refusal == PTPM_STARTED ? ptpm_survey_send(survey, message, PTPM_MOST_OCTETS, size) : refusal;
+}
+
 /* Outside of the session its last port and the one that is named in its place are swapped. */
 static void swap_port(uint8_t *at) {
     uint16_t port = number_at(at);

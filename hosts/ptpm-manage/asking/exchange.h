@@ -18,6 +18,11 @@ bool is_beyond_session(uint16_t port);
    out, and gives it back in what comes in. What the library answers. */
 enum ptpm_begun begin_of_task(struct ptpm_session *session, const struct task *task);
 
+/* Starts a survey of every port of every clock, or of the task's clock: with this number, for an id, in a domain. Writes its message.
+   PTPM_SENT, or why the library would not ask. */
+uint32_t start_survey(struct ptpm_survey *survey, const struct task *task, uint16_t number, uint16_t id, uint8_t domain,
+                      uint8_t message[PTPM_MOST_OCTETS], size_t *size);
+
 /* Sends the session's request once more, which uses one of its attempts: NONE_LEFT if there is none. */
 enum sending send_again(struct ptpm_session *session);
 

@@ -83,7 +83,10 @@ static void advise(const struct task *task, enum unanswered what) {
     if (task->port > 1) complain("numberPorts of get DEFAULT_DATA_SET shows whether the clock has a port %u", task->port);
     if (hops < SITE_HOPS) complain("a clock past more than %u boundary clock%s was not asked: --hops %d asks as far as status does",
                                    hops, hops == 1 ? "" : "s", SITE_HOPS);
-    if (task->path != NULL) return;
+    if (task->path != NULL) {
+        complain("a clock with a transportSpecific, or in another domain, was not asked%s", end);
+        return;
+    }
     if (task->port == 0) complain("a clock that answers only if its port is named, such as a ptpd, is asked with --port 1");
     complain("survey DEFAULT_DATA_SET shows which clocks are in that domain%s", end);
     advise_on_way(task);

@@ -1,4 +1,5 @@
 #include "collect.h"
+#include "exchange.h"
 #include "heard.h"
 #include "message_places.h"
 #include "monotonic.h"
@@ -8,7 +9,7 @@
 #include "stopping.h"
 #include "transport.h"
 #include "unanswered.h"
-#include "untaken.h"
+#include "verbs.h"
 #include "words.h"
 #include <stdbool.h>
 #include <stdlib.h>
@@ -92,22 +93,15 @@ static bool is_of_port(unsigned id) {
 /* Starts a request; whether the library would ask it. If not, that is said. */
 static bool start_request(const struct task *task, struct domain domain, unsigned id, bool is_census) {
     struct request *request = &requests[request_count];
-    struct ptpm_survey_settings settings = {
-        .port = task->settings.port, .number = next_number(), .id = is_census ? PTPM_ID_DEFAULT_DATA_SET : collected->ids[id],
-        .domain = domain.number, .hops = task->settings.hops,
-    };
-    memcpy(settings.clock, task->settings.clock, sizeof settings.clock);
-    uint32_t refusal = ptpm_survey_start(&request->survey, &settings);
-    if (refusal == PTPM_STARTED) {
-        refusal = ptpm_survey_send(&request->survey, request->message, sizeof request->message, &request->size);
-    }
+    uint16_t what = is_census ? PTPM_ID_DEFAULT_DATA_SET : collected->ids[id];
+    request->number = next_number();
+    uint32_t refusal = start_survey(&request->survey, task, request->number, what, domain.number, request->message, &request->size);
     if (refusal != PTPM_SENT) {
         complain("nothing was asked: %s", answer_name(refusal));
         return false;
     }
     write_sdo(request->message, domain.sdo);
     ask_as(request->message + SOURCE_AT);
-    request->number = settings.number;
     request->domain = domain;
     request->asked_at = milliseconds();
     request->is_census = is_census;
@@ -119,12 +113,6 @@ static bool start_request(const struct task *task, struct domain domain, unsigne
 /* Stops those from a place on. */
 static void stop_requests(size_t first) {
     while (request_count > first) ptpm_survey_stop(&requests[--request_count].survey);
-}
-
-/* FNV-1a. */
-static uint64_t sum_of(uint64_t sum, const void *octets, size_t size) {
-    for (size_t i = 0; i < size; i++) sum = (sum ^ ((const uint8_t *)octets)[i]) * 0x100000001b3;
-    return sum;
 }
 
 /* The sum of what copies of an answer have in common: who sent it, the interface, the action and the TLV. */
@@ -419,19 +407,10 @@ struct rounds {
 /* When the latest round may end. */
 static int64_t least_end(const struct rounds *rounds) { return rounds->begun + (rounds->round + 1) * (is_site() ? ROUND : ROUND_OF_PLAN); }
 
-/* How many clocks of a domain have answered more than a census. */
-static size_t found_in(struct domain domain) {
-    size_t found = 0;
-    for (size_t place = 0; place < seen_count(); place++) {
-        found += is_same_domain(seen_clock(place)->domain, domain) && seen_clock(place)->answered != 0;
-    }
-    return found;
-}
-
 /* Whether fewer clocks have answered in one of these domains than the file says. */
 static bool is_short(const struct rounds *rounds) {
     for (size_t i = 0; i < rounds->count; i++) {
-        if (found_in(rounds->domains[i]) < collected->clocks[rounds->domains[i].number]) return true;
+        if (answered_in(rounds->domains[i]) < collected->clocks[rounds->domains[i].number]) return true;
     }
     return false;
 }
@@ -440,7 +419,7 @@ static bool is_short(const struct rounds *rounds) {
    brought no other clock. */
 static bool is_counted(const struct rounds *rounds) {
     for (size_t i = 0; i < rounds->count; i++) {
-        size_t found = found_in(rounds->domains[i]);
+        size_t found = answered_in(rounds->domains[i]);
         if (found == 0 || found != collected->clocks[rounds->domains[i].number]) return false;
     }
     return is_whole();
@@ -462,22 +441,13 @@ static void hear_rest(const struct rounds *rounds) {
     while (!stopped && milliseconds() < end && (waits || !is_whole())) hear_until(milliseconds() + STEP < end ? milliseconds() + STEP : end);
 }
 
-/* Starts the requests of this many censuses; whether the library would ask them. */
-static bool start_censuses(const struct task *task, const struct rounds *rounds, unsigned censuses) {
-    for (unsigned census = 0; census < censuses; census++) {
-        for (size_t i = 0; i < rounds->count; i++) {
-            if (!start_request(task, rounds->domains[i], census, true)) return false;
-        }
-    }
-    return true;
-}
-
 /* Asks every clock whether it is there; in how many censuses. Without memory it is none, and no other round has one. */
 static unsigned take_census(const struct task *task, struct rounds *rounds) {
     size_t first = request_count;
     unsigned censuses = lost_share() > 0 ? CENSUSES_OF_LOSSY : 1;
     int64_t next = milliseconds();
-    if (!start_censuses(task, rounds, censuses)) {
+    for (size_t i = 0; i < censuses * rounds->count; i++) {
+        if (start_request(task, rounds->domains[i % rounds->count], (unsigned)(i / rounds->count), true)) continue;
         rounds->round = MOST_ROUNDS;
         return 0;
     }
@@ -564,7 +534,8 @@ static void advise_on_sdo(const struct domains *domains, const char *verb) {
 /* In what else clocks may be. A plan names its domains itself: there these are options of another verb. */
 static void advise_on_domains(const struct task *task, const struct domains *domains) {
     const char *verb = task->plan.verb == NO_PLAN ? "" : "status ";
-    if (!task->site.is_every_domain) complain("%s--domain all asks in each domain in which a clock is heard", verb);
+    if (task->path != NULL) complain("a clock in another domain or sdoId was not asked: %s--domain 0-127 and --sdo 0x100 ask there", verb);
+    else if (!task->site.is_every_domain) complain("%s--domain all asks in each domain in which a clock is heard", verb);
     if (!task->site.is_every_sdo) advise_on_sdo(domains, verb);
 }
 

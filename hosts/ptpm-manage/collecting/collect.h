@@ -27,6 +27,3 @@ void tell_lacking(void);
 
 /* What is known of the latest collection. It is there until the next one. */
 const struct sureness *sureness_of_collection(void);
-
-/* Carries out `collect`; the program's status. */
-int collect(const struct task *task);

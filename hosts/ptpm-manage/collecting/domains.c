@@ -4,7 +4,6 @@
 #include "monotonic.h"
 #include "notices.h"
 #include "transport.h"
-#include "untaken.h"
 #include <string.h>
 
 /* The standard's default, and that of SMPTE ST 2059-2. */

@@ -5,7 +5,9 @@
 #include "notices.h"
 #include "program.h"
 #include "random.h"
+#include "seen.h"
 #include "transport.h"
+#include "words.h"
 #include <net/if.h>
 #include <stdlib.h>
 #include <string.h>
@@ -13,10 +15,10 @@
 /* versionPTP, the messageTypes beside Announce, and how many octets these messages have at least (IEEE 1588-2019, 13.3 to 13.7). */
 enum { VERSION = 2, SYNC = 0, DELAY_REQ = 1, FOLLOW_UP = 8, TIMED_SIZE = 44, ANNOUNCE_SIZE = 64 };
 
-/* Room for messages of this many ports, and for the Delay_Req of this many clocks. Three quarters of the places stay free. No longer message
-   is kept. */
+/* Room for messages of this many ports, for the Delay_Req of this many clocks, and for answers that are not taken. Three quarters of the
+   places stay free. No longer message is kept. */
 enum { MOST_OF_PORTS = 1024, MOST_OF_CLOCKS = 4096, MOST_KEPT_MESSAGES = 3 * MOST_OF_PORTS + MOST_OF_CLOCKS, PLACES = 32768 };
-enum { MOST_OCTETS_KEPT = 1500, MOST_SENDER = 64 };
+enum { MOST_UNTAKEN = 64, MOST_OCTETS_KEPT = 1500, MOST_SENDER = 64 };
 
 /* A message is sent again after two to its logMessageInterval, in seconds (13.3.2.14). What is less than a second counts as one, and what
    is more than the standard's greatest of an Announce as that. So does 0x7F, by which a Delay_Req says nothing. */
@@ -25,8 +27,8 @@ enum { SENDINGS = 4, SECOND = 1000000000, MOST_INTERVAL = 4 };
 struct kept {
     int64_t at;                 /* when it was heard */
     bool is_written;
+    enum untaken why;           /* of an answer */
     char from[MOST_SENDER], on[IF_NAMESIZE];
-    uint8_t clock[CLOCK_IDENTITY];
     size_t size;
     uint8_t *message;
 };
@@ -53,6 +55,26 @@ static enum heard_type heard_type(const uint8_t *message) {
     }
 }
 
+/* Keeps the message that came in last. */
+static void keep(struct kept *kept, const uint8_t *message, size_t size) {
+    kept->at = nanoseconds();
+    kept->is_written = false;
+    kept->size = size;
+    kept->message = needed(realloc(kept->message, size), "what is heard");
+    memcpy(kept->message, message, size);
+    snprintf(kept->from, sizeof kept->from, "%s", sender_text());
+    snprintf(kept->on, sizeof kept->on, "%s", came_in_at() == NULL ? "" : came_in_at());
+}
+
+static void write_kept(FILE *to, const struct kept *kept, const char *taken) {
+    write_line(to, &(struct message_line){
+        .at = kept->at, .from = kept->from, .on = *kept->on == '\0' ? NULL : kept->on, .taken = taken, .message = kept->message,
+        .size = kept->size,
+    });
+}
+
+/* ---- what clocks send by themselves */
+
 /* Whether it is a message that is kept, whole and of this version. */
 static bool is_to_keep(const uint8_t *datagram, size_t size) {
     if (size < TIMED_SIZE || heard_type(datagram) == HEARD_TYPES || (datagram[VERSION_AT] & LOWER_HALF) != VERSION) return false;
@@ -69,16 +91,10 @@ static bool is_like(const uint8_t *one, const uint8_t *other) {
            && memcmp(one + SOURCE_AT, other + SOURCE_AT, source_size(one)) == 0;
 }
 
-/* FNV-1a, from the seed on. */
-static uint64_t add_octets(uint64_t sum, const uint8_t *octets, size_t size) {
-    for (size_t i = 0; i < size; i++) sum = (sum ^ octets[i]) * 0x100000001b3;
-    return sum;
-}
-
 /* The place that a message has, or may take. */
 static size_t place_of(const uint8_t *message) {
     uint8_t head[] = { message[TYPE_AT], message[DOMAIN_AT], message[SDO_AT] };
-    uint64_t sum = add_octets(add_octets(seed, head, sizeof head), message + SOURCE_AT, source_size(message));
+    uint64_t sum = sum_of(sum_of(seed, head, sizeof head), message + SOURCE_AT, source_size(message));
     size_t place = (sum ^ sum >> 32) % PLACES;
     while (places[place] != 0 && !is_like(all[places[place] - 1].message, message)) place = (place + 1) % PLACES;
     return place;
@@ -131,18 +147,8 @@ static struct kept *find_kept(const uint8_t *message) {
 bool keep_heard(const uint8_t *datagram, size_t size) {
     if (!came_from_asked() || !is_to_keep(datagram, size)) return false;
     struct kept *kept = find_kept(datagram);
-    if (kept == NULL) {
-        dropped[heard_type(datagram)]++;
-        return true;
-    }
-    kept->at = nanoseconds();
-    kept->is_written = false;
-    kept->size = length_of(datagram);
-    kept->message = needed(realloc(kept->message, kept->size), "what is heard");
-    memcpy(kept->message, datagram, kept->size);
-    memcpy(kept->clock, datagram + SOURCE_AT, sizeof kept->clock);
-    snprintf(kept->from, sizeof kept->from, "%s", sender_text());
-    snprintf(kept->on, sizeof kept->on, "%s", came_in_at() == NULL ? "" : came_in_at());
+    if (kept == NULL) dropped[heard_type(datagram)]++;
+    else keep(kept, datagram, length_of(datagram));
     return true;
 }
 
@@ -150,7 +156,7 @@ const uint8_t *heard_clock(size_t place, struct domain *domain) {
     for (size_t i = 0; i < kept_count; i++) {
         if (type_of(all[i].message) == DELAY_REQ || place-- > 0) continue;
         *domain = domain_of(all[i].message);
-        return all[i].clock;
+        return all[i].message + SOURCE_AT;
     }
     return NULL;
 }
@@ -174,12 +180,66 @@ static void tell_unheard(void) {
 
 void write_heard(FILE *to, bool is_of_all) {
     for (size_t i = 0; i < kept_count; i++) {
-        struct kept *one = &all[i];
-        if (one->is_written && !is_of_all) continue;
-        one->is_written = true;
-        write_line(to, &(struct message_line){
-            .at = one->at, .from = one->from, .on = *one->on == '\0' ? NULL : one->on, .message = one->message, .size = one->size,
-        });
+        if (all[i].is_written && !is_of_all) continue;
+        all[i].is_written = true;
+        write_kept(to, &all[i], NULL);
     }
     if (!is_of_all) tell_unheard();
+}
+
+/* ---- answers that are not taken */
+
+static struct kept untaken[MOST_UNTAKEN];
+static size_t untaken_count;
+static unsigned long without_room;
+static uint8_t asker[PORT_IDENTITY];
+
+void ask_as(const uint8_t source[10]) { memcpy(asker, source, sizeof asker); }
+
+static bool is_answer(const uint8_t *datagram, size_t size) {
+    return size > ACTION_AT && type_of(datagram) == MANAGEMENT_TYPE && (datagram[ACTION_AT] & LOWER_HALF) == RESPONSE
+           && memcmp(datagram + TARGET_AT, asker, sizeof asker) == 0;
+}
+
+static bool is_seen_by_now(const uint8_t *message) { return is_seen(domain_of(message), message + SOURCE_AT); }
+
+static bool is_of_clock(const uint8_t *one, const uint8_t *other) {
+    return is_same_domain(domain_of(one), domain_of(other)) && memcmp(one + SOURCE_AT, other + SOURCE_AT, CLOCK_IDENTITY) == 0;
+}
+
+static struct kept *find_untaken(enum untaken why, const uint8_t *datagram) {
+    for (size_t i = 0; i < untaken_count; i++) {
+        if (untaken[i].why == why && is_of_clock(untaken[i].message, datagram)) return &untaken[i];
+    }
+    return untaken_count < MOST_UNTAKEN ? &untaken[untaken_count++] : NULL;
+}
+
+void note_untaken(enum untaken why, const uint8_t *datagram, size_t size) {
+    if (!is_answer(datagram, size) || is_seen_by_now(datagram)) return;
+    struct kept *kept = find_untaken(why, datagram);
+    without_room += kept == NULL;
+    if (kept == NULL) return;
+    kept->why = why;
+    keep(kept, datagram, size < MOST_OCTETS_KEPT ? size : MOST_OCTETS_KEPT);
+}
+
+void tell_late(const struct task *task) {
+    static bool is_told;
+    for (size_t i = 0; i < untaken_count && !is_told; i++) {
+        if (untaken[i].why != LATE || is_seen_by_now(untaken[i].message)) continue;
+        is_told = true;
+        complain("an answer from %s came too late, and is ignored: --timeout waits longer for each answer, %ld ms here",
+                 identity_text(untaken[i].message + SOURCE_AT), task->timeout);
+    }
+}
+
+void write_untaken(FILE *to) {
+    static const char *const words[] = { "off_link", "late", "unreadable" };
+    for (size_t i = 0; i < untaken_count; i++) {
+        if (!is_seen_by_now(untaken[i].message)) write_kept(to, &untaken[i], words[untaken[i].why]);
+    }
+    if (without_room > 0) complain("%lu more ignored answers have no line", without_room);
+    add_unseen(without_room);
+    untaken_count = 0;
+    without_room = 0;
 }

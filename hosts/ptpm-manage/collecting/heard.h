@@ -1,9 +1,11 @@
-/* What clocks send by themselves, heard while a site is asked, or between two times. These are the latest Announce, Sync and Follow_Up of each
-   port, and the latest Delay_Req of each clock. So a clock shows itself that answers no management message. Strangers may send without end. So
-   each type has room for a number of messages, which no other type takes, and what comes after that is counted. */
+/* What comes in while a site is asked, or between two times, beside answers that are taken. Strangers may send without end. So there is
+   room for a number of messages of each type, which no other type takes, and what comes after that is counted.
+   Clocks send by themselves: of that the latest Announce, Sync and Follow_Up of each port are kept, and the latest Delay_Req of each
+   clock. So a clock shows itself that answers no management message. */
 #pragma once
 
 #include "domains.h"
+#include "task.h"
 #include <stdbool.h>
 #include <stddef.h>
 #include <stdint.h>
@@ -29,3 +31,20 @@ void write_heard(FILE *to, bool is_of_all);
 /* The types, and how many messages of each found no room for the latest collection. */
 enum heard_type { ANNOUNCES, SYNCS, FOLLOW_UPS, DELAY_REQS, HEARD_TYPES };
 unsigned long unheard(enum heard_type type);
+
+/* Why an answer was not taken. Its sender's address is not on the link; it came when its request was asked no more; or the library can't
+   read it. */
+enum untaken { OFF_LINK, LATE, UNREADABLE };
+
+/* From now on this sourcePortIdentity asks. */
+void ask_as(const uint8_t source[10]);
+
+/* Notes the datagram that came in last, if it is an answer to that one by a clock that is not seen. Of each clock the latest of each kind
+   is kept. */
+void note_untaken(enum untaken why, const uint8_t *datagram, size_t size);
+
+/* Says once that a clock answers late, if it is not seen. */
+void tell_late(const struct task *task);
+
+/* Writes a line of each whose clock is not seen, and forgets them. Those that found no room are among the unseen answers then. */
+void write_untaken(FILE *to);

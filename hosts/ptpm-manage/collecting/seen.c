@@ -153,6 +153,14 @@ size_t seen_count(void) { return clock_count; }
 
 const struct seen_clock *seen_clock(size_t place) { return &clocks[place]; }
 
+size_t answered_in(struct domain domain) {
+    size_t count = 0;
+    for (const struct seen_clock *clock = clocks; clock < clocks + clock_count; clock++) {
+        count += is_same_domain(clock->domain, domain) && clock->answered != 0;
+    }
+    return count;
+}
+
 bool is_lacking(const struct seen_clock *clock, unsigned id, bool is_of_port) {
     if (clock->is_let_go) return false;
     if ((clock->answered >> id & 1) == 0) return true;

@@ -40,6 +40,12 @@ struct seen_answer {
     uint64_t sum;
 };
 
+/* FNV-1a of octets, from a sum on. */
+static inline uint64_t sum_of(uint64_t sum, const void *octets, size_t size) {
+    for (size_t i = 0; i < size; i++) sum = (sum ^ ((const uint8_t *)octets)[i]) * 0x100000001b3;
+    return sum;
+}
+
 /* What an answer is. It is the first of its clock, id and port; or one that differs from that first; or a copy, or one more
    that differs. Or there is no room for it. */
 enum seen { FIRST_SEEN, DIFFERENT, SEEN_BEFORE, NO_PLACE };
@@ -62,6 +68,9 @@ bool is_seen(struct domain domain, const uint8_t clock[8]);
 /* The clocks, in the order in which they came. */
 size_t seen_count(void);
 const struct seen_clock *seen_clock(size_t place);
+
+/* How many clocks of a domain have answered more than a census. */
+size_t answered_in(struct domain domain);
 
 /* Whether it lacks an answer: one to the id at this place, or, to an id of a port, that of one of its ports. One that is asked no
    more lacks none. */

@@ -14,20 +14,14 @@ bool can_only_be_read(uint16_t id) {
            id == PTPM_ID_TIME_PROPERTIES_DATA_SET || id == PTPM_ID_PORT_DATA_SET;
 }
 
-bool has_no_member(uint16_t id) {
+/* Whether words of this size, each with a zero octet after it, are a dataField of an id. */
+static bool is_field(uint16_t id, const char *words, size_t size) {
     uint8_t octets[PTPM_MOST_READ];
     size_t count, place;
-    return ptpm_field_parse(id, "", 0, octets, sizeof octets, &count, &place) == PTPM_PARSED;
+    return ptpm_field_parse(id, words, size, octets, sizeof octets, &count, &place) == PTPM_PARSED;
 }
 
-/* The member at a place, from 0 on; whether there is one. */
-static bool member_at(struct field_lines *lines, uint16_t id, size_t place, struct member *member) {
-    start_members(lines, id);
-    while (next_member(lines, member)) {
-        if (place-- == 0) return true;
-    }
-    return false;
-}
+bool has_no_member(uint16_t id) { return is_field(id, "", 0); }
 
 static size_t count_members(uint16_t id) {
     struct field_lines lines;
@@ -50,16 +44,9 @@ bool is_member(uint16_t id, const char *word) {
     return false;
 }
 
-/* Whether a single word is the value of the one member of an id. */
-static bool is_value(uint16_t id, const char *word) {
-    uint8_t octets[PTPM_MOST_READ];
-    size_t count, place;
-    return ptpm_field_parse(id, word, strlen(word) + 1, octets, sizeof octets, &count, &place) == PTPM_PARSED;
-}
-
 size_t most_words(uint16_t id, const char *first) {
     size_t members = count_members(id);
-    bool is_one_word = members == 0 || (!is_member(id, first) && is_value(id, first));
+    bool is_one_word = members == 0 || (!is_member(id, first) && is_field(id, first, strlen(first) + 1));
     return is_one_word ? 1 : 2 * members;
 }
 
@@ -91,7 +78,8 @@ static _Noreturn void refuse_count(const struct typed *typed) {
 static _Noreturn void refuse_words(const struct typed *typed, enum ptpm_parsed why, size_t place) {
     struct field_lines lines;
     struct member member = { "", "" };
-    member_at(&lines, typed->id, place, &member);
+    start_members(&lines, typed->id);
+    for (size_t i = 0; i <= place && next_member(&lines, &member); i++) continue;
     switch (why) {
     case PTPM_NO_VALUE: refuse_value(typed, place);
     case PTPM_OTHER_NAME: refuse("set %s %s: the member that comes next is %s", typed->named, typed->words[2 * place], member.name);

@@ -143,36 +143,26 @@ static int ask_clock(struct run *run) {
     return status;
 }
 
-static void open_run(struct run *run, const struct task *task, reporting *report) {
-    *run = (struct run){ .task = task, .report = report, .driver = { .asker = &run->session.asker, .task = task } };
-    open_session(&run->session, task);
-}
-
-static int finish_run(struct run *run) {
-    int status = settle_earlier(run);
-    if (status == ANSWERED) status = ask_clock(run);
-    ptpm_asker_stop(&run->session.asker);
-    return status;
-}
-
 /* It has its turn before its socket, so nothing of another run comes in there. */
 int ask_in_session(const struct task *task) {
-    static struct run run;
-    open_run(&run, task, print_report);
+    struct run *run = take_run(task, print_report);
     open_transport(task);
-    return finish_run(&run);
+    return end_run(run);
 }
 
 struct run *take_run(const struct task *task, reporting *report) {
     struct run *run = needed(malloc(sizeof *run), "a session");
-    open_run(run, task, report);
+    *run = (struct run){ .task = task, .report = report, .driver = { .asker = &run->session.asker, .task = task } };
+    open_session(&run->session, task);
     if (!run->session.has_file) run->driver.opened = milliseconds();
     return run;
 }
 
 int end_run(struct run *run) {
     name_session_file(run->session.file);
-    int status = finish_run(run);
+    int status = settle_earlier(run);
+    if (status == ANSWERED) status = ask_clock(run);
+    ptpm_asker_stop(&run->session.asker);
     free(run);
     return status;
 }

@@ -176,16 +176,8 @@ static size_t find_folder(void) {
     return 0;
 }
 
-/* The same; ends the program with status 2 if no variable names it. */
-static size_t write_folder(void) {
-    size_t size = find_folder();
-    if (size == 0) refuse("the request was not sent: neither XDG_STATE_HOME nor HOME names a folder for the session; %s", elsewhere());
-    return size;
-}
-
 /* Adds the name of the session's file to the path of its folder; how many octets there are then, or would be. */
 static size_t add_name(size_t size, const struct ptpm_session_settings *settings) {
-    if (size >= sizeof usual_path) return size;
     return size + (size_t)snprintf(usual_path + size, sizeof usual_path - size, "/%s-%u.%s", identity_text(settings->clock), settings->port,
                                    identity_text(settings->target));
 }
@@ -208,10 +200,18 @@ static void make_parents(void) {
     }
 }
 
+/* The same, and the folders above it are there then. */
+static size_t make_folder(void) {
+    size_t size = find_folder();
+    if (size == 0) refuse("the request was not sent: neither XDG_STATE_HOME nor HOME names a folder for the session; %s", elsewhere());
+    if (size >= sizeof usual_path) refuse_long_path();
+    make_parents();
+    return size;
+}
+
 const char *state_folder(void) {
     is_of_plan = true;
-    if (write_folder() >= sizeof usual_path) refuse_long_path();
-    make_parents();
+    make_folder();
     return usual_path;
 }
 
@@ -221,13 +221,12 @@ const char *named_state_folder(void) {
 }
 
 const char *usual_file(const struct ptpm_session_settings *settings) {
-    size_t size = write_folder();
-    if (size < sizeof usual_path) make_parents();
-    if (add_name(size, settings) >= sizeof usual_path) refuse_long_path();
+    if (add_name(make_folder(), settings) >= sizeof usual_path) refuse_long_path();
     return usual_path;
 }
 
 void refuse_usual_mark(const struct ptpm_session_settings *settings) {
     size_t size = find_folder();
-    if (size > 0 && add_name(size, settings) < sizeof usual_path) refuse_open_mark(usual_path);
+    bool is_named = size > 0 && size < sizeof usual_path && add_name(size, settings) < sizeof usual_path;
+    if (is_named) refuse_open_mark(usual_path);
 }

@@ -78,7 +78,7 @@ enum { STOPS = sizeof stops / sizeof *stops };
 
 static void run_command(char *words) {
     static const struct command *const tables[] = {
-        own_commands, clock_commands, device_commands, damage_commands, session_commands, survey_commands, asker_commands, seal_commands,
+        own_commands, clock_commands, device_commands, damage_commands, session_commands, survey_commands, asker_commands,
         journal_commands, rollout_commands, text_commands,
     };
     const char *name = next_word(&words);

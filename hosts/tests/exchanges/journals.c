@@ -1,4 +1,5 @@
-/* Commands of a journal. A record is said by its members, as it is given. */
+/* Commands of a journal, whose records are said by their members, as they are given. And commands of the seal of an image, and of the
+   newest of several images. */
 #include "commands.h"
 #include <string.h>
 
@@ -84,6 +85,42 @@ static void run_mark(char *words) {
     say("%s\n", marks[ptpm_journal_mark(&journal, (uint16_t)next_number(&words, 0))]);
 }
 
+/* `seal COUNT OCTETS`. There is room for exactly image and seal, unless it is given. */
+static void run_seal(char *words) {
+    static uint8_t before[MOST_OCTETS];
+    size_t sealed = 1, octets = next_room(&words, 0);
+    uint64_t count = (uint64_t)next_number(&words, 0);
+    read_octets(&words, &given);
+    if (octets == 0) octets = given.size + PTPM_SEAL_OCTETS;
+    clear_room();
+    memcpy(room, given.at, given.size);
+    memcpy(before, room, sizeof before);
+    uint32_t answer = ptpm_image_seal(room, given.size, octets, count, &sealed);
+    put_name("SEALED", room, sealed);
+    if (answer == PTPM_SAVED) say_written(answer, "SAVED", sealed, say_octets);
+    else say("%s\n%s", answer_name(answer, "SAVED"), sealed == 0 && memcmp(room, before, sizeof before) == 0 ? "" : "it writes\n");
+}
+
+/* `unseal OCTETS`: how many octets the image has, and how often it was saved. */
+static void run_unseal(char *words) {
+    uint64_t count = 0xee;
+    size_t image = 0xee;
+    read_octets(&words, &given);
+    uint32_t answer = ptpm_image_unseal(given.at, given.size, &count, &image);
+    say("%s %zu %llu\n", answer_name(answer, "RESTORED"), image, (unsigned long long)count);
+}
+
+/* `newest SIZE OCTETS`: the place, how many octets its image has, and how often it was saved; places of this size are all octets. */
+static void run_newest(char *words) {
+    uint64_t count = 0xee;
+    size_t image = 0xee, each = (size_t)next_number(&words, 0);
+    read_octets(&words, &given);
+    size_t places = each == 0 ? 3 : given.size / each;
+    size_t place = ptpm_newest_image(given.at, each, places, &count, &image);
+    say("%zu of %zu: %zu %llu\n", place, places, image, (unsigned long long)count);
+}
+
 const struct command journal_commands[] = {
-    { "journal", run_journal }, { "add", run_add }, { "read-journal", run_read }, { "mark", run_mark }, { NULL, NULL },
+    { "journal", run_journal }, { "add", run_add }, { "read-journal", run_read }, { "mark", run_mark }, { "seal", run_seal },
+    { "unseal", run_unseal }, { "newest", run_newest }, { NULL, NULL },
 };

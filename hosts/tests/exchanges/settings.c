@@ -1,5 +1,4 @@
-#include "settings.h"
-#include "words.h"
+#include "commands.h"
 #include <stdlib.h>
 #include <string.h>
 

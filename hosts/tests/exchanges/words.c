@@ -1,5 +1,4 @@
-#include "words.h"
-#include "ptpm.h"
+#include "commands.h"
 #include <stdarg.h>
 #include <stdio.h>
 #include <stdlib.h>
@@ -102,10 +101,10 @@ static int digit_of(char letter) {
 }
 
 /* The octets of a name or of hexadecimal digits, from a place on; how many they are. */
-static size_t put_octets(const char *word, uint8_t *at, size_t room) {
+static size_t put_octets(const char *word, uint8_t *at, size_t most) {
     const struct name *name = name_of(word);
     size_t size = name != NULL ? name->size : strlen(word) / 2;
-    if (size > room) {
+    if (size > most) {
         say_misspelt(word);
         return 0;
     }

@@ -9,10 +9,7 @@ check "dataFields come back from their text" "$(./fields > "$work/fields" && ech
 cat "$work/fields"
 check "damaged images are refused, or restored as they are" "$(./restores 100000 > "$work/restored" && echo yes)"
 cat "$work/restored"
-check "stops" "$(holds ./stops)"
 if command -v valgrind > /dev/null; then
-    check "a stop and a start in a live handle leave nothing" "$(holds valgrind -q --leak-check=full --show-leak-kinds=all \
-        --errors-for-leak-kinds=all --error-exitcode=9 ./stops)"
     check "damaged images at a restore leave nothing, and touch nothing" "$(holds valgrind -q --leak-check=full --show-leak-kinds=all \
         --errors-for-leak-kinds=all --error-exitcode=9 ./restores 2000)"
     check "a block of the host's own in valgrind" "$(holds valgrind -q --error-exitcode=9 ./blocks)"

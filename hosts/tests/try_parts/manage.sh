@@ -53,6 +53,8 @@ check "manage get PRIORITY1 at the Unix socket" "$(asks 'priority1 100' --unix "
 mkdir "$work/elsewhere"
 check "manage get PRIORITY1 at the Unix socket by its path from another folder" "$(cd "$work/elsewhere" &&
     [ "$("$OLDPWD/manage" -w 0 --unix ../socket --target $to get PRIORITY1)" = 'priority1 100' ] && echo yes)"
+check "manage at a Unix socket in a domain of no clock" "$(asks '' --unix "$work/socket" -d 9 -a 2 get PRIORITY1 > /dev/null; ended 3 &&
+    says 'a clock with a transportSpecific, or in another domain, was not asked; --domain names another$' && echo yes)"
 check "manage get PRIORITY1 at an address" "$(asks 'priority1 100' --udp 10.9.9.2 -k "$work/number" get 2005)"
 ip -n $near addr add 10.9.8.1/24 dev near0 label near0:1
 ip -n $far addr add 10.9.8.2/24 dev far0
@@ -71,6 +73,11 @@ check "it says nothing of clocks further away if it asks as far as status does" 
     ! says 'a clock past more than ' && echo yes)"
 check "manage of a clock of its own machine" "$(to=020000fffe000010 asks '' -i near0 -a 2 get DOMAIN > /dev/null; ended 3 &&
     says 'a clock on this machine has that identity, and is asked on its Unix socket: ' && echo yes)"
+ip -n $near link add lone0 type veth peer name lone1
+ip -n $near link set lone0 up
+check "manage at an interface without a carrier" "$(asks '' -i lone0 -a 2 get DOMAIN > /dev/null; ended 3 &&
+    says 'lone0 has no carrier: nothing comes in there$' && echo yes)"
+ip -n $near link del lone0
 check "manage at two interfaces" "$(refuses '--interface lo: --interface near0 is there already' -i near0 -i lo get DOMAIN --target $to)"
 check "manage of its own clock" "$(refuses 'nothing was asked: SAME_CLOCK' -i near0 get DOMAIN --target 000000fffe000010)"
 check "manage survey PRIORITY2" "$(surveys 'priority2 128' priority2)"
