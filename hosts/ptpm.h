@@ -46,7 +46,7 @@ extern "C" {
 #define PTPM_VERSION "0.1.0"
 #define PTPM_VERSION_NUMBER 100
 
-/* The managementIds of this profile (15.5.2.3, table 59). ptpm_id_named and ptpm_id_name give them by their names. */
+/* The managementIds of this profile (15.5.2.3, table 59). ptpm_id_named finds an id by its name, and ptpm_id_name gives an id's name. */
 enum {
     PTPM_ID_NULL_PTP_MANAGEMENT = 0x0000, PTPM_ID_USER_DESCRIPTION = 0x0002, PTPM_ID_DEFAULT_DATA_SET = 0x2000,
     PTPM_ID_CURRENT_DATA_SET = 0x2001, PTPM_ID_PARENT_DATA_SET = 0x2002, PTPM_ID_TIME_PROPERTIES_DATA_SET = 0x2003,
@@ -196,8 +196,8 @@ struct ptpm_observed_clock {
     uint8_t has_time_source;
 };
 
-/* What a host observes of a port. Only a manager's command enters or leaves state 3, DISABLED. To observe it at an enabled port
-   is refused. A disabled port stays disabled, whatever is observed. A number that is not a portState counts as 3. */
+/* What a host observes of a port. Only a manager's command enters or leaves state 3, DISABLED. Observing that state at an enabled
+   port is refused. A disabled port stays disabled, whatever is observed. A number that is not a portState counts as 3. */
 struct ptpm_observed_port {
     PTPM_AT_EIGHT int64_t peer_delay;   /* in nanoseconds times 2^16 */
     uint8_t state;                      /* portState, PTPM_STATE_INITIALIZING to PTPM_STATE_SLAVE */
@@ -381,7 +381,7 @@ struct ptpm_handed {
     bool is_read_answered;              /* after PTPM_FAILED: whether the clock answered an anonymous read */
 };
 
-/* What an asker hands out. After PTPM_NOTE_BEGUN, PTPM_SAVE_IT and PTPM_NOTE_ANSWER it hands out nothing else before the host has done it. */
+/* What an asker hands out. After PTPM_NOTE_BEGUN, PTPM_SAVE_IT and PTPM_NOTE_ANSWER it hands out nothing else before the host has done that. */
 enum {
     PTPM_NOTHING = 0,
     PTPM_NOTE_BEGUN = 1,                /* note that this request is begun, and then call ptpm_asker_noted */
@@ -432,7 +432,8 @@ enum {
     PTPM_RECORD_TEXT = 9                /* a text of the host: 4,096 octets at most */
 };
 
-/* The flags of a journal: the change goes on at other clocks if one fails; and each step comes after all those before it. */
+/* The flags of a journal. PTPM_KEEPS_GOING: if one clock fails, the change goes on at others. PTPM_IN_ONE_ROW: no step begins before all
+   earlier steps are done. */
 enum { PTPM_KEEPS_GOING = 1, PTPM_IN_ONE_ROW = 2 };
 
 /* What the answer to a step says; how a change ends; and the number that stands for no step. */
@@ -602,7 +603,7 @@ enum { PTPM_MOST_ANSWERS = 16384, PTPM_SURVEY_PORT = 65534 };
    its range. 104 to 110 say why a restore is refused. 112 says that a request can't be given up. 113 to 117 say why words are not a
    dataField. 118 and 119 say that something is not saved. 120 says that a handle holds no asker. 121 says that the library refuses
    what a device says. 123 and 124 say that a change of the device is under way, or none. 126 to 132 say why a record of a journal, or
-   an event of a rollout, is refused. 133 to 138 say why a table of ids is.
+   an event of a rollout, is refused. 133 to 138 say why a table of ids is refused.
 
    Each kind of call has a type for its answers. With -Wenum-compare gcc, g++ and clang++ warn if an answer is compared with a
    name of a different kind. A name that several kinds of calls return is a plain number, and compares with each type. Each type has
@@ -752,7 +753,7 @@ __extension__ enum PTPM_FOUR_OCTETS(ptpm_relaying) {
 /* ptpm_clock_ask, _undertake and _under_way. Only the second returns the last two. */
 __extension__ enum PTPM_FOUR_OCTETS(ptpm_asking) {
     PTPM_ASKED_NOTHING = 0,
-    PTPM_ASKED_CHANGE = 29,             /* a manager's new SET or COMMAND, which only the device may still refuse */
+    PTPM_ASKED_CHANGE = 29,             /* a manager's new SET or COMMAND, which nobody but the device may still refuse */
     PTPM_ASKED_VALUE = 30,              /* a GET that would be answered, of an id that the clock lacks */
     PTPM_ASKING_NO_CLOCK = PTPM_NO_CLOCK,
     PTPM_ASKING_NO_PORT = PTPM_NO_PORT,
@@ -899,7 +900,7 @@ __extension__ enum PTPM_FOUR_OCTETS(ptpm_saved) {
     PTPM_SAVE_NO_ROOM = PTPM_NO_ROOM,   /* room is smaller than the image, or than the image with its seal */
     PTPM_SAVE_NO_MEMORY = PTPM_NO_MEMORY, /* ptpm_clock_image_of, of a clock of over eight ports */
     PTPM_SAVE_NO_SESSION = PTPM_NO_SESSION,
-    PTPM_OTHER_IMAGE = 119              /* not the latest image, or it counted already */
+    PTPM_OTHER_IMAGE = 119              /* not the latest image, or the image was confirmed already */
 };
 
 /* ptpm_session_restore, ptpm_clock_restore and ptpm_image_unseal. */
@@ -1159,7 +1160,7 @@ enum ptpm_handled ptpm_clock_take(struct ptpm_clock *clock, uint16_t port, const
    whether its device has the change. While the change is under way, ptpm_clock_take returns PTPM_UNDER_WAY for each request of
    the same manager that is addressed to exactly this clock. It returns PTPM_UNDER_WAY too for any datagram for which
    ptpm_clock_ask would return PTPM_ASKED_CHANGE. Of the owner's requests only a SET of DOMAIN is refused in this way, also by
-   ptpm_clock_set. Once the clock had left the domain, the change could not be answered.
+   ptpm_clock_set. A clock that had left its domain could not answer the change.
    Takes:   what ptpm_clock_ask takes.
    Returns: PTPM_ASKED_CHANGE; or PTPM_ASKED_VALUE or PTPM_ASKED_NOTHING, as ptpm_clock_ask does, and then nothing is kept. Or why
             not, the first of these: PTPM_NO_CLOCK (also for a clock that does not save), PTPM_NO_PORT, PTPM_UNSAVED and
@@ -1241,9 +1242,9 @@ enum ptpm_saved ptpm_clock_image(const struct ptpm_clock *clock, uint8_t *octets
 
 /* Writes the copies that a boundary clock forwards of a management message that this library does not read. Such a message is
    refused only for its actionField, its TLV or its displayData: PTPM_BAD_ACTION to PTPM_BAD_TEXT. The rules are those of any other
-   message. It needs sdoId 0, the clock's domain and a hop left, and must not be for exactly this clock. It passes only between ports
-   that may forward. Each copy has octet 45, boundaryHops, decremented. Every other octet is as it came. Nothing is answered, and
-   nothing changes. A host that wants such messages to pass calls ptpm_clock_transit after ptpm_clock_take.
+   message. The message needs sdoId 0, the clock's domain and a hop left, and must not be for exactly this clock. It passes only
+   between ports that may forward. Each copy has octet 45, boundaryHops, decremented. Every other octet is as it came. Nothing is
+   answered, and nothing changes. A host that wants such messages to pass calls ptpm_clock_transit after ptpm_clock_take.
    Takes:   the port it came in at, and the datagram, of size octets; and room places, as many as the clock has ports, or more.
    Returns: how many copies there are: 0 for any other datagram, without a clock, for a port that it lacks, and for fewer places.
    Writes:  that many places of sent, each with its port. */
@@ -1251,13 +1252,13 @@ size_t ptpm_clock_transit(const struct ptpm_clock *clock, uint16_t port, const u
                           size_t room);
 
 /* Has a clock show no change before it is saved. Without this call, a host has to see to that itself, for each message that it
-   sends. A clock that saves takes datagrams by ptpm_clock_take, also during a save. What a manager or the owner asks of this clock,
-   and not of every clock, is carried out at once. If the request changed the clock, or something was unsaved before, the messages
-   that it makes wait in the clock. So do those for a repeat, and for all else that the same manager sends. Anyone else is answered
-   at once, by what was saved last and observed since.
+   sends. A clock that saves takes datagrams by ptpm_clock_take, also during a save. What a manager or the owner asks of this
+   clock, and not of every clock, is carried out at once. If the request changed the clock, or something was unsaved before, the
+   messages that it makes wait in the clock. The messages for a repeat wait too, and those for all else that the same manager
+   sends. Anyone else is answered at once, by what was saved last and observed since.
    A save is: ptpm_clock_image_of, the image stored, and ptpm_clock_saved. Then ptpm_clock_next gives the messages that waited when
    the image was made. Later messages wait for the next image, unless all that came in since changed nothing. After a failed save,
-   nothing has to be undone: the next image has all of it.
+   nothing has to be undone: the next image has all that the lost one had.
    A clock that was just restored is saved. Any other clock is not: it takes no datagram before ptpm_clock_saved. Call
    ptpm_clock_saving right after the start or the restore.
    ptpm_clock_take returns PTPM_UNSAVED in three cases, and nothing changes. The first is any datagram before the first save of a
@@ -1432,7 +1433,7 @@ uint64_t ptpm_session_issued(const struct ptpm_session *session);
 enum ptpm_reported ptpm_session_report(const struct ptpm_session *session, uint8_t *octets, size_t room, size_t *size,
                                        uint16_t *error);
 
-/* Ends what the handle holds, if it holds anything. The handle then holds nothing, and may be started again. NULL as for
+/* Ends what the handle holds, if it holds anything. The handle then holds nothing, and may be started again. For NULL see
    ptpm_clock_stop. */
 void ptpm_session_stop(struct ptpm_session *session);
 
@@ -1504,7 +1505,7 @@ size_t ptpm_survey_count(const struct ptpm_survey *survey);
 enum ptpm_reported ptpm_survey_answer(const struct ptpm_survey *survey, size_t place, struct ptpm_source *source, uint8_t *octets,
                                       size_t room, size_t *size, uint16_t *error);
 
-/* Ends what the handle holds, if it holds anything. The handle then holds nothing, and may be started again. NULL as for
+/* Ends what the handle holds, if it holds anything. The handle then holds nothing, and may be started again. For NULL see
    ptpm_clock_stop. */
 void ptpm_survey_stop(struct ptpm_survey *survey);
 
@@ -1543,7 +1544,7 @@ static inline enum ptpm_started ptpm_asker_start_sized(struct ptpm_asker *handle
 enum ptpm_asker_restored ptpm_asker_restore(struct ptpm_asker *asker, const struct ptpm_asker_settings *settings,
                                             const uint8_t drawn[26], const uint8_t *image, size_t size);
 
-/* Asks a request.
+/* Begins a request to the clock.
    Takes:   the time, and a number by which the host names the request. Then PTPM_GET, PTPM_SET or PTPM_COMMAND, the id, and a
             port of the managed clock, or 0. Then the dataField, of size octets, and the domain. If a port is given, the request
             names it, for an id of the clock too.
@@ -1567,7 +1568,7 @@ enum ptpm_asked ptpm_asker_settle(struct ptpm_asker *asker, uint64_t now, uint64
    Caller:  notes that it gives the request up, before it saves. */
 enum ptpm_asked ptpm_asker_let_go(struct ptpm_asker *asker, struct ptpm_handed *handed);
 
-/* Hands in a datagram that came in. A host hands in what has come before it wakes the asker.
+/* Hands in a datagram that came in. Before a host wakes the asker, it hands in all datagrams that have come.
    Takes:   size octets.
    Returns: PTPM_ASKED; or PTPM_NO_MEMORY, and then nothing changes.
    Writes:  all of *handed: PTPM_NOTHING if the datagram answers nothing.
@@ -1626,7 +1627,7 @@ uint32_t ptpm_asker_earlier(const struct ptpm_asker *asker, uint8_t domain, uint
             *error: the managementErrorId after PTPM_REFUSED, and 0 after every other answer. */
 enum ptpm_reported ptpm_asker_report(const struct ptpm_asker *asker, uint8_t *octets, size_t room, size_t *size, uint16_t *error);
 
-/* Ends what the handle holds, if it holds anything. The handle then holds nothing, and may be started again. NULL as for
+/* Ends what the handle holds, if it holds anything. The handle then holds nothing, and may be started again. For NULL see
    ptpm_clock_stop. */
 void ptpm_asker_stop(struct ptpm_asker *asker);
 
@@ -1667,7 +1668,7 @@ enum ptpm_journaled ptpm_journal_next(struct ptpm_journal *journal, const uint8_
 /* Returns: what the journal says of a step, one of PTPM_MARK_UNTOUCHED to PTPM_MARK_NONE. */
 uint32_t ptpm_journal_mark(const struct ptpm_journal *journal, uint16_t step);
 
-/* Ends what the handle holds, if it holds anything. The handle then holds nothing, and may be started again. NULL as for
+/* Ends what the handle holds, if it holds anything. The handle then holds nothing, and may be started again. For NULL see
    ptpm_clock_stop. */
 void ptpm_journal_stop(struct ptpm_journal *journal);
 
@@ -1700,7 +1701,7 @@ enum ptpm_rolled ptpm_rollout_turn(struct ptpm_rollout *rollout, const struct pt
    Writes:  *size, and as many octets from octets on. *size is 0 if it is refused, and no octet is written. */
 enum ptpm_rolled ptpm_rollout_record(const struct ptpm_rollout *rollout, uint8_t *octets, size_t room, size_t *size);
 
-/* Ends what the handle holds, if it holds anything. The handle then holds nothing, and may be started again. NULL as for
+/* Ends what the handle holds, if it holds anything. The handle then holds nothing, and may be started again. For NULL see
    ptpm_clock_stop. */
 void ptpm_rollout_stop(struct ptpm_rollout *rollout);
 

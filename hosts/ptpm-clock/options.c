@@ -91,8 +91,8 @@ static const char help_text[] =
 
 static const char help_end[] =
     "  --ptp4l PATH        answers for the ptp4l with Unix socket PATH, and asks that ptp4l at most once for each change\n"
-    "  --diverted PORT     the UDP port to which a firewall diverts management messages for the ptp4l (10320). It is\n"
-    "                      320 if nothing is diverted, since the ptp4l itself ignores these messages\n"
+    "  --diverted PORT     the UDP port to which a firewall diverts management messages for the ptp4l (10320). Use\n"
+    "                      320 without a firewall, if the ptp4l itself ignores these messages\n"
     "  --ptp4l-rules       prints rules of nftables that divert management messages to PORT\n"
     "  -n SECONDS          ends by itself after this time\n"
     "  -v                  a line for each datagram that comes in, and one for what the datagram changed\n"

@@ -96,7 +96,7 @@ errors! {
     OtherName = PTPM_OTHER_NAME, "a word is not the name of the member that comes next";
     NoValue = PTPM_NO_VALUE, "a word is not a value of the member, or no SET has the member";
     Unsaved = PTPM_UNSAVED, "the clock is not saved, and this call needs a save first";
-    OtherImage = PTPM_OTHER_IMAGE, "not the latest image, or it counted already";
+    OtherImage = PTPM_OTHER_IMAGE, "not the latest image, or the image was confirmed already";
     NoAsker = PTPM_NO_ASKER, "the handle holds no asker";
     UnderWay = PTPM_UNDER_WAY, "a change of the device is under way, and this call has to wait for it";
     NothingUnderWay = PTPM_NOTHING_UNDER_WAY, "no change of the device is under way";

@@ -12,7 +12,7 @@ ghost use Rattle.ptpm_host.specs.Numbers.{no_clock, no_memory, no_room, saved_nu
 ghost use Rattle.ptpm_host.specs.SavingClock.{free_places, is_unsaved};
 ghost use Rattle.ptpm_c.specs.Batching.{BeginsSaved, DecidesCall, ForgoesImage, GivesMessage, IsSaved, MakesImage, RefusesCall, RefusesDecision, RefusesImage, ReportsCall, TakesCall, done_number};
 ghost use Rattle.ptpm_c.specs.Held.{any_clock_held, clock_held, clock_of, held, saving_clock_held, saving_clock_of};
-ghost use Rattle.ptpm_c.specs.Said.{ArePlaced};
+ghost use Rattle.ptpm_c.specs.Said.{ArePlaced, nothing_taken};
 
 use crate::device::Taken;
 use crate::handle::{Handle, held};
@@ -119,6 +119,7 @@ pub(crate) fn hand_in(
     sent: &mut [Sent],
     taken: &mut Taken,
 ) -> u32
+    requires nothing { taken.old ≡ nothing_taken }
     ensures taken { TakesCall clock.old port datagram.now say.now of_owner sent.old result taken.new
         sent.new (Some clock.new) }
     ensures changed { ReportsCall clock.old port datagram.now say.now of_owner sent.old taken.new
@@ -128,14 +129,10 @@ pub(crate) fn hand_in(
         taken.new sent.new (Some clock.new) }
     ensures places { ArePlaced taken.new sent.old sent.new }
 {
-    *taken = Taken::nothing();
-    match clock.take(port, datagram, say, of_owner, sent) {
+    match clock.take(port, datagram, say, of_owner, sent, &mut taken.changed) {
         Ok(outcome) => {
-            *taken = Taken {
-                count: outcome.count as u64,
-                waiting: outcome.waiting as u64,
-                changed: outcome.changed,
-            };
+            taken.count = outcome.count as u64;
+            taken.waiting = outcome.waiting as u64;
             verdict_number(outcome.verdict)
         }
         Err(refusal) => take_number(refusal),
@@ -155,13 +152,10 @@ pub(crate) fn decide(
     ensures places { ArePlaced taken.new sent.old sent.new }
 {
     *taken = Taken::nothing();
-    match clock.decide(say, sent) {
+    match clock.decide(say, sent, &mut taken.changed) {
         Ok(outcome) => {
-            *taken = Taken {
-                count: outcome.count as u64,
-                waiting: outcome.waiting as u64,
-                changed: outcome.changed,
-            };
+            taken.count = outcome.count as u64;
+            taken.waiting = outcome.waiting as u64;
             verdict_number(outcome.verdict)
         }
         Err(refusal) => decide_number(refusal),

@@ -298,6 +298,7 @@ fn hand_in(
     sent: &mut [Sent],
     taken: &mut Taken,
 ) -> u32
+    requires nothing { taken.old ≡ nothing_taken }
     ensures taken { TakesSaid clock.old port datagram.now say.now of_owner sent.old result taken.new
         sent.new (Some clock.new) }
     ensures changed { ReportsSaid clock.old port say.now sent.old taken.new (Some clock.new) }
@@ -306,11 +307,9 @@ fn hand_in(
         (Some clock.new) }
     ensures places { ArePlaced taken.new sent.old sent.new }
 {
-    *taken = Taken::nothing();
-    match clock.take(port, datagram, say, of_owner, sent) {
+    match clock.take(port, datagram, say, of_owner, sent, &mut taken.changed) {
         Ok(handled) => {
             taken.count = handled.count as u64;
-            taken.changed = handled.changed;
             verdict_number(handled.verdict)
         }
         Err(refusal) => said_number(refusal),

@@ -20,11 +20,10 @@ use crate::outbox::Outbox;
 use crate::refusal::{HandleRefusal, StartRefusal};
 use crate::sent::Sent;
 use crate::settings::{ClockSettings, ManagerSettings, PortSettings};
-use crate::taken::Taken;
 use crate::under_way::UnderWay;
 use ptpm_agent::{Agent, Verdict};
 use ptpm_codec::OutOfMemory;
-use ptpm_data::{DataSets, ObservationError, PORTS, PortsLeftDisabled};
+use ptpm_data::{ChangedMembers, DataSets, ObservationError, PORTS, PortsLeftDisabled};
 use ptpm_device::RelayedId;
 use ptpm_table::{HeapTable, Outgoing, ReplyTable};
 use std::alloc::Global;
@@ -208,7 +207,13 @@ impl HostedClock {
     /// code once, beside the call that does no more.
     #[inline(never)]
     #[tactic(auto, using(crate::specs::OutboxLaws::kept_by_none))]
-    pub(crate) fn take_turn(&mut self, port: u16, datagram: &[u8], room: &mut [Sent]) -> Taken
+    pub(crate) fn take_turn(
+        &mut self,
+        port: u16,
+        datagram: &[u8],
+        room: &mut [Sent],
+        members: &mut ChangedMembers,
+    ) -> Handled
         requires port { HasPort port self.old.agent.sets }
         requires room { length (outbox_of (turn (clock_in self.old).clock (state_in self.old) port datagram.now))
             ≤ length room.old }
@@ -220,18 +225,16 @@ impl HostedClock {
         ensures behind { AllZip KeepsBehind room.old room.new }
         ensures new_alone { result.verdict ≢ Verdict.AnsweredNew →
             self.new.agent.sets ≡ self.old.agent.sets }
-        ensures members { result.changed ≡ changed self.old.agent.sets self.new.agent.sets }
-        ensures waiting { result.waiting ≡ 0 }
+        ensures members { members.new ≡ changed self.old.agent.sets self.new.agent.sets }
         ensures clock { clock_in self.new ≡ clock_in self.old }
         ensures under_way { self.new.under_way ≡ self.old.under_way }
     {
         let mut outbox = Outbox::new(room);
         let (verdict, changed) = self.agent.change_into(port, datagram, &mut outbox);
-        Taken {
+        *members = changed;
+        Handled {
             verdict,
             count: outbox.count(),
-            waiting: 0,
-            changed,
         }
     }
 

@@ -15,12 +15,11 @@ ghost use Rattle.ptpm_host.specs.Coming.{turn_of};
 ghost use Rattle.ptpm_host.specs.Device.{Answers, said_refusal, say_in};
 ghost use Rattle.ptpm_host.specs.MostSent.{most_sent};
 
-use crate::clock::HostedClock;
+use crate::clock::{Handled, HostedClock};
 use crate::device::{Asking, Question, Say};
 use crate::outbox::Outbox;
 use crate::refusal::{HandleRefusal, SaidRefusal};
 use crate::sent::Sent;
-use crate::taken::Taken;
 use ptpm_agent::Verdict;
 use ptpm_codec::ErrorId;
 use ptpm_data::ChangedMembers;
@@ -61,7 +60,8 @@ impl HostedClock {
     /// If it objects, the request is kept and answered with its error, and the data sets stay. If it gives a value, this is the
     /// answer. It is kept for a manager's new GET. If it is too big for that, RESPONSE_TOO_BIG is. `of_owner` says that the device's
     /// owner sent the datagram. Then it is judged as that of a manager with every right, no device is asked, and nothing of it is
-    /// kept. If the call is refused, nothing changes. Takes no memory.
+    /// kept. Leaves in `members` which of the clock's members have another value. If the call is refused, nothing changes. Takes no
+    /// memory.
     #[tactic(auto, using(crate::specs::OutboxLaws::kept_by_none))]
     pub fn take(
         &mut self,
@@ -70,7 +70,8 @@ impl HostedClock {
         say: &Say,
         of_owner: bool,
         room: &mut [Sent],
-    ) -> Result<Taken, SaidRefusal>
+        members: &mut ChangedMembers,
+    ) -> Result<Handled, SaidRefusal>
         ensures turned { IfOk result
             (λ h.
             (o : says.Say)
@@ -83,21 +84,21 @@ impl HostedClock {
         ensures behind { AllZip KeepsBehind room.old room.new }
         ensures new_alone { IfOk result
             (λ h. h.verdict ≢ Verdict.AnsweredNew → self.new.agent.sets ≡ self.old.agent.sets) }
-        ensures members { IfOk result
-            (λ h. h.changed ≡ changed self.old.agent.sets self.new.agent.sets) }
+        ensures members { OnOk result
+            (members.new ≡ changed self.old.agent.sets self.new.agent.sets) }
         ensures members_alone { IfOk result
-            (λ h. h.verdict ≢ Verdict.AnsweredNew → h.changed ≡ no_members) }
-        ensures waiting { IfOk result (λ h. h.waiting ≡ 0) }
+            (λ h. h.verdict ≢ Verdict.AnsweredNew → members.new ≡ no_members) }
         ensures refusal { MatchResult result
             (λ _. said_refusal (has_port port self.old.agent.sets) (most_sent (state_in self.old)) (length room.old) say.now ≡ None)
             (λ e. said_refusal (has_port port self.old.agent.sets) (most_sent (state_in self.old)) (length room.old) say.now ≡ Some e) }
         ensures unchanged { OnErr result (self.new ≡ self.old) }
         ensures untouched { OnErr result (room.new ≡ room.old) }
+        ensures untold { OnErr result (members.new ≡ members.old) }
         ensures clock { clock_in self.new ≡ clock_in self.old }
         ensures under_way { self.new.under_way ≡ self.old.under_way }
     {
         let said = self.said(port, say, room.len())?;
-        Ok(self.carry_out(port, datagram, said, of_owner, room))
+        Ok(self.carry_out(port, datagram, said, of_owner, room, members))
     }
 
     /// One turn, with what the device says or as the owner's, at a port that the clock has, with places enough for whatever it
@@ -110,7 +111,8 @@ impl HostedClock {
         said: DeviceSay<'_>,
         of_owner: bool,
         room: &mut [Sent],
-    ) -> Taken
+        members: &mut ChangedMembers,
+    ) -> Handled
         requires port { HasPort port self.old.agent.sets }
         requires room { most_sent (state_in self.old) ≤ length room.old }
         requires given { IsGiven said }
@@ -124,18 +126,17 @@ impl HostedClock {
         ensures behind { AllZip KeepsBehind room.old room.new }
         ensures new_alone { result.verdict ≢ Verdict.AnsweredNew →
             self.new.agent.sets ≡ self.old.agent.sets }
-        ensures members { result.changed ≡ changed self.old.agent.sets self.new.agent.sets }
-        ensures members_alone { result.verdict ≢ Verdict.AnsweredNew → result.changed ≡ no_members }
-        ensures waiting { result.waiting ≡ 0 }
+        ensures members { members.new ≡ changed self.old.agent.sets self.new.agent.sets }
+        ensures members_alone { result.verdict ≢ Verdict.AnsweredNew → members.new ≡ no_members }
         ensures ports { length self.new.agent.sets.ports ≡ length self.old.agent.sets.ports }
         ensures clock { clock_in self.new ≡ clock_in self.old }
         ensures under_way { self.new.under_way ≡ self.old.under_way }
     {
         self.sent_law();
         if of_owner {
-            self.take_owner_turn(port, datagram, room)
+            self.take_owner_turn(port, datagram, room, members)
         } else {
-            self.take_said(port, datagram, said, room)
+            self.take_said(port, datagram, said, room, members)
         }
     }
 
@@ -174,7 +175,8 @@ impl HostedClock {
         datagram: &[u8],
         said: DeviceSay<'_>,
         room: &mut [Sent],
-    ) -> Taken
+        members: &mut ChangedMembers,
+    ) -> Handled
         requires port { HasPort port self.old.agent.sets }
         requires room { most_sent (state_in self.old) ≤ length room.old }
         requires given { IsGiven said }
@@ -187,16 +189,15 @@ impl HostedClock {
         ensures behind { AllZip KeepsBehind room.old room.new }
         ensures new_alone { result.verdict ≢ Verdict.AnsweredNew →
             self.new.agent.sets ≡ self.old.agent.sets }
-        ensures members { result.changed ≡ changed self.old.agent.sets self.new.agent.sets }
-        ensures waiting { result.waiting ≡ 0 }
+        ensures members { members.new ≡ changed self.old.agent.sets self.new.agent.sets }
         ensures clock { clock_in self.new ≡ clock_in self.old }
         ensures under_way { self.new.under_way ≡ self.old.under_way }
     {
         self.sent_law();
         if self.keep_relayed(datagram, said) {
-            self.take_kept(port, datagram, room)
+            self.take_kept(port, datagram, room, members)
         } else {
-            self.take_unrelayed(port, datagram, said, room)
+            self.take_unrelayed(port, datagram, said, room, members)
         }
     }
 
@@ -222,7 +223,13 @@ impl HostedClock {
     }
 
     /// The clock's own turn on a datagram whose reply is kept already. It was a new one.
-    fn take_kept(&mut self, port: u16, datagram: &[u8], room: &mut [Sent]) -> Taken
+    fn take_kept(
+        &mut self,
+        port: u16,
+        datagram: &[u8],
+        room: &mut [Sent],
+        members: &mut ChangedMembers,
+    ) -> Handled
         requires port { HasPort port self.old.agent.sets }
         requires room { length (outbox_of (turn (clock_in self.old).clock (state_in self.old) port datagram.now))
             ≤ length room.old }
@@ -234,17 +241,14 @@ impl HostedClock {
         ensures whole { All IsWhole (take result.count room.new) }
         ensures places { drop result.count room.new ≡ drop result.count room.old }
         ensures behind { AllZip KeepsBehind room.old room.new }
-        ensures members { result.changed ≡ changed self.old.agent.sets self.new.agent.sets }
-        ensures waiting { result.waiting ≡ 0 }
+        ensures members { members.new ≡ changed self.old.agent.sets self.new.agent.sets }
         ensures clock { clock_in self.new ≡ clock_in self.old }
         ensures under_way { self.new.under_way ≡ self.old.under_way }
     {
-        let handled = self.take_turn(port, datagram, room);
-        Taken {
+        let handled = self.take_turn(port, datagram, room, members);
+        Handled {
             verdict: Verdict::AnsweredNew,
             count: handled.count,
-            waiting: 0,
-            changed: handled.changed,
         }
     }
 
@@ -256,7 +260,8 @@ impl HostedClock {
         datagram: &[u8],
         said: DeviceSay<'_>,
         room: &mut [Sent],
-    ) -> Taken
+        members: &mut ChangedMembers,
+    ) -> Handled
         requires port { HasPort port self.old.agent.sets }
         requires room { most_sent (state_in self.old) ≤ length room.old }
         requires given { IsGiven said }
@@ -269,16 +274,15 @@ impl HostedClock {
         ensures behind { AllZip KeepsBehind room.old room.new }
         ensures new_alone { result.verdict ≢ Verdict.AnsweredNew →
             self.new.agent.sets ≡ self.old.agent.sets }
-        ensures members { result.changed ≡ changed self.old.agent.sets self.new.agent.sets }
-        ensures waiting { result.waiting ≡ 0 }
+        ensures members { members.new ≡ changed self.old.agent.sets self.new.agent.sets }
         ensures clock { clock_in self.new ≡ clock_in self.old }
         ensures under_way { self.new.under_way ≡ self.old.under_way }
     {
         self.sent_law();
         match said {
-            DeviceSay::Agrees => self.take_turn(port, datagram, room),
-            DeviceSay::Objects(error) => self.take_objection(port, datagram, error, room),
-            DeviceSay::Gives(octets) => self.take_value(port, datagram, octets, room),
+            DeviceSay::Agrees => self.take_turn(port, datagram, room, members),
+            DeviceSay::Objects(error) => self.take_objection(port, datagram, error, room, members),
+            DeviceSay::Gives(octets) => self.take_value(port, datagram, octets, room, members),
         }
     }
 
@@ -290,7 +294,8 @@ impl HostedClock {
         datagram: &[u8],
         error: ErrorId,
         room: &mut [Sent],
-    ) -> Taken
+        members: &mut ChangedMembers,
+    ) -> Handled
         requires port { HasPort port self.old.agent.sets }
         requires room { length (outbox_of (turn_said
             [] (clock_in self.old).clock (state_in self.old) (says.Objects error) port datagram.now)) ≤ length room.old }
@@ -303,20 +308,18 @@ impl HostedClock {
         ensures behind { AllZip KeepsBehind room.old room.new }
         ensures new_alone { result.verdict ≢ Verdict.AnsweredNew →
             self.new.agent.sets ≡ self.old.agent.sets }
-        ensures members { result.changed ≡ changed self.old.agent.sets self.new.agent.sets }
-        ensures waiting { result.waiting ≡ 0 }
+        ensures members { members.new ≡ changed self.old.agent.sets self.new.agent.sets }
         ensures clock { clock_in self.new ≡ clock_in self.old }
         ensures under_way { self.new.under_way ≡ self.old.under_way }
     {
         if let Some(count) = self.object(port, datagram, error, room) {
-            return Taken {
+            *members = ChangedMembers::NONE;
+            return Handled {
                 verdict: Verdict::AnsweredNew,
                 count,
-                waiting: 0,
-                changed: ChangedMembers::NONE,
             };
         }
-        self.take_turn(port, datagram, room)
+        self.take_turn(port, datagram, room, members)
     }
 
     /// Refuses a datagram with the device's error, and keeps that, if the device is asked. Returns how many messages are sent. For any
@@ -356,7 +359,14 @@ impl HostedClock {
 
     /// One turn with a value that the device gives.
     #[inline(never)]
-    fn take_value(&mut self, port: u16, datagram: &[u8], octets: &[u8], room: &mut [Sent]) -> Taken
+    fn take_value(
+        &mut self,
+        port: u16,
+        datagram: &[u8],
+        octets: &[u8],
+        room: &mut [Sent],
+        members: &mut ChangedMembers,
+    ) -> Handled
         requires port { HasPort port self.old.agent.sets }
         requires room { length (outbox_of (turn_said
             [] (clock_in self.old).clock (state_in self.old) (says.Gives octets.now) port datagram.now)) ≤ length room.old }
@@ -370,27 +380,23 @@ impl HostedClock {
         ensures behind { AllZip KeepsBehind room.old room.new }
         ensures new_alone { result.verdict ≢ Verdict.AnsweredNew →
             self.new.agent.sets ≡ self.old.agent.sets }
-        ensures members { result.changed ≡ changed self.old.agent.sets self.new.agent.sets }
-        ensures waiting { result.waiting ≡ 0 }
+        ensures members { members.new ≡ changed self.old.agent.sets self.new.agent.sets }
         ensures clock { clock_in self.new ≡ clock_in self.old }
         ensures under_way { self.new.under_way ≡ self.old.under_way }
     {
         if let Some(count) = self.answer_value(port, datagram, octets, room) {
-            return Taken {
+            *members = ChangedMembers::NONE;
+            return Handled {
                 verdict: Verdict::AnsweredUnnumbered,
                 count,
-                waiting: 0,
-                changed: ChangedMembers::NONE,
             };
         }
         let is_kept = keep_value(&mut self.agent, datagram, octets);
-        let handled = self.take_turn(port, datagram, room);
+        let handled = self.take_turn(port, datagram, room, members);
         if is_kept {
-            return Taken {
+            return Handled {
                 verdict: Verdict::AnsweredNew,
                 count: handled.count,
-                waiting: 0,
-                changed: handled.changed,
             };
         }
         handled

@@ -17,10 +17,9 @@ ghost use Rattle.ptpm_host.specs.Changing.{owned_at, owner_turn, owner_verdict};
 ghost use Rattle.ptpm_host.specs.Clock.{IsWhole, KeepsBehind, clock_in, messages_in, state_in};
 ghost use Rattle.ptpm_host.specs.MostSent.{most_sent};
 
-use crate::clock::HostedClock;
+use crate::clock::{Handled, HostedClock};
 use crate::outbox::Outbox;
 use crate::sent::Sent;
-use crate::taken::Taken;
 use ptpm_agent::Verdict;
 use ptpm_codec::{ClockIdentity, PortIdentity, View, view};
 use ptpm_data::ChangedMembers;
@@ -32,7 +31,13 @@ impl HostedClock {
     /// judged as that of a manager with every right, and nothing of it is kept. Never inlined: so the stack has what it takes only for
     /// the owner's datagrams.
     #[inline(never)]
-    pub(crate) fn take_owner_turn(&mut self, port: u16, datagram: &[u8], room: &mut [Sent]) -> Taken
+    pub(crate) fn take_owner_turn(
+        &mut self,
+        port: u16,
+        datagram: &[u8],
+        room: &mut [Sent],
+        members: &mut ChangedMembers,
+    ) -> Handled
         requires port { HasPort port self.old.agent.sets }
         requires room { most_sent (state_in self.old) ≤ length room.old }
         ensures turned { IsTurned (owner_turn (clock_in self.old).clock (state_in self.old) port datagram.now)
@@ -41,28 +46,23 @@ impl HostedClock {
         ensures whole { All IsWhole (take result.count room.new) }
         ensures places { drop result.count room.new ≡ drop result.count room.old }
         ensures behind { AllZip KeepsBehind room.old room.new }
-        ensures members { result.changed ≡ changed self.old.agent.sets self.new.agent.sets }
-        ensures waiting { result.waiting ≡ 0 }
+        ensures members { members.new ≡ changed self.old.agent.sets self.new.agent.sets }
         ensures clock { clock_in self.new ≡ clock_in self.old }
         ensures under_way { self.new.under_way ≡ self.old.under_way }
     {
         self.sent_law();
         let Ok(message) = view(datagram) else {
-            return self.take_turn(port, datagram, room);
+            return self.take_turn(port, datagram, room, members);
         };
         let verdict = self.judge_owned(&message);
         if verdict == Verdict::AnsweredNew {
-            return self.carry_out_owned(port, &message, room);
+            return self.carry_out_owned(port, &message, room, members);
         }
         if message.target().clock == self.agent.table().clock() {
-            return Taken {
-                verdict,
-                count: 0,
-                waiting: 0,
-                changed: ChangedMembers::NONE,
-            };
+            *members = ChangedMembers::NONE;
+            return Handled { verdict, count: 0 };
         }
-        self.take_turn(port, datagram, room)
+        self.take_turn(port, datagram, room, members)
     }
 
     /// The verdict on a message of the owner, as one of a manager with every right of whom nothing is kept.
@@ -101,7 +101,13 @@ impl HostedClock {
 
     /// Carries out a request of the owner for this clock, and answers it. The table stays.
     #[tactic(auto, using(crate::specs::OutboxLaws::kept_by_none))]
-    fn carry_out_owned(&mut self, port: u16, message: &View<'_>, room: &mut [Sent]) -> Taken
+    fn carry_out_owned(
+        &mut self,
+        port: u16,
+        message: &View<'_>,
+        room: &mut [Sent],
+        members: &mut ChangedMembers,
+    ) -> Handled
         requires action { IsRequestAction (request_of message.now).action }
         requires port { IsTargetPort (request_of message.now).port self.old.agent.sets }
         requires valid { IsValid message.now }
@@ -119,21 +125,18 @@ impl HostedClock {
         ensures whole { All IsWhole (take result.count room.new) }
         ensures places { drop result.count room.new ≡ drop result.count room.old }
         ensures behind { AllZip KeepsBehind room.old room.new }
-        ensures members { result.changed ≡ changed self.old.agent.sets self.new.agent.sets }
-        ensures waiting { result.waiting ≡ 0 }
+        ensures members { members.new ≡ changed self.old.agent.sets self.new.agent.sets }
         ensures under_way { self.new.under_way ≡ self.old.under_way }
     {
         let mut outbox = Outbox::new(room);
-        let changed = self.agent.answer_here(port, message, &mut outbox);
-        Taken {
+        *members = self.agent.answer_here(port, message, &mut outbox);
+        Handled {
             verdict: if is_change(message.action()) {
                 Verdict::AnsweredNew
             } else {
                 Verdict::AnsweredUnnumbered
             },
             count: outbox.count(),
-            waiting: 0,
-            changed,
         }
     }
 }

@@ -235,6 +235,7 @@ impl SavingClock {
         say: &Say,
         of_owner: bool,
         room: &mut [Sent],
+        members: &mut ChangedMembers,
     ) -> Result<Taken, TakeRefusal>
         ensures called { IfOk result (λ t. (o : says.Say) → say_in say.now ≡ Ok o →
             IsCalled self.old (Handles (datagram_in port datagram.now o of_owner))
@@ -242,10 +243,10 @@ impl SavingClock {
         ensures verdict { IfOk result (λ t. (o : says.Say) → say_in say.now ≡ Ok o → t.verdict
             ≡ (turn_of (clock_in self.old.clock.value)
             (state_asked self.old port datagram.now of_owner) port datagram.now o of_owner).verdict) }
-        ensures members { IfOk result (λ t. t.changed
+        ensures members { OnOk result (members.new
             ≡ changed self.old.clock.value.agent.sets self.new.clock.value.agent.sets) }
         ensures new_alone { IfOk result (λ t. t.verdict ≢ Verdict.AnsweredNew
-            → t.changed ≡ no_members) }
+            → members.new ≡ no_members) }
         ensures waits { IfOk result (λ t. self.new.waits ≡ (self.old.waits || is_new t.verdict)) }
         ensures free { IfOk result (λ t. free_places self.new + t.waiting ≡ free_places self.old) }
         ensures count { IfOk result (λ t. t.count ≤ length room.new) }
@@ -260,6 +261,7 @@ impl SavingClock {
             (λ e. take_refusal self.old port datagram.now say.now of_owner (length room.old) ≡ Some e) }
         ensures unchanged { OnErr result (self.new ≡ self.old) }
         ensures untouched { OnErr result (room.new ≡ room.old) }
+        ensures untold { OnErr result (members.new ≡ members.old) }
         ensures clock { clock_in self.new.clock.value ≡ clock_in self.old.clock.value }
         ensures under_way { self.new.clock.value.under_way ≡ self.old.clock.value.under_way }
         ensures begun { self.new.is_begun ≡ self.old.is_begun }
@@ -277,12 +279,12 @@ impl SavingClock {
             return Err(TakeRefusal::Unsaved);
         }
         if !is_for_live {
-            return Ok(self.take_shown(port, datagram, said, room));
+            return Ok(self.take_shown(port, datagram, said, room, members));
         }
         if self.waits {
-            Ok(self.take_more(port, datagram, said, of_owner, room))
+            Ok(self.take_more(port, datagram, said, of_owner, room, members))
         } else {
-            Ok(self.take_first(port, datagram, said, of_owner, room))
+            Ok(self.take_first(port, datagram, said, of_owner, room, members))
         }
     }
 
@@ -375,14 +377,19 @@ impl SavingClock {
 
     /// The turn of what is under way, with what the device says of it. Nothing is under way then. Its messages wait, and the places
     /// of `room` that were used for them are blank. If it is refused, nothing changes. Takes no memory.
-    pub fn decide(&mut self, say: &Say, room: &mut [Sent]) -> Result<Taken, DecideRefusal>
+    pub fn decide(
+        &mut self,
+        say: &Say,
+        room: &mut [Sent],
+        members: &mut ChangedMembers,
+    ) -> Result<Taken, DecideRefusal>
         ensures called { OnOk result ((o : says.Say) → say_in say.now ≡ Ok o →
             IsCalled self.old (Handles (Decides o)) [] self.new) }
         ensures verdict { IfOk result (λ t. (o : says.Say) (x : Datagram) → say_in say.now ≡ Ok o
             → request_under_way self.old.clock.value.under_way ≡ Some x
             → t.verdict ≡ (turn_said (clock_in self.old.clock.value).rows (clock_in self.old.clock.value).clock
             (state_in self.old.clock.value) o x.0 x.1).verdict) }
-        ensures members { IfOk result (λ t. t.changed
+        ensures members { OnOk result (members.new
             ≡ changed self.old.clock.value.agent.sets self.new.clock.value.agent.sets) }
         ensures nothing { OnOk result (self.new.clock.value.under_way ≡ None) }
         ensures waits { OnOk result (self.new.waits ≡ true) }
@@ -394,6 +401,7 @@ impl SavingClock {
             (λ e. decide_refusal self.old self.old.clock.value.under_way say.now (length room.old) ≡ Some e) }
         ensures unchanged { OnErr result (self.new ≡ self.old) }
         ensures untouched { OnErr result (room.new ≡ room.old) }
+        ensures untold { OnErr result (members.new ≡ members.old) }
         ensures clock { clock_in self.new.clock.value ≡ clock_in self.old.clock.value }
         ensures begun { self.new.is_begun ≡ self.old.is_begun }
         ensures token { KeepsImage self.old self.new }
@@ -408,7 +416,7 @@ impl SavingClock {
         if self.is_full(true) {
             return Err(DecideRefusal::Unsaved);
         }
-        Ok(self.take_decided(&under_way, said, room))
+        Ok(self.take_decided(&under_way, said, room, members))
     }
 
     /// Carries out what is under way.
@@ -417,6 +425,7 @@ impl SavingClock {
         under_way: &UnderWay,
         said: DeviceSay<'_>,
         room: &mut [Sent],
+        members: &mut ChangedMembers,
     ) -> Taken
         requires under_way { self.old.clock.value.under_way ≡ Some under_way.now }
         requires port { HasPort under_way.now.port self.old.clock.value.agent.sets }
@@ -428,7 +437,7 @@ impl SavingClock {
         ensures verdict { result.verdict ≡ (turn_said (clock_in self.old.clock.value).rows (clock_in self.old.clock.value).clock
             (state_in self.old.clock.value) (said_value said.entry) under_way.now.port
             (take under_way.now.size under_way.now.octets)).verdict }
-        ensures members { result.changed
+        ensures members { members.new
             ≡ changed self.old.clock.value.agent.sets self.new.clock.value.agent.sets }
         ensures nothing { self.new.clock.value.under_way ≡ None }
         ensures still { self.new.waits ≡ true }
@@ -439,9 +448,14 @@ impl SavingClock {
         ensures blanked { AreBlanked result.waiting room.old room.new }
         ensures clock { clock_in self.new.clock.value ≡ clock_in self.old.clock.value }
     {
-        let handled = self
-            .clock
-            .carry_out(under_way.port, under_way.message(), said, false, room);
+        let handled = self.clock.carry_out(
+            under_way.port,
+            under_way.message(),
+            said,
+            false,
+            room,
+            members,
+        );
         self.queue.take_over(room, handled.count);
         self.clock.under_way = None;
         self.waits = true;
@@ -451,7 +465,6 @@ impl SavingClock {
             verdict: handled.verdict,
             count: 0,
             waiting: handled.count,
-            changed: handled.changed,
         }
     }
 
@@ -477,6 +490,7 @@ impl SavingClock {
         datagram: &[u8],
         said: DeviceSay<'_>,
         room: &mut [Sent],
+        members: &mut ChangedMembers,
     ) -> Taken
         requires port { HasPort port self.old.clock.value.agent.sets }
         requires room { most_sent (state_in self.old.clock.value) ≤ length room.old }
@@ -490,7 +504,7 @@ impl SavingClock {
             (shown_state self.old) (said_value said.entry) port datagram.now).verdict }
         ensures new { is_new result.verdict ≡ false }
         ensures waiting { result.waiting ≡ 0 }
-        ensures changed { result.changed ≡ no_members }
+        ensures changed { members.new ≡ no_members }
         ensures sets { self.new.clock.value.agent.sets ≡ self.old.clock.value.agent.sets }
         ensures queue { self.new.queue ≡ self.old.queue }
         ensures still { self.new.waits ≡ true }
@@ -504,13 +518,15 @@ impl SavingClock {
         ensures under_way { self.new.clock.value.under_way ≡ self.old.clock.value.under_way }
     {
         self.clock.agent.swap_sets(&mut self.shown);
-        let handled = self.clock.carry_out(port, datagram, said, false, room);
+        let handled = self
+            .clock
+            .carry_out(port, datagram, said, false, room, members);
         self.clock.agent.swap_sets(&mut self.shown);
+        *members = ChangedMembers::NONE;
         Taken {
             verdict: handled.verdict,
             count: handled.count,
             waiting: 0,
-            changed: ChangedMembers::NONE,
         }
     }
 
@@ -522,6 +538,7 @@ impl SavingClock {
         said: DeviceSay<'_>,
         of_owner: bool,
         room: &mut [Sent],
+        members: &mut ChangedMembers,
     ) -> Taken
         requires port { HasPort port self.old.clock.value.agent.sets }
         requires room { most_sent (state_in self.old.clock.value) ≤ length room.old }
@@ -534,9 +551,9 @@ impl SavingClock {
             (messages_in (take result.count room.new)) self.new }
         ensures verdict { result.verdict ≡ (turn_of (clock_in self.old.clock.value)
             (state_in self.old.clock.value) port datagram.now (said_value said.entry) of_owner).verdict }
-        ensures members { result.changed
+        ensures members { members.new
             ≡ changed self.old.clock.value.agent.sets self.new.clock.value.agent.sets }
-        ensures new_alone { result.verdict ≢ Verdict.AnsweredNew → result.changed ≡ no_members }
+        ensures new_alone { result.verdict ≢ Verdict.AnsweredNew → members.new ≡ no_members }
         ensures still { self.new.waits ≡ is_new result.verdict }
         ensures free { free_places self.new + result.waiting ≡ free_places self.old }
         ensures begun { self.new.is_begun ≡ self.old.is_begun }
@@ -551,9 +568,15 @@ impl SavingClock {
         ensures clock { clock_in self.new.clock.value ≡ clock_in self.old.clock.value }
         ensures under_way { self.new.clock.value.under_way ≡ self.old.clock.value.under_way }
     {
-        let handled = self.clock.carry_out(port, datagram, said, of_owner, room);
+        let handled = self
+            .clock
+            .carry_out(port, datagram, said, of_owner, room, members);
         if handled.verdict != Verdict::AnsweredNew {
-            return handled;
+            return Taken {
+                verdict: handled.verdict,
+                count: handled.count,
+                waiting: 0,
+            };
         }
         self.queue.take_over(room, handled.count);
         self.waits = true;
@@ -562,7 +585,6 @@ impl SavingClock {
             verdict: handled.verdict,
             count: 0,
             waiting: handled.count,
-            changed: handled.changed,
         }
     }
 
@@ -574,6 +596,7 @@ impl SavingClock {
         said: DeviceSay<'_>,
         of_owner: bool,
         room: &mut [Sent],
+        members: &mut ChangedMembers,
     ) -> Taken
         requires port { HasPort port self.old.clock.value.agent.sets }
         requires room { most_sent (state_in self.old.clock.value) ≤ length room.old }
@@ -586,9 +609,9 @@ impl SavingClock {
             (Handles (datagram_in port datagram.now (said_value said.entry) of_owner)) [] self.new }
         ensures verdict { result.verdict ≡ (turn_of (clock_in self.old.clock.value)
             (state_in self.old.clock.value) port datagram.now (said_value said.entry) of_owner).verdict }
-        ensures members { result.changed
+        ensures members { members.new
             ≡ changed self.old.clock.value.agent.sets self.new.clock.value.agent.sets }
-        ensures new_alone { result.verdict ≢ Verdict.AnsweredNew → result.changed ≡ no_members }
+        ensures new_alone { result.verdict ≢ Verdict.AnsweredNew → members.new ≡ no_members }
         ensures still { self.new.waits ≡ true }
         ensures free { free_places self.new + result.waiting ≡ free_places self.old }
         ensures begun { self.new.is_begun ≡ self.old.is_begun }
@@ -599,14 +622,15 @@ impl SavingClock {
         ensures clock { clock_in self.new.clock.value ≡ clock_in self.old.clock.value }
         ensures under_way { self.new.clock.value.under_way ≡ self.old.clock.value.under_way }
     {
-        let handled = self.clock.carry_out(port, datagram, said, of_owner, room);
+        let handled = self
+            .clock
+            .carry_out(port, datagram, said, of_owner, room, members);
         self.queue.take_over(room, handled.count);
         self.is_changed = self.is_changed_by(handled.verdict);
         Taken {
             verdict: handled.verdict,
             count: 0,
             waiting: handled.count,
-            changed: handled.changed,
         }
     }
 

@@ -1,7 +1,6 @@
-//! What became of a datagram at a clock whose device, or whose owner, has a say.
+//! What became of a datagram at a clock whose device, or whose owner, has a say, and that is saved.
 
 use ptpm_agent::Verdict;
-use ptpm_data::ChangedMembers;
 
 /// What became of a datagram.
 #[derive(Clone, Copy)]
@@ -11,6 +10,4 @@ pub struct Taken {
     pub count: usize,
     /// How many wait for a save.
     pub waiting: usize,
-    /// The members of the clock that it has changed.
-    pub changed: ChangedMembers,
 }

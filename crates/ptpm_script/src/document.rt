@@ -17,7 +17,7 @@ use crate::net_error::NetError;
 use crate::place::Place;
 use crate::reading::Parts;
 use ptpm_codec::OutOfMemory;
-use std::alloc::Global;
+use std::alloc::{AllocError, Global};
 use toml::Table;
 
 /// A text, read as a network file. It keeps what its faults point to.
@@ -49,11 +49,7 @@ impl Document {
             (λ faults. first_class faults.items ≡ first_refusal (document_marks self.now)) }
         ensures all { IfOk result (λ faults. marks_in faults.items ≡ document_marks self.now) }
     {
-        let mut faults = Faults::new(alloc);
-        match faults.add_document(self) {
-            Ok(()) => Ok(faults.into_vec()),
-            Err(_) => Err(OutOfMemory),
-        }
+        Ok(faults_in(alloc, self).map_err(|_| OutOfMemory)?.into_vec())
     }
 
     /// The parts of the network that it is, or the refusal that its first fault is of.
@@ -108,27 +104,24 @@ fn line_of(text: &str, error: &toml::de::Error) -> usize {
     lines.saturating_add(1)
 }
 
-impl<'a> Faults<'a> {
-    /// Adds the faults of a document, in the order of the refusals.
-    fn add_document(&mut self, document: &'a Document) -> Added
-        ensures { Adds result self.old self.new (document_marks document.now) }
-    {
-        match document {
-            Document::Long => {
-                self.add(NetError::TooLong, Place::File, Found::Untold, Wanted::Size)
-            }
-            Document::Broken(line, error) => {
-                let wanted = Wanted::Toml(*error);
-                self.add(NetError::NotToml, Place::Line(*line), Found::Untold, wanted)
-            }
-            Document::Table(file) => {
-                let heads = Heads::of(self.alloc, file)?;
-                self.add_file(file, &heads)
-            }
+/// The faults that are found in a text, in the order of the refusals.
+fn faults_in(alloc: Global, document: &Document) -> Result<Faults<'_>, AllocError>
+    ensures { IfOk result (λ faults. faults ≡ document_marks document.now) }
+{
+    let mut faults = Faults::new(alloc);
+    match document {
+        Document::Long => faults.add(NetError::TooLong, Place::File, Found::Untold, Wanted::Size)?,
+        Document::Broken(line, error) => {
+            let wanted = Wanted::Toml(*error);
+            faults.add(NetError::NotToml, Place::Line(*line), Found::Untold, wanted)?
         }
+        Document::Table(file) => faults.add_file(file, &Heads::of(alloc, file)?)?,
     }
+    Ok(faults)
+}
 
-    /// Adds the faults of a table.
+impl<'a> Faults<'a> {
+    /// Adds the faults of a document.
     #[tactic(auto, unfolding(crate::specs::Faults::file_marks))]
     fn add_file(&mut self, file: &'a Table, heads: &Heads<'a>) -> Added
         requires clocks { map clock_value heads.now.clocks.items ≡ clocks_of (table_view file.now) }

@@ -7,7 +7,7 @@ use std::fmt;
 use thiserror::Error;
 
 /// One thing that happens in a network.
-#[derive(Drop)]
+#[derive(Debug, Drop)]
 pub enum Event {
     /// A session begins a request.
     Begin(Name, Ask),

@@ -97,8 +97,8 @@ impl fmt::Display for EventFault<'_> {
 
 fn write_expected<W: fmt::Write>(f: &mut fmt::Formatter<W>, expected: Expected) -> fmt::Result {
     match expected {
-        Expected::Verb => f.write_str("begin, send, resume, retune, deliver or stranger"),
-        Expected::Action => f.write_str("get, set or command"),
+        Expected::Verb => write_choice(f, &VERBS),
+        Expected::Action => write_choice(f, &ACTIONS),
         Expected::Words(verb) => f.write_str(line_text(verb)),
         Expected::Number(most) => write!(f, "a whole number from 0 to {most}"),
         Expected::PortOrNone => f.write_str("a port from 0 to 65535, or - for none"),
@@ -117,4 +117,16 @@ fn line_text(verb: Verb) -> &'static str {
         Verb::Deliver => "deliver FRAME",
         Verb::Stranger => "stranger CLOCK PORT HEX",
     }
+}
+
+/// Writes names as `get, set or command`.
+fn write_choice<W: fmt::Write>(f: &mut fmt::Formatter<W>, names: &[&str]) -> fmt::Result {
+    for index in 0..names.len() {
+        if index > 0 {
+            let is_last = index == names.len() - 1;
+            f.write_str(if is_last { " or " } else { ", " })?;
+        }
+        f.write_str(names[index])?;
+    }
+    Ok(())
 }

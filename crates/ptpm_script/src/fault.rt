@@ -90,22 +90,20 @@ pub enum Names {
 /// For example, `session 1 "m": attempts = 300: a whole number from 0 to 255`.
 impl fmt::Display for Fault<'_> {
     fn fmt<W: fmt::Write>(&self, f: &mut fmt::Formatter<W>) -> fmt::Result {
-        write!(f, "{}: {}{}", self.place, self.found, self.wanted)
-    }
-}
-
-/// What is there, and a colon after it; nothing of what is not shown.
-impl fmt::Display for Found<'_> {
-    fn fmt<W: fmt::Write>(&self, f: &mut fmt::Formatter<W>) -> fmt::Result {
-        match *self {
-            Found::Untold => Ok(()),
-            Found::Missing(key) => write!(f, "{} is missing: ", Key(key)),
-            Found::Value(key, value) => write!(f, "{} = {}: ", Key(key), ValueText(value)),
-            Found::Item(key, number, value) => {
-                write!(f, "{}[{number}] = {}: ", Key(key), ValueText(value))
+        let (place, wanted) = (self.place, self.wanted);
+        match self.found {
+            Found::Untold => write!(f, "{place}: {wanted}"),
+            Found::Missing(key) => write!(f, "{place}: {} is missing: {wanted}", Key(key)),
+            Found::Value(key, value) => {
+                let (key, value) = (Key(key), ValueText(value));
+                write!(f, "{place}: {key} = {value}: {wanted}")
             }
-            Found::Whole(value) => write!(f, "{}: ", ValueText(value)),
-            Found::Count(count, of) => write!(f, "{count} {of}: "),
+            Found::Item(key, number, value) => {
+                let (key, value) = (Key(key), ValueText(value));
+                write!(f, "{place}: {key}[{number}] = {value}: {wanted}")
+            }
+            Found::Whole(value) => write!(f, "{place}: {}: {wanted}", ValueText(value)),
+            Found::Count(count, of) => write!(f, "{place}: {count} {of}: {wanted}"),
         }
     }
 }

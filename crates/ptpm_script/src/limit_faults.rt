@@ -81,7 +81,7 @@ impl<'a> Faults<'a> {
 }
 
 /// How many ends a link is to have, if they are an array and too few or too many.
-fn other_size<'a>(link: &Table) -> Option<Wanted<'a>>
+fn other_size(link: &Table) -> Option<Wanted<'static>>
     ensures { is_some result
         ≡ passes has_bad_size (option_and_then as_array (get_member (codes "ends") (table_view link.now))) }
 {

@@ -9,7 +9,7 @@ use ptpm_codec::OutOfMemory;
 use std::alloc::AllocError;
 
 /// The first fault of a line: a word that is not what is expected at its place.
-#[derive(Clone, Copy)]
+#[derive(Clone, Copy, Debug, PartialEq, Eq)]
 pub struct LineFault {
     /// The word's place, from 0. A line without words has none there.
     pub place: usize,
@@ -17,7 +17,7 @@ pub struct LineFault {
 }
 
 /// What is expected of a word, or, at a verb, of its line.
-#[derive(Clone, Copy)]
+#[derive(Clone, Copy, Debug, PartialEq, Eq)]
 pub enum Expected {
     Verb,
     Action,
@@ -33,7 +33,7 @@ pub enum Expected {
 }
 
 /// What the first word of a line asks for.
-#[derive(Clone, Copy)]
+#[derive(Clone, Copy, Debug, PartialEq, Eq)]
 pub enum Verb {
     Begin,
     Send,
@@ -59,7 +59,7 @@ impl Expected {
 }
 
 /// Why no event is read.
-#[derive(Clone, Copy)]
+#[derive(Clone, Copy, Debug, PartialEq, Eq)]
 pub enum LineError {
     /// The line is none.
     Fault(LineFault),

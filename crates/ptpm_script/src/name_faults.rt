@@ -99,14 +99,13 @@ impl<'a> Faults<'a> {
 fn ports_of(clock: &ClockHead<'_>) -> Option<u16>
     ensures { result ≡ ports_of (clock_value clock.now) }
 {
-    match clock.count {
-        Some(count) if 1 <= count && count <= CLOCK_PORTS => Some(count),
-        _ => None,
-    }
+    clock
+        .count
+        .filter(|count| 1 <= *count && *count <= CLOCK_PORTS)
 }
 
 /// What a port's number may be, if it is none of a clock with this many ports.
-fn other_port<'a>(number: Option<u16>, count: u16) -> Option<Wanted<'a>>
+fn other_port(number: Option<u16>, count: u16) -> Option<Wanted<'static>>
     ensures { is_some result ≡ passes (is_past count) number }
 {
     match number {

@@ -12,7 +12,7 @@ use ptpm_data::{ClockStart, PortStart, Rights};
 use std::alloc::Global;
 
 /// The clocks, sessions and links of a network file, each in the file's order. Every value is the network of some text.
-#[derive(Drop)]
+#[derive(Debug, Drop)]
 pub struct Network {
     clocks: Vec<NetworkClock>,
     sessions: Vec<NetworkSession>,
@@ -21,7 +21,7 @@ pub struct Network {
 }
 
 /// A clock of a network.
-#[derive(Drop)]
+#[derive(Debug, Drop)]
 pub struct NetworkClock {
     pub name: Name,
     pub start: ClockStart,
@@ -30,7 +30,7 @@ pub struct NetworkClock {
 }
 
 /// A session of a network.
-#[derive(Drop)]
+#[derive(Debug, Drop)]
 pub struct NetworkSession {
     pub name: Name,
     pub identity: PortIdentity,
@@ -49,13 +49,13 @@ pub struct NetworkSession {
 }
 
 /// A link of a network: what is sent at one of its ends reaches all the others.
-#[derive(Drop)]
+#[derive(Debug, Drop)]
 pub struct NetworkLink {
     pub ends: Vec<End>,
 }
 
 /// An end of a link, by places from 0.
-#[derive(Clone, Copy)]
+#[derive(Clone, Copy, Debug, PartialEq, Eq)]
 pub enum End {
     /// A clock's port.
     Clock(u8, u16),

@@ -81,7 +81,8 @@ impl<'a> Faults<'a> {
             return Ok(());
         };
         let place = Place::Port(clock.number, clock.name, before.len() + 1);
-        let other = port_before(clock, numbers, u16_at(table, "number"));
+        let other = port_before(numbers, u16_at(table, "number"));
+        let other = other.map(|number| Place::Port(clock.number, clock.name, number));
         self.add_once(TableAt { place, table }, "number", other)
     }
 
@@ -133,18 +134,14 @@ fn numbers_of(alloc: Global, ports: &[Value]) -> Result<Vec<Option<u16>>, AllocE
     Ok(numbers)
 }
 
-/// The place of the first table of a port's number.
-fn port_before<'a>(
-    clock: &ClockHead<'a>,
-    numbers: &[Option<u16>],
-    number: Option<u16>,
-) -> Option<Place<'a>>
+/// The first table of a port's number, from 1.
+fn port_before(numbers: &[Option<u16>], number: Option<u16>) -> Option<usize>
     ensures { is_some result ≡ passes (is_number_of numbers.now) number }
 {
     let wanted = number?;
     for index in 0..numbers.len() {
         if is_number(numbers[index], wanted) {
-            return Some(Place::Port(clock.number, clock.name, index + 1));
+            return Some(index + 1);
         }
     }
     None
@@ -210,11 +207,11 @@ fn same_end<'a>(ends: &[EndHead<'a>], end: &EndHead<'a>) -> Option<Place<'a>>
 fn is_clock(identity: Option<ClockIdentity>, wanted: ClockIdentity) -> bool
     ensures { result ≡ passes (λ i. same_clock i wanted) identity }
 {
-    matches!(identity, Some(identity) if identity == wanted)
+    identity.is_some_and(|identity| identity == wanted)
 }
 
 fn is_identity(identity: Option<PortIdentity>, wanted: PortIdentity) -> bool
     ensures { result ≡ passes (λ i. same_identity i wanted) identity }
 {
-    matches!(identity, Some(identity) if identity == wanted)
+    identity.is_some_and(|identity| identity == wanted)
 }

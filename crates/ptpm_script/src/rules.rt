@@ -21,7 +21,7 @@ const I32: Kind = Kind::Whole(-0x8000_0000, 0x7fff_ffff);
 const I64: Kind = Kind::Whole(i64::MIN, i64::MAX);
 
 /// What a key may hold.
-#[derive(Clone, Copy)]
+#[derive(Clone, Copy, Debug)]
 pub enum Kind {
     /// A whole number, from the first to the second.
     Whole(i64, i64),
@@ -40,7 +40,7 @@ pub enum Kind {
 }
 
 /// A key of a table.
-#[derive(Clone, Copy)]
+#[derive(Clone, Copy, Debug)]
 pub struct Rule {
     pub key: &'static str,
     pub kind: Kind,

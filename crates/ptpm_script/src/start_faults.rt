@@ -163,5 +163,5 @@ fn rank(port: &Value) -> u16
 fn has_octet(own: u8, shown: Option<u8>) -> bool
     ensures { result ≡ has_octet own shown }
 {
-    matches!(shown, Some(octet) if octet == own)
+    shown.is_some_and(|octet| octet == own)
 }

@@ -61,12 +61,12 @@ pub(crate) fn text_or_none(text: Option<&str>) -> &str
 pub(crate) fn is_name_of(name: Option<&str>, wanted: &str) -> bool
     ensures { result ≡ passes (λ n. bytes_eq n wanted.now) (option_map (λ n. n.now) name.entry) }
 {
-    matches!(name, Some(name) if name == wanted)
+    name.is_some_and(|name| name == wanted)
 }
 
 /// Whether a number is there, and is this one.
 pub(crate) fn is_number(number: Option<u16>, wanted: u16) -> bool
     ensures { result ≡ passes (λ n. n == wanted) number }
 {
-    matches!(number, Some(number) if number == wanted)
+    number.is_some_and(|number| number == wanted)
 }

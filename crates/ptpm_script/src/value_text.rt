@@ -20,12 +20,11 @@ impl fmt::Display for Quoted<'_> {
                 break;
             }
             shown += 1;
-            let printed = if character.is_control() {
-                '?'
+            if character.is_control() {
+                f.write_str("?")?;
             } else {
-                character
-            };
-            write!(f, "{printed}")?;
+                write!(f, "{character}")?;
+            }
         }
         f.write_str("\"")
     }

@@ -20,7 +20,7 @@ const FRAMES_OF_AN_EVENT: usize = OUTBOX_MESSAGES * (MOST_ENDS - 1);
 const OCTETS_OF_AN_EVENT: usize = OUTBOX_MESSAGES * MESSAGE_OCTETS;
 
 /// What a frame belongs to.
-#[derive(Clone, Copy, PartialEq, Eq)]
+#[derive(Clone, Copy, Debug, PartialEq, Eq)]
 pub(crate) enum Origin {
     /// A session's request, by its place and the request's index from 1.
     Request { session: u16, index: u64 },
@@ -31,7 +31,7 @@ pub(crate) enum Origin {
 }
 
 /// A frame in the store.
-#[derive(Clone, Copy)]
+#[derive(Clone, Copy, Debug)]
 struct Stored {
     end: End,
     origin: Origin,
@@ -41,7 +41,7 @@ struct Stored {
 }
 
 /// A message on its way to one end.
-#[derive(Clone, Copy)]
+#[derive(Clone, Copy, Debug)]
 pub struct Frame<'a> {
     end: End,
     octets: &'a [u8],

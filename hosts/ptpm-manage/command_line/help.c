@@ -97,7 +97,7 @@ static const char site_text[] =
     "      --html              status as a page in HTML\n"
     "      --openmetrics       status as numbers for Prometheus\n"
     "      --nagios            status as a line for Nagios or Icinga, with a plugin's exit status\n"
-    "      --output FILE       status writes to FILE, which is replaced whole\n"
+    "      --output FILE       status writes to FILE, which each poll replaces as a whole\n"
     "      --lines FILE        status writes the lines of its latest poll to FILE, as collect prints them\n"
     "      --once              status does not poll a second time for findings that may be momentary\n"
     "      --for SECONDS       status polls every 2 seconds for this long, and then prints once\n"
@@ -107,8 +107,9 @@ static const char site_text[] =
 
 static const char asking_text[] =
     "Manager, session and retries:\n"
-    "  -m, --manager ID-PORT   the manager's own identity and port, below 61440. By default the MAC of\n"
-    "                          the interface with its local bit inverted, which no clock has, and port 1.\n"
+    "  -m, --manager ID-PORT   the manager's own identity and port, below 61440. By default the identity is\n"
+    "                          the interface's MAC with its local bit inverted, so that no clock has it,\n"
+    "                          and the port is 1.\n"
     "                          On a Unix socket the identity is 0. Requests outside a session use a\n"
     "                          portNumber that no manager has\n"
     "  -k, --numbers FILE      keeps the session of this manager with this clock from run to run.\n"

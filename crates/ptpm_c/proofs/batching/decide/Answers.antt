@@ -19,4 +19,4 @@ pub returns-in-Ok-clause-places : goal.returns-in-Ok-clause-places
 returns-in-Ok-clause-places c = blanked_places _ _ _ c.in-Ok.ensures.count c.in-Ok.ensures.blanked
 
 pub returns-in-Err-clause-places : goal.returns-in-Err-clause-places
-returns-in-Err-clause-places c = unchanged_places _ _ _ c.nothing.ensures c.in-Err.ensures.untouched
+returns-in-Err-clause-places c = unchanged_places _ _ _ ((λ i. record c.nothing.result { changed = c.in-Err.ensures.untold i }) ∙ c.nothing.ensures) c.in-Err.ensures.untouched

@@ -18,7 +18,7 @@ returns-in-Ok-clause-taken c = λ none o said.
     }
 
 pub returns-in-Err-clause-places : goal.returns-in-Err-clause-places
-returns-in-Err-clause-places c = unchanged_places _ _ _ c.nothing.ensures c.in-Err.ensures.untouched
+returns-in-Err-clause-places c = unchanged_places _ _ _ ((λ i. record c.args.taken.now { changed = c.in-Err.ensures.untold i }) ∙ c.requires.nothing) c.in-Err.ensures.untouched
 
 pub returns-in-Ok-clause-changed : goal.returns-in-Ok-clause-changed
 returns-in-Ok-clause-changed c = λ none. c.in-Ok.ensures.members

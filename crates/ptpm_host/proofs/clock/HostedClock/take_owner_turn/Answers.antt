@@ -1,6 +1,6 @@
 -- What is left of a turn of the owner's clock is the turn of the owner. Nothing is kept there, so a message is new, or is as that of
 -- nobody.
-use Rattle.std.proofs.Common.{◌≡◌, ◌∙◌, ◌++◌, Ok, ◌&&◌, ◌||◌, ℕ, Bool, true, false, List, [], Option, Some, None, ap, refl, subst, sym, arith, rules, take}
+use Rattle.std.proofs.Common.{◌≡◌, ◌∙◌, ◌++◌, Ok, ◌&&◌, ◌||◌, ℕ, Bool, true, false, List, [], Option, Some, None, ap, length, refl, subst, sym, arith, rules, take}
 use Rattle.std.specs.Prelude.{◌==◌, not, if◌then◌else◌}
 use Rattle.std.specs.FinMap.{empty, get, get-empty}
 use Rattle.ptpm_codec.specs.declared.identity.ClockIdentity.{ClockIdentity}
@@ -8,7 +8,6 @@ use Rattle.ptpm_codec.specs.declared.message.Message.{Message}
 use Rattle.ptpm_codec.specs.Identity.{identity_cmp, same_clock}
 use Rattle.ptpm_codec.specs.Reading.{message_of}
 use Rattle.ptpm_data.specs.declared.rights.Rights.{Rights}
-use Rattle.ptpm_data.specs.Changes.{changed_by}
 use Rattle.ptpm_data.specs.Replies.{reply_to}
 use Rattle.ptpm_data.specs.Reply.{ReplyValue}
 use Rattle.ptpm_data.specs.Rights.{all_rights, no_rights}
@@ -18,13 +17,15 @@ use Rattle.ptpm_table.specs.Numbering.{look_of}
 use Rattle.ptpm_table.specs.Rendering.{rendered}
 use Rattle.ptpm_table.proofs.Identities.{same_identity-refl}
 use Rattle.ptpm_agent.specs.declared.verdict.Verdict.{Verdict}
-use Rattle.ptpm_agent.specs.Addressing.{heard_of, is_addressed, is_own, is_request, request_of}
+use Rattle.ptpm_agent.specs.Addressing.{heard_of, is_addressed, is_own, is_request, names_port, request_of}
 use Rattle.ptpm_agent.specs.Agent.{IsTurned}
 use Rattle.ptpm_agent.specs.Forwarding.{forwarded}
 use Rattle.ptpm_agent.specs.Turn.{Clock, State, Turned, carried_out, is_repeat, judged, look, next_by, reply_by, reply_messages, turn, turn_by, verdict_at}
 use Rattle.ptpm_agent.proofs.Turns.{forwarded-copy, reading-message_of, turn-message, turned_new, turned_other, message_of-reading}
 use Rattle.ptpm_host.specs.Changing.{owned_at, owner_by, owner_clock, owner_turn, owner_verdict}
 use Rattle.std.proofs.lemmas.Grind.{common_steps}
+use Rattle.ptpm_data.specs.Changes.{IsTargetPort, changed_by}
+use Rattle.ptpm_data.specs.Members.{DataSetsValue}
 use Rattle.ptpm_data.proofs.Answering.{new_few}
 use Rattle.ptpm_data.proofs.Differing.{nothing_changed}
 use Rattle.ptpm_table.specs.Tables.{entries_of_block, owner_of_block}
@@ -149,6 +150,26 @@ judged_elsewhere c s v elsewhere =
     (ap (λ (b : Bool). look_of (is_known v.source c.managers && b) (get s.entries v.source) v.number (request_of v)) elsewhere
     ∙ ap (λ (b : Bool). look_of b (get s.entries v.source) v.number (request_of v)) (and_none (is_known v.source c.managers)))
     ∙ not_repeated looks.Unknown c s v refl
+
+-- a new request of the owner is addressed to the clock, and asks something
+new_asks : (domain own addressed request here : Bool) → owned_at domain own addressed request here ≡ verdicts.AnsweredNew
+    → (addressed ≡ true) × (request ≡ true)
+new_asks false own addressed request here is = absurd (cc)
+new_asks true true addressed request here is = absurd (cc)
+new_asks true false false request here is = absurd (cc)
+new_asks true false true false here is = absurd (cc)
+new_asks true false true true here is = (refl, refl)
+
+target_port : (port : ℕ) (d : DataSetsValue) → names_port (length d.ports) port ≡ true → IsTargetPort port d
+target_port port d here = grind arith
+
+second_of : (a b : Bool) → (a && b) ≡ true → b ≡ true
+second_of true b is = is
+second_of false b is = absurd (cc)
+
+not_true : (b : Bool) → not b ≡ true → b ≡ false
+not_true true is = absurd (cc)
+not_true false is = refl
 
 -- ---- what is sent
 
@@ -286,6 +307,17 @@ returns-in_default-clause-turned c =
     subst (λ (t : Turned). IsTurned t c.take_turn.result.verdict (messages_in (take c.take_turn.result.count c.take_turn.new.room)) (state_in c.take_turn.new.self))
     (sym (owner_unread (clock_in c.args.self.now).clock (state_in c.args.self.now) c.args.port c.args.datagram.now _
     (sym c.view.ensures.exact ∙ c.in_default.is))) c.take_turn.ensures.turned
+
+pub carry_out_owned-requires-clause-action : goal.carry_out_owned-requires-clause-action
+carry_out_owned-requires-clause-action c =
+    let new : c.judge_owned-verdict.result ≡ verdicts.AnsweredNew = first_of (search rules, grind (arith, common_steps)) in
+    not_true _ (new_asks _ _ _ _ _ (sym c.judge_owned-verdict.ensures ∙ new)).1
+
+pub carry_out_owned-requires-clause-port : goal.carry_out_owned-requires-clause-port
+carry_out_owned-requires-clause-port c =
+    let new : c.judge_owned-verdict.result ≡ verdicts.AnsweredNew = first_of (search rules, grind (arith, common_steps)) in
+    target_port c.in-Ok.message.target.port c.args.self.now.agent.sets
+    (second_of _ _ (new_asks _ _ _ _ _ (sym c.judge_owned-verdict.ensures ∙ new)).0)
 
 pub carry_out_owned-requires-clause-room : goal.carry_out_owned-requires-clause-room
 carry_out_owned-requires-clause-room c =
