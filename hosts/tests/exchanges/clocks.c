@@ -48,8 +48,8 @@ static size_t image_of(const struct ptpm_clock *clock, uint8_t *octets) {
 
 static size_t state(uint8_t *octets) { return image_of(&clock_of_page, octets); }
 
-/* Starts the second clock from the first one's image, and saves it as the first; whether there is one. There is none while the first is
-   unsaved, since the others are saved. */
+/* Starts the second clock from the first one's image, and saves it as the first; whether there is one. There is none while the
+   first is unsaved, since the others are saved. */
 static bool restores_second(struct ptpm_clock *second) {
     static uint8_t image[MOST_OCTETS];
     const struct start *as = &start_of_page;
