@@ -1,6 +1,6 @@
 -- A start that was refused, and not for want of memory, has the number of its first reason; a start or a begin that was refused
 -- for no reason, that of want of memory.
-use Rattle.std.proofs.Common.{◌≡◌, ◌≢◌, ℕ, List, Option, None, Some, ap, ◌∙◌, arith, refl}
+use Rattle.std.proofs.Common.{◌≡◌, ◌≢◌, ℕ, List, Option, None, Some, ap, ◌∙◌, arith, drop, inr, refl, true}
 use Rattle.ptpm_journal.specs.declared.error.AddError.{AddError}
 use Rattle.ptpm_journal.specs.declared.error.AddError.TheVariants as adds
 use Rattle.ptpm_journal.specs.declared.error.NextError.{NextError}
@@ -15,7 +15,10 @@ use Rattle.ptpm_host.specs.declared.refusal.StartRefusal.{StartRefusal}
 use Rattle.ptpm_host.specs.declared.refusal.StartRefusal.TheVariants as starts
 use Rattle.ptpm_apply.specs.declared.choice.OpenError.{OpenError}
 use Rattle.ptpm_apply.specs.declared.choice.OpenError.TheVariants as opens
-use Rattle.ptpm_apply.specs.Opening.{HasEnd, IsRefusedBy, IsUnreadable}
+use Rattle.ptpm_apply.specs.Opening.{AreRead, HasEnd, IsRefusedBy, IsUnreadable, MayLackMemory}
+use Rattle.ptpm_apply.specs.declared.planned.Planned.{Planned}
+use Rattle.ptpm_journal.specs.Journal.{State, goes_on}
+use Rattle.ptpm_journal.specs.Turns.{IsAtEnd}
 use Rattle.ptpm_host.specs.JournalNumbers.{add_number, next_number}
 use Rattle.ptpm_host.specs.Rollout.{open_number}
 use Rattle.ptpm_host.specs.Numbers.{asker_number, begin_number, no_memory, restore_number, start_number}
@@ -90,6 +93,19 @@ has_end octets opens.OtherVersion number is why same = absurd (omega (arith, is,
 has_end octets opens.Damaged number is why same = absurd (omega (arith, is, same))
 has_end octets opens.Ended number is why same = why
 has_end octets opens.OutOfMemory number is why same = absurd (omega (arith, is, same))
+
+pub may_lack : (octets : List ℕ) (r : OpenError) (number : ℕ) → number ≡ open_number r → IsRefusedBy octets r
+    → number ≡ no_memory → MayLackMemory octets
+may_lack octets opens.OtherVersion number is why same = absurd (omega (arith, is, same))
+may_lack octets opens.Damaged number is why same = absurd (omega (arith, is, same))
+may_lack octets opens.Ended number is why same = absurd (omega (arith, is, same))
+may_lack octets opens.OutOfMemory number is why same = why
+
+-- a file that was read whole
+pub read_whole : (octets : List ℕ) (place crc : ℕ) (s : State) (steps : List Planned) (numbers : List ℕ)
+    → AreRead octets place s crc steps numbers → IsAtEnd s crc (drop place octets) → goes_on s ≡ true → MayLackMemory octets
+read_whole octets place crc s steps numbers are_read at_end goes =
+    record { place = place; crc = crc; journal = s; steps = steps; numbers = numbers; are_read = are_read; comes = inr (at_end, goes) }
 
 -- ---- which refusal of a journal a number is
 

@@ -8,7 +8,7 @@ ghost use Rattle.ptpm_apply.specs.declared.choice.OpenError.{OpenError};
 ghost use Rattle.ptpm_apply.specs.declared.event.Event.{Event};
 ghost use Rattle.ptpm_apply.specs.declared.stage.Stage.{Stage};
 ghost use Rattle.ptpm_apply.specs.Lanes.{AreLanesOf};
-ghost use Rattle.ptpm_apply.specs.Opening.{AreRead, HasEnd, IsChosen, IsUnreadable};
+ghost use Rattle.ptpm_apply.specs.Opening.{AreRead, HasEnd, IsChosen, IsUnreadable, MayLackMemory};
 ghost use Rattle.ptpm_apply.specs.Rollout.{RolloutValue};
 ghost use Rattle.ptpm_apply.specs.Turning.{Turned, action_of, answers, has_value};
 ghost use Rattle.ptpm_host.specs.Numbers.{no_memory, no_room};
@@ -26,7 +26,7 @@ use std::alloc::Global;
 
 /// Puts a change with this journal in a handle, in place of what it holds: 0, and how many octets of the journal are whole. If it is refused,
 /// by the number of the refusal, the handle holds what it held.
-#[tactic(auto, using(crate::proofs::Numbers::unreadable, crate::proofs::Numbers::of_other_version, crate::proofs::Numbers::has_end))]
+#[tactic(auto, using(crate::proofs::Numbers::unreadable, crate::proofs::Numbers::of_other_version, crate::proofs::Numbers::has_end, crate::proofs::Numbers::may_lack, crate::proofs::Numbers::read_whole))]
 #[unsafe(no_mangle)]
 pub extern "C" fn ptpm_rollout_open(
     alloc: Global,
@@ -46,6 +46,7 @@ pub extern "C" fn ptpm_rollout_open(
     ensures damaged { result ≡ open_number OpenError.Damaged → IsUnreadable journal.now }
     ensures version { result ≡ open_number OpenError.OtherVersion → IsUnreadable journal.now }
     ensures ended { result ≡ open_number OpenError.Ended → HasEnd journal.now }
+    ensures memory { result ≡ no_memory → MayLackMemory journal.now }
     ensures unchanged { result ≢ 0 → (whole.new ≡ 0) × (held handle.new.keeping ≡ held handle.old.keeping) }
 {
     *whole = 0;

@@ -48,15 +48,19 @@ static size_t image_of(const struct ptpm_clock *clock, uint8_t *octets) {
 
 static size_t state(uint8_t *octets) { return image_of(&clock_of_page, octets); }
 
-/* Starts the second clock from the first one's image, and saves it as the first; whether there is one. */
+/* Starts the second clock from the first one's image, and saves it as the first; whether there is one. There is none while the
+   first is unsaved, since the others are saved. */
 static bool restores_second(struct ptpm_clock *second) {
     static uint8_t image[MOST_OCTETS];
     const struct start *as = &start_of_page;
-    size_t gone, size = state(image);
-    return size > 0 && ptpm_clock_restore(second, as->clock.identity, as->port_count, as->managers.of, as->managers.count, image, size,
+    size_t gone, size = ptpm_clock_unsaved(&clock_of_page) ? 0 : state(image);
+    if (size == 0) return false;
+    bool is_restored = ptpm_clock_restore(second, as->clock.identity, as->port_count, as->managers.of, as->managers.count, image, size,
                                           &gone) == PTPM_RESTORED && gone == 0
-           && ptpm_clock_relay(second, relayed.ids, relayed.count) == PTPM_RELAYING
-           && (places_to_wait == 0 || ptpm_clock_saving(second, places_to_wait) == PTPM_SAVING);
+                       && ptpm_clock_relay(second, relayed.ids, relayed.count) == PTPM_RELAYING
+                       && (places_to_wait == 0 || ptpm_clock_saving(second, places_to_wait) == PTPM_SAVING);
+    if (!is_restored) say("no clock is restored from its image\n");
+    return is_restored;
 }
 
 static bool is_same_message(const struct ptpm_sent *one, const struct ptpm_sent *other) {
@@ -134,12 +138,11 @@ static void check_again(const struct ptpm_clock *other, const struct turn *again
     if (!is_same_turn(&turn, again) || !is_same_clock(other)) say("the clock that was restored does something else\n");
 }
 
-/* Hands a datagram in at all three clocks. It comes in only at the first if that is unsaved, since the others are saved. At the third it
-   comes in only if ptpm_clock_handle takes it. */
+/* Hands a datagram in at all three clocks; at the third only if ptpm_clock_handle takes it. */
 static void handle(const struct coming *in, size_t places) {
     static struct turn again;
     struct ptpm_clock second = { 0 }, third = { 0 };
-    bool is_twice = restores_second(&second) && !ptpm_clock_unsaved(&clock_of_page);
+    bool is_twice = restores_second(&second);
     bool is_shared = is_twice && is_simple(in) && places == PLACES && restores_second(&third);
     memset(&turn, 0xee, sizeof turn);
     turn.answer = take(&clock_of_page, in, &turn, places);
