@@ -399,12 +399,12 @@ struct ptpm_journal { void *at; PTPM_TO_EIGHT bool live; bool restored; };
 /* A record of a journal. A member that its kind lacks is not read, and is written as 0. Steps count from 0. */
 struct ptpm_journal_record {
     PTPM_AT_EIGHT uint64_t time;        /* of PTPM_RECORD_BEGUN to PTPM_RECORD_END: in seconds since 1970 */
-    uint32_t first;                     /* the place of the first group of octets among those that ptpm_journal_next was given */
-    uint32_t second;                    /* the place of the second group; ptpm_journal_add reads neither place, and no size */
+    uint32_t first;                     /* the first group of octets begins at this octet of what ptpm_journal_next was given */
+    uint32_t second;                    /* the same for the second group; ptpm_journal_add ignores both places and both sizes */
     uint16_t first_size;
     uint16_t second_size;
     uint16_t count;                     /* PTPM_RECORD_HEAD: how many steps there are */
-    uint16_t port;                      /* PTPM_RECORD_HEAD: the manager's; PTPM_RECORD_STEP: as the host says */
+    uint16_t port;                      /* PTPM_RECORD_HEAD: the manager's; PTPM_RECORD_STEP: the host's choice */
     uint16_t id;                        /* PTPM_RECORD_STEP: the managementId that is set */
     uint16_t step;                      /* PTPM_RECORD_BEGUN to PTPM_RECORD_TOLD; PTPM_RECORD_END: at which the change ended, or PTPM_NO_STEP */
     uint16_t number;                    /* PTPM_RECORD_BEGUN: the sequenceId */
@@ -415,7 +415,7 @@ struct ptpm_journal_record {
     uint8_t together;                   /* PTPM_RECORD_HEAD and PTPM_RECORD_POLICY: how many clocks are asked side by side */
     uint8_t domain;                     /* PTPM_RECORD_STEP */
     uint8_t group;                      /* PTPM_RECORD_STEP: the group of the plan, from 1 to 6 */
-    uint8_t what;                       /* PTPM_RECORD_TOLD: the outcome; PTPM_RECORD_END: the ending; PTPM_RECORD_TEXT: as the host says */
+    uint8_t what;                       /* PTPM_RECORD_TOLD: the outcome; PTPM_RECORD_END: the ending; PTPM_RECORD_TEXT: the host's choice */
     uint8_t zero[2];
 };
 
@@ -436,7 +436,7 @@ enum {
    earlier steps are done. */
 enum { PTPM_KEEPS_GOING = 1, PTPM_IN_ONE_ROW = 2 };
 
-/* What the answer to a step says; how a change ends; and the number that stands for no step. */
+/* The outcome of a step (ANSWERED: by a different value); how a change ends; and the number for no step. */
 enum { PTPM_STEP_DONE = 1, PTPM_STEP_REFUSED = 2, PTPM_STEP_ANSWERED = 3 };
 enum {
     PTPM_END_COMPLETE = 1, PTPM_END_REFUSED = 2, PTPM_END_ANSWERED = 3, PTPM_END_CHANGED = 4, PTPM_END_GIVEN_UP = 5,
@@ -508,7 +508,7 @@ enum {
 /* Why a change stays open. */
 enum {
     PTPM_OPEN_SILENT = 1,               /* an answer is missing */
-    PTPM_OPEN_UNKNOWN = 2,              /* another program used the session of a step without an answer, or the session's file is gone */
+    PTPM_OPEN_UNKNOWN = 2,              /* another program used the session of an unanswered step, or the session's file is gone */
     PTPM_OPEN_NOT_WRITTEN = 3,
     PTPM_OPEN_INTERRUPTED = 4,
     PTPM_OPEN_SETTLED = 5               /* it was opened with PTPM_SETTLE_ALONE, and nothing of it is uncertain */
@@ -578,11 +578,14 @@ PTPM_HAS_SIZE(ptpm_rollout_event, 16);
 PTPM_HAS_SIZE(ptpm_rollout_action, 12);
 #undef PTPM_HAS_SIZE
 
-/* The most messages that a clock of up to eight ports sends for a datagram. The most octets of a dataField of its own. The most octets
-   of a message, its dataField included. The most octets of a session's image, and of that of a clock of up to eight ports and sixteen
-   managers. */
-enum { PTPM_MOST_SENT = 15, PTPM_MOST_READ = 130, PTPM_MOST_OCTETS = 1472, PTPM_SESSION_IMAGE_OCTETS = 1478 };
-enum { PTPM_CLOCK_IMAGE_OCTETS = 27385 };
+/* Maxima. */
+enum {
+    PTPM_MOST_SENT = 15,                /* messages that a clock of up to eight ports sends for a datagram */
+    PTPM_MOST_READ = 130,               /* octets of a dataField that a clock itself has */
+    PTPM_MOST_OCTETS = 1472,            /* octets of a message, its dataField included */
+    PTPM_SESSION_IMAGE_OCTETS = 1478,   /* octets of a session's image */
+    PTPM_CLOCK_IMAGE_OCTETS = 27385     /* octets of the image of a clock of up to eight ports and sixteen managers */
+};
 
 /* The most messages that a clock with this number of ports sends for a datagram. The most octets of the image of a clock with these
    numbers of ports and of managers. */
@@ -1616,8 +1619,8 @@ enum ptpm_asked ptpm_asker_image(const struct ptpm_asker *asker, uint8_t *octets
    Takes:   the domain in which this run asks.
    Returns: PTPM_NOTHING_LEFT, also without an asker. PTPM_QUESTION_LEFT: a freshness check, which ptpm_asker_ask sends again. Or
             PTPM_GET_LEFT or PTPM_CHANGE_LEFT: a request that the host settles or gives up before it asks anything.
-   Writes:  *there: the domain in which a GET or a change that was left is settled (ptpm_asker_settle). If none was left, it says
-            nothing. */
+   Writes:  *there: the domain in which ptpm_asker_settle settles a GET or a change that was left. If none was left, *there has
+            no meaning. */
 uint32_t ptpm_asker_earlier(const struct ptpm_asker *asker, uint8_t domain, uint8_t *there);
 
 /* Gives what the answer of the latest PTPM_NOTE_ANSWER says.
@@ -1645,8 +1648,8 @@ static inline void ptpm_asker_stop_any(struct ptpm_asker *asker) {
    Caller:  stops the journal. */
 enum ptpm_journaled ptpm_journal_start(struct ptpm_journal *journal);
 
-/* Takes a record, and gives the octets that the host appends to the journal's file. The head and all steps are written whole
-   before the file has its name. A record is on the disk before the host goes on with its step.
+/* Takes a record, and gives the octets that the host appends to the journal's file. Until the head and all steps are written, the
+   file has a temporary name. A record is on the disk before the host goes on with its step.
    Takes:   the record, and the octets of each of its groups: none for a group that its kind lacks. PTPM_RECORD_OCTETS of room are
             always enough.
    Returns: PTPM_JOURNALED; or why not, and then nothing changes.
@@ -1714,7 +1717,7 @@ static inline void ptpm_rollout_stop_any(struct ptpm_rollout *rollout) {
 /* Seals an image: writes after it `ptps`, the count of saves, and the CRC-32 of all octets before the CRC-32. These show damage.
    Takes:   room octets, which begin with an image of size octets; and the count, one more at each save. A host calls
             ptpm_image_seal, which takes size before room.
-   Returns: PTPM_SAVED; or PTPM_NO_ROOM if room is less than size and PTPM_SEAL_OCTETS, and then no octet is written.
+   Returns: PTPM_SAVED; or PTPM_NO_ROOM if room is less than size + PTPM_SEAL_OCTETS, and then no octet is written.
    Writes:  *sealed: how many octets image and seal have, 0 if the call is refused; and the PTPM_SEAL_OCTETS octets after the image. */
 enum ptpm_saved ptpm_image_seal_in(uint8_t *octets, size_t room, size_t size, uint64_t count, size_t *sealed);
 
@@ -1733,8 +1736,8 @@ enum ptpm_restored ptpm_image_unseal(const uint8_t *octets, size_t size, uint64_
 
 /* Finds the newest image of several places, which have the same size. A host that writes only the oldest place has one image at
    any moment, whenever its power fails (docs/image.md).
-   Takes:   the octets of all places, one after the other; how many octets a place has, and how many places there are. The first
-            octets of each place are enough: as many as the largest image and its seal have.
+   Takes:   the octets of all places, one after the other; how many octets a place has, and how many places there are. The beginning
+            of each place is enough, if the largest image and its seal fit into it.
    Returns: the place of the image with the highest count, counted from 0; of several such places, the first. The number of places
             if no place holds an image that ptpm_image_unseal takes.
    Writes:  *count and *image, as ptpm_image_unseal does for that place; both are 0 if no place holds one. */

@@ -97,8 +97,7 @@ pub const PTPM_NOTHING_LEFT: u32 = 0; pub const PTPM_QUESTION_LEFT: u32 = 1; pub
 pub const PTPM_CHANGE_LEFT: u32 = 3;
 pub const PTPM_NO_NUMBER: u32 = 65536;
 pub const PTPM_MOST_SENT: usize = 15; pub const PTPM_MOST_READ: usize = 130; pub const PTPM_MOST_OCTETS: usize = 1472;
-pub const PTPM_SESSION_IMAGE_OCTETS: usize = 1478;
-pub const PTPM_CLOCK_IMAGE_OCTETS: usize = 27385;
+pub const PTPM_SESSION_IMAGE_OCTETS: usize = 1478; pub const PTPM_CLOCK_IMAGE_OCTETS: usize = 27385;
 pub const PTPM_RECORD_OCTETS: u32 = 8221;
 pub const PTPM_SEAL_OCTETS: usize = 16;
 pub const PTPM_MOST_ANSWERS: usize = 16384; pub const PTPM_SURVEY_PORT: u16 = 65534;
