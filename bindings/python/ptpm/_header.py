@@ -373,7 +373,7 @@ WHY: Dict[int, str] = {
     PTPM_OTHER_NAME: "a word is not the name of the member that comes next",
     PTPM_NO_VALUE: "a word is not a value of the member, or no SET has the member",
     PTPM_UNSAVED: "the clock is not saved, and this call needs a save first",
-    PTPM_OTHER_IMAGE: "not the latest image, or it counted already",
+    PTPM_OTHER_IMAGE: "not the latest image, or the image was confirmed already",
     PTPM_NO_ASKER: "the handle holds no asker",
     PTPM_UNDER_WAY: "a change of the device is under way, and this call has to wait for it",
     PTPM_NOTHING_UNDER_WAY: "no change of the device is under way",
