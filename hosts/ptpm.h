@@ -24,7 +24,7 @@
      and so does the message of a survey. The call ptpm_rollout_open takes 1,500. The images and the restore of a session
      take 1,000, and so do ptpm_asker_ask and ptpm_asker_wake. The calls ptpm_clock_handle and ptpm_clock_handle_shared take
      800.
-     As C it takes more (docs/embedding.md, "On any other processor"). Beyond that a call takes the stack of the host's malloc,
+     The library as C takes more (docs/embedding.md, "On any other processor"). Besides, a call takes the stack of the host's malloc,
      realloc, free, memcpy, memmove and memset. No call calls itself.
 
    A call that only reads takes a const handle, and leaves it as it is. If several errors apply, the first is returned. Only
@@ -75,8 +75,8 @@ enum { PTPM_MOST_PORTS = 64, PTPM_MOST_MANAGERS = 64, PTPM_MOST_IDS = 32 };
 struct ptpm_clock { void *at; PTPM_TO_EIGHT bool live; bool restored; };
 
 /* The start values of a clock's own members: ptpm_clock_defaults writes them all, then the host writes its own over them.
-   A flag is set if it is not 0. A value without its has_ flag is the clock's own, and parent_port is then the clock's
-   port 0. An offsetScaledLogVariance is 256 times the base-2 logarithm of the variance in seconds squared, plus 0x8000
+   A flag is set if it is not 0. Without its has_ flag a member of the grandmaster is the clock's own, and the parent is the
+   clock's port 0. An offsetScaledLogVariance is 256 times the base-2 logarithm of the variance in seconds squared, plus 0x8000
    (7.6.3). */
 struct ptpm_clock_settings {
     PTPM_AT_EIGHT int64_t offset_from_master; /* in nanoseconds times 2^16 */
@@ -147,7 +147,7 @@ struct ptpm_port_settings {
    flag is set if it is not 0. A grandmaster is observed as a whole. If is_grandmaster is set, the grandmaster is the clock
    itself, and the members of a grandmaster and of the parent port do not count. Otherwise, if has_grandmaster is set, the
    grandmaster is the one that these members name. If neither is set, the grandmaster stays. A clock that is its own grandmaster
-   then shows its observed quality as the grandmaster's. What only managers set can't be observed. Managers may also set
+   afterwards shows its observed quality as the grandmaster's. What only managers set can't be observed. Managers may also set
    clock_accuracy, utc_offset, the two leaps and utc_valid: the later value counts. */
 struct ptpm_observed_clock {
     PTPM_AT_EIGHT int64_t offset_from_master; /* in nanoseconds times 2^16 */
@@ -658,7 +658,7 @@ enum { PTPM_MOST_ANSWERS = 16384, PTPM_SURVEY_PORT = 65534 };
 #define PTPM_BAD_LEAP59 88              /* both leaps are set */
 #define PTPM_BAD_STATE 94
 
-/* A type of answers has four octets, as in the library, even if -fshort-enums would give it one. As C, clang accepts the form of C++
+/* A type of answers has four octets, as in the library, even if -fshort-enums would give it one. In C, clang accepts the form of C++
    after __extension__. */
 #if defined(__cplusplus) || defined(__clang__)
 #define PTPM_FOUR_OCTETS(name) name : uint32_t
