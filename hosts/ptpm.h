@@ -319,7 +319,7 @@ struct ptpm_relayed_id {
     uint16_t id;                        /* managementId: none of the 21 that the clock knows */
     uint8_t scope;                      /* PTPM_OF_CLOCK or PTPM_OF_PORT */
     uint8_t actions;                    /* PTPM_MAY_SET, PTPM_MAY_COMMAND, or their sum */
-    uint8_t right;                      /* what a manager needs: rights of ptpm_manager_settings, summed up. 0: none */
+    uint8_t right;                      /* what a manager needs: rights of ptpm_manager_settings, summed up, no other bit. 0: none */
     uint16_t least;                     /* how many octets its dataField has at least */
     uint16_t most;                      /* and at most: 130 or fewer */
 };
