@@ -995,128 +995,127 @@ static struct s1 f41(address a0, address a1, u16 a2, address a3);
 static void f42(address a0, u16 a1, address a2, u8 a3, address a4);
 static void f43(address a0, address a1, u64 a2);
 static void f44(address a0, address a1, u64 a2);
-static void f45(address a0, address a1, u64 a2);
-static void f46(address a0, address a1);
-static void f47(address a0, u64 a1, address a2, address a3, u16 a4, address a5);
-static void f48(address a0, u8 a1, u16 a2, address a3, address a4, address a5);
-static void f49(address a0, u16 a1, address a2, address a3);
-static void f50(address a0, address a1, address a2);
-static u8 f51(address a0, address a1, u64 a2, address a3);
-static void f52(address a0, address a1, u64 a2, address a3);
-static struct s1 f53(address a0, address a1);
-static void f54(address a0, address a1, u8 a2, u8 a3, address a4);
-static void f55(address a0, address a1, u16 a2, address a3, address a4, u64 a5);
-static u64 f56(address a0, address a1, u64 a2);
-static void f57(address a0, address a1, u16 a2, address a3, u64 a4, u8 a5, address a6, u64 a7, address a8);
-static u8 f58(address a0, address a1, u64 a2, address a3);
-static void f59(address a0, address a1, address a2);
-static void f60(address a0, u8 a1, address a2);
-static void f61(address a0, address a1, address a2, u8 a3, address a4);
-static void f62(address a0, address a1, u16 a2, address a3, u64 a4, address a5, u64 a6, address a7, u64 a8, address a9);
-static u8 f63(address a0);
-static u8 f64(address a0, address a1);
-static void f65(address a0, address a1, address a2, u64 a3);
-static void f66(address a0, address a1, u64 a2);
-static void f67(address a0, address a1, u8 a2, address a3);
-static void f68(address a0, u8 a1, address a2);
-static void f69(address a0, address a1, address a2, u8 a3, u8 a4, address a5);
-static void f70(address a0, address a1);
-static void f71(address a0, u64 a1, address a2, address a3, u16 a4, address a5);
-static void f72(address a0, address a1, address a2);
+static void f45(address a0, address a1);
+static void f46(address a0, u64 a1, address a2, address a3, u16 a4, address a5);
+static void f47(address a0, u8 a1, u16 a2, address a3, address a4, address a5);
+static void f48(address a0, u16 a1, address a2, address a3);
+static void f49(address a0, address a1, address a2);
+static u8 f50(address a0, address a1, u64 a2, address a3);
+static void f51(address a0, address a1, u64 a2, address a3);
+static struct s1 f52(address a0, address a1);
+static void f53(address a0, address a1, u8 a2, u8 a3, address a4);
+static void f54(address a0, address a1, u16 a2, address a3, address a4, u64 a5);
+static u64 f55(address a0, address a1, u64 a2);
+static void f56(address a0, address a1, u16 a2, address a3, u64 a4, u8 a5, address a6, u64 a7, address a8);
+static u8 f57(address a0, address a1, u64 a2, address a3);
+static void f58(address a0, address a1, address a2);
+static void f59(address a0, u8 a1, address a2);
+static void f60(address a0, address a1, address a2, u8 a3, address a4);
+static void f61(address a0, address a1, u16 a2, address a3, u64 a4, address a5, u64 a6, address a7, u64 a8, address a9);
+static u8 f62(address a0);
+static u8 f63(address a0, address a1);
+static void f64(address a0, address a1, address a2, u64 a3);
+static void f65(address a0, address a1, u64 a2);
+static void f66(address a0, address a1, u8 a2, address a3);
+static void f67(address a0, u8 a1, address a2);
+static void f68(address a0, address a1, address a2, u8 a3, u8 a4, address a5);
+static void f69(address a0, address a1);
+static void f70(address a0, u64 a1, address a2, address a3, u16 a4, address a5);
+static void f71(address a0, address a1, address a2);
+static struct s2 f72(address a0, address a1, u64 a2);
 static struct s2 f73(address a0, address a1, u64 a2);
-static struct s2 f74(address a0, address a1, u64 a2);
+static void f74(address a0, address a1);
 static void f75(address a0, address a1);
 static void f76(address a0, address a1);
-static void f77(address a0, address a1);
-static u32 f78(address a0, u16 a1, address a2, u64 a3, address a4, u8 a5, address a6, u64 a7, address a8);
-static u8 f79(address a0, address a1, u64 a2);
-static void f80(address a0, address a1, address a2, u64 a3, address a4, u64 a5);
-static u64 f81(u8 a0, u8 a1);
-static void f82(address a0, address a1, address a2, u64 a3, address a4);
-static struct s3 f83(u16 a0, address a1, u64 a2);
-static struct s1 f84(address a0, u64 a1);
-static void f85(address a0, u8 a1, u8 a2);
-static struct s1 f86(address a0, u64 a1);
-static struct s4 f87(address a0);
-static struct s4 f88(u8 a0, u8 a1);
-static u64 f89(u16 a0, address a1);
-static void f90(u8 a0, u8 a1, address a2);
-static struct s4 f91(u16 a0, address a1, u64 a2);
-static struct s4 f92(address a0, u64 a1);
-static void f93(address a0, u8 a1, u8 a2, address a3, u64 a4);
-static void f94(u64 a0, address a1);
-static struct s4 f95(address a0, u64 a1);
+static u32 f77(address a0, u16 a1, address a2, u64 a3, address a4, u8 a5, address a6, u64 a7, address a8);
+static u8 f78(address a0, address a1, u64 a2);
+static void f79(address a0, address a1, address a2, u64 a3, address a4, u64 a5);
+static u64 f80(u8 a0, u8 a1);
+static void f81(address a0, address a1, address a2, u64 a3, address a4);
+static struct s3 f82(u16 a0, address a1, u64 a2);
+static struct s1 f83(address a0, u64 a1);
+static void f84(address a0, u8 a1, u8 a2);
+static struct s1 f85(address a0, u64 a1);
+static struct s4 f86(address a0);
+static struct s4 f87(u8 a0, u8 a1);
+static u64 f88(u16 a0, address a1);
+static void f89(u8 a0, u8 a1, address a2);
+static struct s4 f90(u16 a0, address a1, u64 a2);
+static struct s4 f91(address a0, u64 a1);
+static void f92(address a0, u8 a1, u8 a2, address a3, u64 a4);
+static void f93(u64 a0, address a1);
+static struct s4 f94(address a0, u64 a1);
+static struct s3 f95(address a0, u64 a1);
 static struct s3 f96(address a0, u64 a1);
-static struct s3 f97(address a0, u64 a1);
-static void f98(address a0, address a1, u64 a2);
-static u32 f99(address a0, u64 a1, address a2, u64 a3);
-static void f100(address a0, address a1, u64 a2);
-static void f101(address a0, address a1, address a2, address a3, u64 a4, address a5, u64 a6, address a7, u64 a8);
+static void f97(address a0, address a1, u64 a2);
+static u32 f98(address a0, u64 a1, address a2, u64 a3);
+static void f99(address a0, address a1, u64 a2);
+static void f100(address a0, address a1, address a2, address a3, u64 a4, address a5, u64 a6, address a7, u64 a8);
+static u8 f101(address a0, address a1);
 static u8 f102(address a0, address a1);
-static u8 f103(address a0, address a1);
+static u8 f103(address a0);
 static u8 f104(address a0);
-static u8 f105(address a0);
-static void f106(address a0, address a1, address a2, u64 a3);
-static void f107(address a0, address a1);
-static u8 f108(address a0, u64 a1, address a2);
+static void f105(address a0, address a1, address a2, u64 a3);
+static void f106(address a0, address a1);
+static u8 f107(address a0, u64 a1, address a2);
+static void f108(address a0, address a1, u64 a2);
 static void f109(address a0, address a1, u64 a2);
-static void f110(address a0, address a1, u64 a2);
-static u8 f111(u64 a0, address a1, u64 a2, address a3, u64 a4, u64 a5);
-static void f112(address a0, u32 a1, address a2, u64 a3);
-static u64 f113(address a0, u64 a1, u64 a2);
-static void f114(address a0, u16 a1, address a2, u64 a3);
-static void f115(address a0, u64 a1, address a2);
-static void f116(u8 a0, address a1);
-static u8 f117(address a0, address a1, u64 a2);
-static u8 f118(address a0, u64 a1);
-static u8 f119(address a0, address a1, u64 a2);
-static void f120(u64 a0, address a1);
+static u8 f110(u64 a0, address a1, u64 a2, address a3, u64 a4, u64 a5);
+static void f111(address a0, u32 a1, address a2, u64 a3);
+static u64 f112(address a0, u64 a1, u64 a2);
+static void f113(address a0, u16 a1, address a2, u64 a3);
+static void f114(address a0, u64 a1, address a2);
+static void f115(u8 a0, address a1);
+static u8 f116(address a0, address a1, u64 a2);
+static u8 f117(address a0, u64 a1);
+static u8 f118(address a0, address a1, u64 a2);
+static void f119(u64 a0, address a1);
+static void f120(address a0, u64 a1);
 static void f121(address a0, u64 a1);
-static void f122(address a0, u64 a1);
-static void f123(address a0, address a1, u64 a2);
-static void f124(address a0, u16 a1, u8 a2);
-static void f125(address a0, u64 a1, u8 a2, u16 a3, address a4, u64 a5);
-static void f126(address a0, u64 a1, u16 a2, u8 a3);
+static void f122(address a0, address a1, u64 a2);
+static void f123(address a0, u16 a1, u8 a2);
+static void f124(address a0, u64 a1, u8 a2, u16 a3, address a4, u64 a5);
+static void f125(address a0, u64 a1, u16 a2, u8 a3);
+static u8 f126(address a0);
 static u8 f127(address a0);
-static u8 f128(address a0);
-static u8 f129(address a0, u64 a1);
-static void f130(address a0, address a1, u64 a2, address a3, address a4, u16 a5, u16 a6);
-static struct s1 f131(address a0, u64 a1);
+static u8 f128(address a0, u64 a1);
+static void f129(address a0, address a1, u64 a2, address a3, address a4, u16 a5, u16 a6);
+static struct s1 f130(address a0, u64 a1);
+static void f131(address a0, address a1, u64 a2, address a3, u64 a4, address a5, u64 a6);
 static void f132(address a0, address a1, u64 a2, address a3, u64 a4, address a5, u64 a6);
-static void f133(address a0, address a1, u64 a2, address a3, u64 a4, address a5, u64 a6);
-static void f134(address a0);
+static void f133(address a0);
+static void f134(address a0, address a1, address a2, u64 a3);
 static void f135(address a0, address a1, address a2, u64 a3);
-static void f136(address a0, address a1, address a2, u64 a3);
-static void f137(address a0, address a1);
+static void f136(address a0, address a1);
+static struct s1 f137(address a0, u64 a1, address a2);
 static struct s1 f138(address a0, u64 a1, address a2);
-static struct s1 f139(address a0, u64 a1, address a2);
-static struct s1 f140(address a0, address a1, u64 a2);
-static void f141(address a0, address a1, address a2, u64 a3);
-static u8 f142(address a0, address a1, address a2, u64 a3);
-static struct s1 f143(address a0, address a1, address a2, u64 a3);
-static void f144(address a0, address a1, address a2, u64 a3);
-static u8 f145(address a0, address a1, u64 a2);
-static struct s1 f146(address a0, u16 a1);
-static u8 f147(address a0, address a1);
-static void f148(address a0, address a1, u64 a2, address a3);
-static u8 f149(u8 a0, u8 a1, address a2, u64 a3);
-static void f150(address a0, address a1, u16 a2, address a3, u64 a4);
-static struct s5 f151(address a0, address a1);
-static struct s1 f152(address a0, u64 a1, address a2);
-static u8 f153(address a0, address a1, address a2);
-static void f154(address a0, address a1, address a2, u64 a3, address a4, u64 a5);
+static struct s1 f139(address a0, address a1, u64 a2);
+static void f140(address a0, address a1, address a2, u64 a3);
+static u8 f141(address a0, address a1, address a2, u64 a3);
+static struct s1 f142(address a0, address a1, address a2, u64 a3);
+static void f143(address a0, address a1, address a2, u64 a3);
+static u8 f144(address a0, address a1, u64 a2);
+static struct s1 f145(address a0, u16 a1);
+static u8 f146(address a0, address a1);
+static void f147(address a0, address a1, u64 a2, address a3);
+static u8 f148(u8 a0, u8 a1, address a2, u64 a3);
+static void f149(address a0, address a1, u16 a2, address a3, u64 a4);
+static struct s5 f150(address a0, address a1);
+static struct s1 f151(address a0, u64 a1, address a2);
+static u8 f152(address a0, address a1, address a2);
+static void f153(address a0, address a1, address a2, u64 a3, address a4, u64 a5);
+static u8 f154(address a0);
 static u8 f155(address a0);
 static u8 f156(address a0);
-static u8 f157(address a0);
-static u32 f158(address a0, address a1);
-static void f159(address a0, address a1, address a2, address a3, u64 a4);
-static void f160(address a0, address a1);
-static void f161(address a0, address a1, address a2, address a3, u64 a4);
-static void f162(address a0, address a1, address a2, address a3);
-static void f163(address a0, address a1, address a2, address a3, u64 a4);
-static void f164(address a0, address a1, u8 a2, u16 a3, u16 a4, address a5, u64 a6);
+static u32 f157(address a0, address a1);
+static void f158(address a0, address a1, address a2, address a3, u64 a4);
+static void f159(address a0, address a1);
+static void f160(address a0, address a1, address a2, address a3, u64 a4);
+static void f161(address a0, address a1, address a2, address a3);
+static void f162(address a0, address a1, address a2, address a3, u64 a4);
+static void f163(address a0, address a1, u8 a2, u16 a3, u16 a4, address a5, u64 a6);
+static void f164(address a0, address a1, u16 a2, address a3, u64 a4);
 static void f165(address a0, address a1, u16 a2, address a3, u64 a4);
-static void f166(address a0, address a1, u16 a2, address a3, u64 a4);
 u64 portable_ptpm_answer_name(u32 a0, address a1, u64 a2);
 u32 portable_ptpm_asker_ask(address a0, u64 a1, u64 a2, u8 a3, u16 a4, u16 a5, address a6, u64 a7, u8 a8, address a9);
 u32 portable_ptpm_asker_earlier(address a0, u8 a1, address a2);
@@ -8748,234 +8747,237 @@ L41:;
 }
 
 static void f38(address a0, address a1, u16 a2, address a3, u64 a4, address a5, u64 a6, address a7) {
-    u8 v8, v9, v10, v11, v12, v19, v20, v21, v22, v37, v38, v39, v40, v42, v43, v44;
-    u8 v46, v48, v54, v56, v57, v59, v61, v66, v68, v69, v71, v75, v79, v81, v82, v83;
-    u8 v84, v85, v87, v88, v90, v92, v94, v95, v104, v106, v107, v108, v110, v112, v113, v114;
-    u8 v118, v120, v128, v130, v136, v140, v142, v147, v148, v149, v151, v152, v157, v161, v163, v168;
-    u8 v172, v174, v190, v191, v201, v203, v206, v213, v216, v217, v219, v220, v221, v224, v229, v230;
-    u16 v13, v49, v50, v51, v52, v55, v62, v63, v64, v65, v121, v122, v123, v124, v131, v132;
-    u16 v133, v143, v144, v145, v146, v156, v158, v164, v165, v166, v167, v179, v180, v181, v182, v212;
-    u16 v222, v223;
-    u64 v14, v16, v53, v72, v73, v76, v77, v78, v80, v96, v97, v98, v99, v116, v126, v135;
-    u64 v138, v153, v155, v169, v170, v176, v178, v205, v210, v215, v237, v239;
-    address v15, v17, v18, v24, v25, v26, v27, v28, v29, v30, v31, v32, v33, v34, v35, v36;
-    address v41, v45, v47, v58, v60, v67, v70, v74, v86, v89, v91, v93, v100, v101, v102, v103;
-    address v105, v109, v111, v115, v117, v119, v125, v127, v129, v134, v137, v139, v141, v150, v154, v159;
-    address v160, v162, v171, v173, v175, v177, v183, v184, v185, v186, v187, v188, v192, v193, v194, v195;
-    address v196, v197, v199, v200, v202, v204, v207, v208, v209, v211, v214, v218, v225, v226, v227, v228;
-    address v231, v232, v233, v234, v235, v236, v238, v240, v241;
-    u32 v23, v198;
-    struct s1 v189;
+    u8 v8, v9, v10, v11, v12, v20, v21, v22, v23, v39, v40, v41, v42, v44, v45, v46;
+    u8 v48, v50, v56, v58, v59, v61, v63, v68, v70, v71, v73, v77, v81, v83, v84, v85;
+    u8 v86, v87, v89, v90, v92, v94, v96, v97, v106, v108, v109, v110, v112, v114, v115, v116;
+    u8 v120, v122, v130, v132, v138, v142, v144, v149, v150, v151, v153, v154, v159, v163, v165, v170;
+    u8 v174, v176, v192, v193, v194, v204, v206, v209, v216, v219, v220, v222, v223, v224, v227, v232;
+    u8 v233;
+    u32 v13, v24, v201;
+    u16 v14, v51, v52, v53, v54, v57, v64, v65, v66, v67, v123, v124, v125, v126, v133, v134;
+    u16 v135, v145, v146, v147, v148, v158, v160, v166, v167, v168, v169, v181, v182, v183, v184, v215;
+    u16 v225, v226;
+    u64 v15, v17, v55, v74, v75, v78, v79, v80, v82, v98, v99, v100, v101, v118, v128, v137;
+    u64 v140, v155, v157, v171, v172, v178, v180, v208, v213, v218, v240, v242;
+    address v16, v18, v19, v25, v26, v27, v28, v29, v30, v31, v32, v33, v34, v35, v36, v37;
+    address v38, v43, v47, v49, v60, v62, v69, v72, v76, v88, v91, v93, v95, v102, v103, v104;
+    address v105, v107, v111, v113, v117, v119, v121, v127, v129, v131, v136, v139, v141, v143, v152, v156;
+    address v161, v162, v164, v173, v175, v177, v179, v185, v186, v187, v188, v189, v190, v195, v196, v197;
+    address v198, v199, v200, v202, v203, v205, v207, v210, v211, v212, v214, v217, v221, v228, v229, v230;
+    address v231, v234, v235, v236, v237, v238, v239, v241, v243, v244;
+    struct s1 v191;
     u64 block0[1];
     u64 block1[9];
     u64 block2[3];
-    u64 block3[2];
-    u64 block4[3];
-    u64 block5[1];
-    u64 block6[3];
-    u64 block7[8];
+    u64 block3[8];
+    u64 block4[2];
+    u64 block5[3];
+    u64 block6[1];
+    u64 block7[3];
     u64 block8[8];
-    u64 block9[3];
-    u64 block10[8];
-    v24 = ADDRESS(block0);
-    v25 = ADDRESS(block1);
-    v26 = ADDRESS(block2);
-    v27 = ADDRESS(block3);
-    v28 = ADDRESS(block4);
-    v29 = ADDRESS(block5);
-    v30 = ADDRESS(block6);
-    v31 = ADDRESS(block7);
-    v32 = ADDRESS(block8);
-    v33 = ADDRESS(block9);
-    v34 = ADDRESS(block10);
+    u64 block9[8];
+    u64 block10[3];
+    u64 block11[8];
+    v25 = ADDRESS(block0);
+    v26 = ADDRESS(block1);
+    v27 = ADDRESS(block2);
+    v28 = ADDRESS(block3);
+    v29 = ADDRESS(block4);
+    v30 = ADDRESS(block5);
+    v31 = ADDRESS(block6);
+    v32 = ADDRESS(block7);
+    v33 = ADDRESS(block8);
+    v34 = ADDRESS(block9);
+    v35 = ADDRESS(block10);
+    v36 = ADDRESS(block11);
+    memory_set(v36, 0u, 64u);
+    store_address(v35, a5);
+    v37 = v35 + 8u * 1u;
+    store64(v37, a6);
+    v38 = v35 + 16u * 1u;
+    store64(v38, 0u);
     memory_set(v34, 0u, 64u);
-    store_address(v33, a5);
-    v35 = v33 + 8u * 1u;
-    store64(v35, a6);
-    v36 = v33 + 16u * 1u;
-    store64(v36, 0u);
-    memory_set(v32, 0u, 64u);
-    memory_set(v31, 0u, 64u);
-    memory_set(v29, 0u, 3u);
-    v37 = a4 < 54u;
-    if (v37) { goto L6; }
+    memory_set(v33, 0u, 64u);
+    memory_set(v31, 0u, 3u);
+    v39 = a4 < 54u;
+    if (v39) { goto L6; }
     else { goto L1; }
 L1:;
-    v38 = load8(a3);
-    v39 = (u8)((u32)v38 & (u32)15u);
-    v40 = v39 == 13u;
-    if (v40) { goto L2; }
+    v40 = load8(a3);
+    v41 = (u8)((u32)v40 & (u32)15u);
+    v42 = v41 == 13u;
+    if (v42) { goto L2; }
     else { goto L6; }
 L2:;
-    v41 = a3 + 1u * 1u;
-    v42 = load8(v41);
-    v43 = (u8)((u32)v42 & (u32)15u);
-    v44 = v43 == 2u;
-    if (v44) { goto L3; }
+    v43 = a3 + 1u * 1u;
+    v44 = load8(v43);
+    v45 = (u8)((u32)v44 & (u32)15u);
+    v46 = v45 == 2u;
+    if (v46) { goto L3; }
     else { goto L6; }
 L3:;
-    v45 = a3 + 2u * 1u;
-    v46 = load8(v45);
-    v47 = a3 + 3u * 1u;
+    v47 = a3 + 2u * 1u;
     v48 = load8(v47);
-    v49 = (u16)v46;
-    v50 = (u16)((u32)v49 << (8u & 15u));
+    v49 = a3 + 3u * 1u;
+    v50 = load8(v49);
     v51 = (u16)v48;
-    v52 = (u16)((u32)v50 | (u32)v51);
-    v53 = (u64)v52;
-    v54 = a4 < v53;
-    v55 = (u16)((u32)v52 + (u32)64063u);
-    v56 = v55 < 64117u;
-    v57 = (u8)(((u32)v56 | (u32)v54) & UINT64_C(1));
-    if (v57) { goto L6; }
+    v52 = (u16)((u32)v51 << (8u & 15u));
+    v53 = (u16)v50;
+    v54 = (u16)((u32)v52 | (u32)v53);
+    v55 = (u64)v54;
+    v56 = a4 < v55;
+    v57 = (u16)((u32)v54 + (u32)64063u);
+    v58 = v57 < 64117u;
+    v59 = (u8)(((u32)v58 | (u32)v56) & UINT64_C(1));
+    if (v59) { goto L6; }
     else { goto L4; }
 L4:;
-    v58 = a3 + 48u * 1u;
-    v59 = load8(v58);
-    v60 = a3 + 49u * 1u;
+    v60 = a3 + 48u * 1u;
     v61 = load8(v60);
-    v62 = (u16)v59;
-    v63 = (u16)((u32)v62 << (8u & 15u));
+    v62 = a3 + 49u * 1u;
+    v63 = load8(v62);
     v64 = (u16)v61;
-    v65 = (u16)((u32)v63 | (u32)v64);
-    v66 = v65 == 1u;
-    if (v66) { goto L5; }
+    v65 = (u16)((u32)v64 << (8u & 15u));
+    v66 = (u16)v63;
+    v67 = (u16)((u32)v65 | (u32)v66);
+    v68 = v67 == 1u;
+    if (v68) { goto L5; }
     else { goto L6; }
 L5:;
-    v67 = a3 + 46u * 1u;
-    v68 = load8(v67);
-    v69 = (u8)((u32)v68 & (u32)15u);
-    v70 = a3 + 50u * 1u;
-    v71 = load8(v70);
-    v72 = (u64)v71;
-    v73 = (u64)((u64)v72 << (8u & 63u));
-    v74 = a3 + 51u * 1u;
-    v75 = load8(v74);
-    v76 = (u64)v75;
-    v77 = (u64)((u64)v73 | (u64)v76);
-    v78 = (u64)((u64)v77 + (u64)52u);
-    v79 = v78 == v53;
-    v80 = (u64)((u64)v53 & (u64)1u);
-    v81 = v80 == 0u;
-    v82 = (u8)(((u32)v81 & (u32)v79) & UINT64_C(1));
-    v83 = v69 < 5u;
-    v84 = v82 ? v83 : 0u;
-    if (v84) { v8 = v38; v9 = v48; v10 = v46; v11 = v69; v12 = 0u; goto L8; }
+    v69 = a3 + 46u * 1u;
+    v70 = load8(v69);
+    v71 = (u8)((u32)v70 & (u32)15u);
+    v72 = a3 + 50u * 1u;
+    v73 = load8(v72);
+    v74 = (u64)v73;
+    v75 = (u64)((u64)v74 << (8u & 63u));
+    v76 = a3 + 51u * 1u;
+    v77 = load8(v76);
+    v78 = (u64)v77;
+    v79 = (u64)((u64)v75 | (u64)v78);
+    v80 = (u64)((u64)v79 + (u64)52u);
+    v81 = v80 == v55;
+    v82 = (u64)((u64)v55 & (u64)1u);
+    v83 = v82 == 0u;
+    v84 = (u8)(((u32)v83 & (u32)v81) & UINT64_C(1));
+    v85 = v71 < 5u;
+    v86 = v84 ? v85 : 0u;
+    if (v86) { v8 = v40; v9 = v50; v10 = v48; v11 = v71; v12 = 0u; goto L8; }
     else { goto L6; }
 L6:;
-    f8(v29, a3, a4);
-    v85 = load8(v29);
-    v86 = v29 + 1u * 1u;
-    v87 = load8(v86);
-    v88 = v85 == 0u;
-    if (v88) { goto L7; }
+    f8(v31, a3, a4);
+    v87 = load8(v31);
+    v88 = v31 + 1u * 1u;
+    v89 = load8(v88);
+    v90 = v87 == 0u;
+    if (v90) { goto L7; }
     else { goto L24; }
 L7:;
-    v89 = v29 + 2u * 1u;
-    v90 = load8(v89);
-    v91 = a3 + 2u * 1u;
+    v91 = v31 + 2u * 1u;
     v92 = load8(v91);
-    v93 = a3 + 3u * 1u;
+    v93 = a3 + 2u * 1u;
     v94 = load8(v93);
-    v95 = load8(a3);
-    v8 = v95; v9 = v94; v10 = v92; v11 = v87; v12 = v90; goto L8;
+    v95 = a3 + 3u * 1u;
+    v96 = load8(v95);
+    v97 = load8(a3);
+    v8 = v97; v9 = v96; v10 = v94; v11 = v89; v12 = v92; goto L8;
 L8:;
-    v96 = (u64)v10;
-    v97 = (u64)((u64)v96 << (8u & 63u));
-    v98 = (u64)v9;
-    v99 = (u64)((u64)v97 | (u64)v98);
-    store_address(v30, a3);
-    v100 = v30 + 8u * 1u;
-    store64(v100, v99);
-    v101 = v30 + 16u * 1u;
-    store8(v101, v11);
-    v102 = v30 + 17u * 1u;
-    store8(v102, v12);
-    v103 = v30 + 18u * 1u;
-    memory_set(v103, 0u, 6u);
-    v104 = (u8)((u32)v8 >> (4u & 7u));
-    v105 = a3 + 5u * 1u;
-    v106 = load8(v105);
-    v107 = (u8)((u32)v104 | (u32)v106);
-    v108 = v107 == 0u;
-    if (v108) { goto L9; }
-    else { v19 = 1u; goto L36; }
+    v98 = (u64)v10;
+    v99 = (u64)((u64)v98 << (8u & 63u));
+    v100 = (u64)v9;
+    v101 = (u64)((u64)v99 | (u64)v100);
+    store_address(v32, a3);
+    v102 = v32 + 8u * 1u;
+    store64(v102, v101);
+    v103 = v32 + 16u * 1u;
+    store8(v103, v11);
+    v104 = v32 + 17u * 1u;
+    store8(v104, v12);
+    v105 = v32 + 18u * 1u;
+    memory_set(v105, 0u, 6u);
+    v106 = (u8)((u32)v8 >> (4u & 7u));
+    v107 = a3 + 5u * 1u;
+    v108 = load8(v107);
+    v109 = (u8)((u32)v106 | (u32)v108);
+    v110 = v109 == 0u;
+    if (v110) { goto L9; }
+    else { v20 = 1u; goto L38; }
 L9:;
-    v109 = a3 + 4u * 1u;
-    v110 = load8(v109);
-    v111 = a1 + 8u * 1u;
+    v111 = a3 + 4u * 1u;
     v112 = load8(v111);
-    v113 = v110 == v112;
-    if (v113) { goto L12; }
+    v113 = a1 + 8u * 1u;
+    v114 = load8(v113);
+    v115 = v112 == v114;
+    if (v115) { goto L12; }
     else { goto L10; }
 L10:;
-    v114 = f39(a1, v30);
-    if (v114) { goto L11; }
-    else { v19 = 1u; goto L36; }
+    v116 = f39(a1, v32);
+    if (v116) { goto L11; }
+    else { v20 = 1u; goto L38; }
 L11:;
-    v115 = a3 + 20u * 1u;
-    v116 = load64(v115);
-    v117 = a3 + 28u * 1u;
-    v118 = load8(v117);
-    v119 = a3 + 29u * 1u;
+    v117 = a3 + 20u * 1u;
+    v118 = load64(v117);
+    v119 = a3 + 28u * 1u;
     v120 = load8(v119);
-    v121 = (u16)v118;
-    v122 = (u16)((u32)v121 << (8u & 15u));
+    v121 = a3 + 29u * 1u;
+    v122 = load8(v121);
     v123 = (u16)v120;
-    v124 = (u16)((u32)v122 | (u32)v123);
-    v13 = v124; v14 = v116; goto L26;
+    v124 = (u16)((u32)v123 << (8u & 15u));
+    v125 = (u16)v122;
+    v126 = (u16)((u32)v124 | (u32)v125);
+    v14 = v126; v15 = v118; goto L28;
 L12:;
-    v125 = a3 + 20u * 1u;
-    v126 = load64(v125);
-    v127 = a3 + 28u * 1u;
-    v128 = load8(v127);
-    v129 = a3 + 29u * 1u;
+    v127 = a3 + 20u * 1u;
+    v128 = load64(v127);
+    v129 = a3 + 28u * 1u;
     v130 = load8(v129);
-    v131 = (u16)v128;
-    v132 = (u16)((u32)v131 << (8u & 15u));
+    v131 = a3 + 29u * 1u;
+    v132 = load8(v131);
     v133 = (u16)v130;
-    v134 = a1 + 384u * 1u;
-    v135 = load64(v134);
-    v136 = v126 == v135;
-    if (v136) { v19 = 2u; goto L36; }
+    v134 = (u16)((u32)v133 << (8u & 15u));
+    v135 = (u16)v132;
+    v136 = a1 + 384u * 1u;
+    v137 = load64(v136);
+    v138 = v128 == v137;
+    if (v138) { v20 = 2u; goto L38; }
     else { goto L13; }
 L13:;
-    v137 = a3 + 34u * 1u;
-    v138 = load64(v137);
-    v139 = a3 + 42u * 1u;
-    v140 = load8(v139);
-    v141 = a3 + 43u * 1u;
+    v139 = a3 + 34u * 1u;
+    v140 = load64(v139);
+    v141 = a3 + 42u * 1u;
     v142 = load8(v141);
-    v143 = (u16)v140;
-    v144 = (u16)((u32)v143 << (8u & 15u));
+    v143 = a3 + 43u * 1u;
+    v144 = load8(v143);
     v145 = (u16)v142;
-    v146 = (u16)((u32)v144 | (u32)v145);
-    v147 = v138 == v135;
-    v148 = v138 == UINT64_C(18446744073709551615);
-    v149 = (u8)(((u32)v148 | (u32)v147) & UINT64_C(1));
-    if (v149) { goto L14; }
-    else { v19 = 3u; goto L36; }
+    v146 = (u16)((u32)v145 << (8u & 15u));
+    v147 = (u16)v144;
+    v148 = (u16)((u32)v146 | (u32)v147);
+    v149 = v140 == v137;
+    v150 = v140 == UINT64_C(18446744073709551615);
+    v151 = (u8)(((u32)v150 | (u32)v149) & UINT64_C(1));
+    if (v151) { goto L14; }
+    else { v20 = 3u; goto L38; }
 L14:;
-    switch (v146) {
+    switch (v148) {
     case 65535u: goto L16;
-    case 0u: v19 = 3u; goto L36;
+    case 0u: v20 = 3u; goto L38;
     default: goto L15;
     }
 L15:;
-    v150 = a1 + 240u * 1u;
-    v151 = load8(v150);
-    v152 = v151 == 0u;
-    v153 = v152 ? 376u : 256u;
-    v154 = a1 + v153 * 1u;
-    v155 = load64(v154);
-    v156 = (u16)(v155);
-    v157 = v146 > v156;
-    if (v157) { v19 = 3u; goto L36; }
+    v152 = a1 + 240u * 1u;
+    v153 = load8(v152);
+    v154 = v153 == 0u;
+    v155 = v154 ? 376u : 256u;
+    v156 = a1 + v155 * 1u;
+    v157 = load64(v156);
+    v158 = (u16)(v157);
+    v159 = v148 > v158;
+    if (v159) { v20 = 3u; goto L38; }
     else { goto L16; }
 L16:;
     switch (v11) {
-    case 2u: v19 = 4u; goto L36;
-    case 4u: v19 = 4u; goto L36;
+    case 2u: v20 = 4u; goto L38;
+    case 4u: v20 = 4u; goto L38;
     case 0u: goto L18;
     case 1u: goto L18;
     case 3u: goto L18;
@@ -8984,180 +8986,187 @@ L16:;
 L17:;
     UNREACHABLE;
 L18:;
-    if (v147) { goto L20; }
+    if (v149) { goto L20; }
     else { goto L19; }
 L19:;
-    v19 = 9u; goto L36;
+    v20 = 9u; goto L38;
 L20:;
-    v158 = (u16)((u32)v132 | (u32)v133);
-    store64(v27, v126);
-    v159 = v27 + 8u * 1u;
-    store16(v159, v158);
-    v160 = a3 + 30u * 1u;
-    v161 = load8(v160);
-    v162 = a3 + 31u * 1u;
+    v160 = (u16)((u32)v134 | (u32)v135);
+    store64(v29, v128);
+    v161 = v29 + 8u * 1u;
+    store16(v161, v160);
+    v162 = a3 + 30u * 1u;
     v163 = load8(v162);
-    v164 = (u16)v161;
-    v165 = (u16)((u32)v164 << (8u & 15u));
+    v164 = a3 + 31u * 1u;
+    v165 = load8(v164);
     v166 = (u16)v163;
-    v167 = (u16)((u32)v165 | (u32)v166);
-    v168 = v12 == 0u;
-    v169 = v168 ? 52u : 54u;
-    v170 = v168 ? 53u : 55u;
-    v171 = a3 + v169 * 1u;
-    v172 = load8(v171);
-    v173 = a3 + v170 * 1u;
+    v167 = (u16)((u32)v166 << (8u & 15u));
+    v168 = (u16)v165;
+    v169 = (u16)((u32)v167 | (u32)v168);
+    v170 = v12 == 0u;
+    v171 = v170 ? 52u : 54u;
+    v172 = v170 ? 53u : 55u;
+    v173 = a3 + v171 * 1u;
     v174 = load8(v173);
-    v175 = a3 + 54u * 1u;
-    v176 = (u64)((u64)v99 + (u64)UINT64_C(18446744073709551562));
-    v177 = v168 ? v175 : ADDRESS(c155);
-    v178 = v168 ? v176 : 0u;
-    v179 = (u16)v172;
-    v180 = (u16)((u32)v179 << (8u & 15u));
+    v175 = a3 + v172 * 1u;
+    v176 = load8(v175);
+    v177 = a3 + 54u * 1u;
+    v178 = (u64)((u64)v101 + (u64)UINT64_C(18446744073709551562));
+    v179 = v170 ? v177 : ADDRESS(c155);
+    v180 = v170 ? v178 : 0u;
     v181 = (u16)v174;
-    v182 = (u16)((u32)v180 | (u32)v181);
-    store8(v28, v11);
-    v183 = v28 + 1u * 1u;
-    store8(v183, 0u);
-    v184 = v28 + 2u * 1u;
-    store16(v184, v182);
-    v185 = v28 + 4u * 1u;
-    store16(v185, v146);
-    v186 = v28 + 6u * 1u;
-    store16(v186, 0u);
-    v187 = v28 + 8u * 1u;
-    store_address(v187, v177);
-    v188 = v28 + 16u * 1u;
-    store64(v188, v178);
-    v189 = f41(v134, v27, v167, v28);
-    v190 = v189.m0;
-    switch (v190) {
-    case 0u: v19 = 9u; goto L36;
+    v182 = (u16)((u32)v181 << (8u & 15u));
+    v183 = (u16)v176;
+    v184 = (u16)((u32)v182 | (u32)v183);
+    store8(v30, v11);
+    v185 = v30 + 1u * 1u;
+    store8(v185, 0u);
+    v186 = v30 + 2u * 1u;
+    store16(v186, v184);
+    v187 = v30 + 4u * 1u;
+    store16(v187, v148);
+    v188 = v30 + 6u * 1u;
+    store16(v188, 0u);
+    v189 = v30 + 8u * 1u;
+    store_address(v189, v179);
+    v190 = v30 + 16u * 1u;
+    store64(v190, v180);
+    v191 = f41(v136, v29, v169, v30);
+    v192 = v191.m0;
+    v193 = v191.m1;
+    switch (v192) {
+    case 0u: v20 = 9u; goto L38;
     case 1u: goto L25;
-    case 2u: v13 = v158; v14 = v126; goto L26;
+    case 2u: v14 = v160; v15 = v128; goto L28;
     case 3u: goto L21;
     case 4u: goto L22;
     default: goto L23;
     }
 L21:;
-    v19 = 8u; goto L36;
+    v20 = 8u; goto L38;
 L22:;
-    v19 = 7u; goto L36;
+    v20 = 7u; goto L38;
 L23:;
     UNREACHABLE;
 L24:;
-    memory_set(v32, 0u, 64u);
-    v21 = 0u; v22 = v87; v23 = 0u; goto L38;
+    memory_set(v34, 0u, 64u);
+    v22 = 0u; v23 = v89; v24 = 0u; goto L40;
 L25:;
-    v191 = v189.m1;
-    memory_set(v25, 0u, 68u);
-    store8(v26, v11);
-    v192 = v26 + 1u * 1u;
-    store8(v192, 0u);
-    v193 = v26 + 2u * 1u;
-    store16(v193, v182);
-    v194 = v26 + 4u * 1u;
-    store16(v194, v146);
-    v195 = v26 + 6u * 1u;
-    store16(v195, 0u);
-    v196 = v26 + 8u * 1u;
-    store_address(v196, v177);
-    v197 = v26 + 16u * 1u;
-    store64(v197, v178);
-    f23(v25, a1, v26, v191);
-    v198 = load32(v25);
-    v199 = v25 + 4u * 1u;
-    memory_cpy(v31, v199, 64u);
-    f42(a1, a2, v30, v191, v33);
-    memory_cpy(v32, v31, 64u);
-    v21 = 5u; v22 = 0u; v23 = v198; goto L38;
+    memory_set(v26, 0u, 68u);
+    v194 = v11 == 0u;
+    if (v194) { v13 = 0u; goto L27; }
+    else { goto L26; }
 L26:;
-    v200 = a3 + 44u * 1u;
-    v201 = load8(v200);
-    v202 = a3 + 45u * 1u;
-    v203 = load8(v202);
-    v204 = a1 + 400u * 1u;
-    v205 = load64(v204);
-    v206 = v205 == 0u;
-    if (v206) { goto L31; }
-    else { goto L27; }
+    store8(v27, v11);
+    v195 = v27 + 1u * 1u;
+    store8(v195, 0u);
+    v196 = v27 + 2u * 1u;
+    store16(v196, v184);
+    v197 = v27 + 4u * 1u;
+    store16(v197, v148);
+    v198 = v27 + 6u * 1u;
+    store16(v198, 0u);
+    v199 = v27 + 8u * 1u;
+    store_address(v199, v179);
+    v200 = v27 + 16u * 1u;
+    store64(v200, v180);
+    f23(v26, a1, v27, v193);
+    v201 = load32(v26);
+    v13 = v201; goto L27;
 L27:;
-    v207 = a1 + 392u * 1u;
-    v208 = load_address(v207);
-    v15 = v208; v16 = v205; goto L28;
+    v202 = v26 + 4u * 1u;
+    memory_cpy(v28, v202, 64u);
+    f42(a1, a2, v32, v193, v35);
+    memory_cpy(v33, v28, 64u);
+    memory_cpy(v34, v33, 64u);
+    v22 = 5u; v23 = 0u; v24 = v13; goto L40;
 L28:;
-    v209 = v15 + 2144u * 1u;
-    v210 = (u64)((u64)v16 + (u64)UINT64_C(18446744073709551615));
-    v211 = v15 + 2120u * 1u;
-    v212 = load16(v211);
-    v213 = v13 == v212;
-    if (v213) { goto L29; }
-    else { goto L30; }
+    v203 = a3 + 44u * 1u;
+    v204 = load8(v203);
+    v205 = a3 + 45u * 1u;
+    v206 = load8(v205);
+    v207 = a1 + 400u * 1u;
+    v208 = load64(v207);
+    v209 = v208 == 0u;
+    if (v209) { goto L33; }
+    else { goto L29; }
 L29:;
-    v214 = v15 + 2112u * 1u;
-    v215 = load64(v214);
-    v216 = v14 == v215;
-    if (v216) { goto L32; }
-    else { goto L30; }
+    v210 = a1 + 392u * 1u;
+    v211 = load_address(v210);
+    v16 = v211; v17 = v208; goto L30;
 L30:;
-    v217 = v210 == 0u;
-    if (v217) { goto L31; }
-    else { v15 = v209; v16 = v210; goto L28; }
+    v212 = v16 + 2144u * 1u;
+    v213 = (u64)((u64)v17 + (u64)UINT64_C(18446744073709551615));
+    v214 = v16 + 2120u * 1u;
+    v215 = load16(v214);
+    v216 = v14 == v215;
+    if (v216) { goto L31; }
+    else { goto L32; }
 L31:;
+    v217 = v16 + 2112u * 1u;
+    v218 = load64(v217);
+    v219 = v15 == v218;
+    if (v219) { goto L34; }
+    else { goto L32; }
+L32:;
+    v220 = v213 == 0u;
+    if (v220) { goto L33; }
+    else { v16 = v212; v17 = v213; goto L30; }
+L33:;
     TRAP;
     UNREACHABLE;
-L32:;
-    store64(v24, 0u);
-    v218 = v15 + 2129u * 1u;
-    v219 = load8(v218);
-    v220 = (u8)((v219) & UINT64_C(1));
-    v221 = (u8)(((u32)v220 ^ (u32)1u) & UINT64_C(1));
-    v222 = v220 ? 0u : a2;
-    v223 = (u16)v221;
-    v224 = v201 > v203 ? (u8)((u32)v201 - (u32)v203) : 0u;
-    store8(v24, v110);
-    v225 = v24 + 2u * 1u;
-    store16(v225, v223);
-    v226 = v24 + 4u * 1u;
-    store16(v226, v222);
-    v227 = v24 + 6u * 1u;
-    store8(v227, v224);
-    v228 = v15 + 1432u * 1u;
-    v229 = load8(v228);
-    v230 = v229 == 0u;
-    v231 = v15 + 1440u * 1u;
-    if (v230) { goto L33; }
-    else { goto L34; }
-L33:;
-    v232 = v15 + 1456u * 1u;
-    v17 = v231; v18 = v232; goto L35;
 L34:;
-    v233 = load_address(v231);
-    v234 = v15 + 1464u * 1u;
-    v235 = load_address(v234);
-    v17 = v233; v18 = v235; goto L35;
+    store64(v25, 0u);
+    v221 = v16 + 2129u * 1u;
+    v222 = load8(v221);
+    v223 = (u8)((v222) & UINT64_C(1));
+    v224 = (u8)(((u32)v223 ^ (u32)1u) & UINT64_C(1));
+    v225 = v223 ? 0u : a2;
+    v226 = (u16)v224;
+    v227 = v204 > v206 ? (u8)((u32)v204 - (u32)v206) : 0u;
+    store8(v25, v112);
+    v228 = v25 + 2u * 1u;
+    store16(v228, v226);
+    v229 = v25 + 4u * 1u;
+    store16(v229, v225);
+    v230 = v25 + 6u * 1u;
+    store8(v230, v227);
+    v231 = v16 + 1432u * 1u;
+    v232 = load8(v231);
+    v233 = v232 == 0u;
+    v234 = v16 + 1440u * 1u;
+    if (v233) { goto L35; }
+    else { goto L36; }
 L35:;
-    v236 = v15 + 1448u * 1u;
-    v237 = load64(v236);
-    f47(v17, v237, v18, v24, a2, v33);
-    v20 = 6u; goto L37;
+    v235 = v16 + 1456u * 1u;
+    v18 = v234; v19 = v235; goto L37;
 L36:;
-    f48(a1, v19, a2, a3, v30, v33);
-    v20 = v19; goto L37;
+    v236 = load_address(v234);
+    v237 = v16 + 1464u * 1u;
+    v238 = load_address(v237);
+    v18 = v236; v19 = v238; goto L37;
 L37:;
-    memory_set(v32, 0u, 64u);
-    v21 = v20; v22 = 0u; v23 = 0u; goto L38;
+    v239 = v16 + 1448u * 1u;
+    v240 = load64(v239);
+    f46(v18, v240, v19, v25, a2, v35);
+    v21 = 6u; goto L39;
 L38:;
-    memory_cpy(v34, v32, 64u);
-    store32(a7, v23);
-    v238 = a7 + 4u * 1u;
-    memory_cpy(v238, v34, 64u);
-    v239 = load64(v36);
-    store8(a0, v21);
-    v240 = a0 + 1u * 1u;
-    store8(v240, v22);
-    v241 = a0 + 8u * 1u;
-    store64(v241, v239);
+    f47(a1, v20, a2, a3, v32, v35);
+    v21 = v20; goto L39;
+L39:;
+    memory_set(v34, 0u, 64u);
+    v22 = v21; v23 = 0u; v24 = 0u; goto L40;
+L40:;
+    memory_cpy(v36, v34, 64u);
+    store32(a7, v24);
+    v241 = a7 + 4u * 1u;
+    memory_cpy(v241, v36, 64u);
+    v242 = load64(v38);
+    store8(a0, v22);
+    v243 = a0 + 1u * 1u;
+    store8(v243, v23);
+    v244 = a0 + 8u * 1u;
+    store64(v244, v242);
     return;
 }
 
@@ -9509,13 +9518,12 @@ static void f42(address a0, u16 a1, address a2, u8 a3, address a4) {
     address v46, v48, v50, v52, v54, v56, v66, v67, v68, v69, v70, v71, v72, v73, v74, v75;
     address v76, v81, v82, v83, v84, v86, v88, v90, v91, v92, v100, v101, v107, v109, v111, v112;
     address v113, v116, v118, v121, v127, v128, v129, v130, v131, v132, v134, v143, v144, v148, v149, v150;
-    address v153, v154, v157, v160, v161, v163, v164, v167, v168, v169, v171, v172, v175, v178, v179, v180;
-    address v183;
+    address v153, v154, v157, v160, v161, v163, v164, v165, v166, v167, v169, v170, v173, v174, v175, v176;
     u64 v6, v8, v9, v10, v18, v44, v45, v55, v57, v77, v93, v94, v95, v97, v98, v114;
-    u64 v117, v122, v124, v126, v135, v139, v140, v141, v146, v151, v156, v165, v176, v181;
+    u64 v117, v122, v124, v126, v135, v139, v140, v141, v146, v151, v156, v177;
     u8 v16, v20, v22, v28, v30, v36, v38, v40, v42, v43, v47, v49, v51, v53, v78, v80;
     u8 v96, v110, v115, v120, v123, v125, v133, v136, v137, v138, v142, v145, v147, v152, v158, v159;
-    u8 v162, v166, v170, v173, v174, v177, v182;
+    u8 v162, v168, v171, v172, v178;
     u16 v23, v24, v25, v26, v31, v32, v33, v34, v58, v59, v60, v61, v62, v63, v64, v65;
     u16 v85, v87, v89, v99, v108, v119, v155;
     u32 v79, v102, v103, v104, v105, v106;
@@ -9658,7 +9666,7 @@ L2:;
     v113 = a0 + 400u * 1u;
     v114 = load64(v113);
     v115 = v114 == 0u;
-    if (v115) { goto L36; }
+    if (v115) { goto L32; }
     else { v7 = v112; v8 = v114; v9 = 0u; goto L3; }
 L3:;
     v116 = v7 + 2144u * 1u;
@@ -9677,7 +9685,7 @@ L4:;
 L5:;
     v124 = (u64)((u64)v9 + (u64)1u);
     v125 = v117 == 0u;
-    if (v125) { goto L36; }
+    if (v125) { goto L32; }
     else { v7 = v116; v8 = v117; v9 = v124; goto L3; }
 L6:;
     v126 = (u64)((u64)v9 * (u64)2144u);
@@ -9733,7 +9741,7 @@ L12:;
     v151 = load64(v150);
     v152 = v151 == 1u;
     if (v152) { goto L13; }
-    else { goto L27; }
+    else { goto L26; }
 L13:;
     v153 = load_address(a4);
     v154 = v153 + 2u * 1u;
@@ -9744,7 +9752,7 @@ L13:;
     v159 = v158 == 0u;
     v160 = v127 + 1440u * 1u;
     if (v159) { goto L14; }
-    else { goto L21; }
+    else { goto L20; }
 L14:;
     v161 = v127 + 1456u * 1u;
     memory_set(v160, 0u, 16u);
@@ -9752,104 +9760,86 @@ L14:;
     v163 = v127 + 1448u * 1u;
     store8(v160, v162);
     store64(v163, 1u);
-    v164 = v127 + 2096u * 1u;
-    v165 = load64(v164);
-    v166 = v165 == v156;
-    if (v166) { goto L15; }
-    else { goto L20; }
+    switch (v155) {
+    case 54u: goto L15;
+    case 56u: goto L16;
+    case 80u: goto L17;
+    default: goto L18;
+    }
 L15:;
-    switch (v155) {
-    case 54u: goto L16;
-    case 56u: goto L17;
-    case 80u: goto L18;
-    default: goto L19;
-    }
-L16:;
     memory_move(v161, v157, 54u);
-    goto L36;
-L17:;
+    goto L19;
+L16:;
     memory_move(v161, v157, 56u);
-    goto L36;
-L18:;
+    goto L19;
+L17:;
     memory_move(v161, v157, 80u);
-    goto L36;
-L19:;
+    goto L19;
+L18:;
     f44(v161, v157, v156);
-    goto L36;
+    goto L19;
+L19:;
+    v164 = v127 + 2096u * 1u;
+    store64(v164, v156);
+    goto L32;
 L20:;
-    f45(v161, v157, v156);
-    goto L36;
-L21:;
-    v167 = v127 + 1464u * 1u;
-    v168 = v127 + 1488u * 1u;
-    v169 = v127 + 1448u * 1u;
-    v170 = (u8)(v155);
-    v171 = load_address(v160);
-    store8(v171, v170);
-    store64(v169, 1u);
-    v172 = load_address(v167);
+    v165 = v127 + 1464u * 1u;
+    v166 = v127 + 1488u * 1u;
+    v167 = v127 + 1448u * 1u;
+    v168 = (u8)(v155);
+    v169 = load_address(v160);
+    store8(v169, v168);
+    store64(v167, 1u);
+    v170 = load_address(v165);
     switch (v155) {
-    case 54u: goto L22;
-    case 56u: goto L23;
-    case 80u: goto L24;
-    default: goto L25;
+    case 54u: goto L21;
+    case 56u: goto L22;
+    case 80u: goto L23;
+    default: goto L24;
     }
+L21:;
+    memory_move(v170, v157, 54u);
+    goto L25;
 L22:;
-    memory_move(v172, v157, 54u);
-    goto L26;
+    memory_move(v170, v157, 56u);
+    goto L25;
 L23:;
-    memory_move(v172, v157, 56u);
-    goto L26;
+    memory_move(v170, v157, 80u);
+    goto L25;
 L24:;
-    memory_move(v172, v157, 80u);
-    goto L26;
+    f44(v170, v157, v156);
+    goto L25;
 L25:;
-    f44(v172, v157, v156);
-    goto L26;
+    store64(v166, v156);
+    goto L32;
 L26:;
-    store64(v168, v156);
-    goto L36;
+    v171 = load8(v149);
+    v172 = v171 == 0u;
+    if (v172) { goto L27; }
+    else { goto L28; }
 L27:;
-    v173 = load8(v149);
-    v174 = v173 == 0u;
-    v175 = v127 + 1448u * 1u;
-    v176 = load64(v175);
-    v177 = v176 == 0u;
-    if (v174) { goto L28; }
-    else { goto L32; }
+    v173 = v127 + 1440u * 1u;
+    memory_set(v173, 0u, 16u);
+    v174 = v127 + 2096u * 1u;
+    store64(v174, 0u);
+    goto L31;
 L28:;
-    v178 = v127 + 1456u * 1u;
-    if (v177) { goto L30; }
+    v175 = v127 + 1488u * 1u;
+    v176 = v127 + 1448u * 1u;
+    v177 = load64(v176);
+    v178 = v177 == 0u;
+    if (v178) { goto L30; }
     else { goto L29; }
 L29:;
-    v179 = v127 + 1440u * 1u;
-    memory_set(v179, 0u, v176);
-    store64(v175, 0u);
+    store64(v176, 0u);
     goto L30;
 L30:;
-    v180 = v127 + 2096u * 1u;
-    v181 = load64(v180);
-    v182 = v181 == 0u;
-    if (v182) { goto L35; }
-    else { goto L31; }
-L31:;
-    memory_set(v178, 0u, v181);
-    store64(v180, 0u);
-    goto L35;
-L32:;
-    v183 = v127 + 1488u * 1u;
-    if (v177) { goto L34; }
-    else { goto L33; }
-L33:;
     store64(v175, 0u);
-    goto L34;
-L34:;
-    store64(v183, 0u);
-    goto L35;
-L35:;
-    f46(a4, v149);
-    goto L36;
-L36:;
+    goto L31;
+L31:;
+    f45(a4, v149);
+    goto L32;
+L32:;
     return;
 }
 
@@ -9958,291 +9948,111 @@ L3:;
     return;
 }
 
-static void f45(address a0, address a1, u64 a2) {
-    u64 v3, v4, v5, v7, v10, v12, v14, v15, v16, v21, v24, v25, v28, v29, v30, v35;
-    u64 v37;
-    address v6, v9, v11, v18, v19, v27, v32, v33;
-    u8 v8, v13, v17, v20, v22, v23, v26, v31, v34, v36;
-    v6 = a0 + 640u * 1u;
-    v7 = load64(v6);
-    v8 = a2 < v7;
-    if (v8) { goto L1; }
-    else { v3 = v7; goto L2; }
-L1:;
-    v9 = a0 + a2 * 1u;
-    v10 = (u64)((u64)v7 - (u64)a2);
-    memory_set(v9, 0u, v10);
-    store64(v6, a2);
-    v3 = a2; goto L2;
-L2:;
-    v11 = a1 + v3 * 1u;
-    v12 = (u64)((u64)a2 - (u64)v3);
-    v13 = v3 == 0u;
-    if (v13) { goto L6; }
-    else { goto L3; }
-L3:;
-    v14 = (u64)a0;
-    v15 = (u64)a1;
-    v16 = (u64)((u64)v14 - (u64)v15);
-    v17 = v16 < v3;
-    if (v17) { v4 = 0u; goto L5; }
-    else { goto L4; }
-L4:;
-    memory_move(a0, a1, v3);
-    goto L6;
-L5:;
-    v18 = a0 + v4 * 1u;
-    v19 = a1 + v4 * 1u;
-    v20 = load8(v19);
-    store8(v18, v20);
-    v21 = (u64)((u64)v4 + (u64)1u);
-    v22 = v21 == v3;
-    if (v22) { goto L6; }
-    else { v4 = v21; goto L5; }
-L6:;
-    v23 = a2 == v3;
-    if (v23) { goto L12; }
-    else { goto L7; }
-L7:;
-    v24 = load64(v6);
-    v25 = (u64)((u64)640u - (u64)v24);
-    v26 = v25 < v12;
-    if (v26) { goto L12; }
-    else { goto L8; }
-L8:;
-    v27 = a0 + v24 * 1u;
-    v28 = (u64)v27;
-    v29 = (u64)v11;
-    v30 = (u64)((u64)v28 - (u64)v29);
-    v31 = v30 < v12;
-    if (v31) { v5 = 0u; goto L10; }
-    else { goto L9; }
-L9:;
-    memory_move(v27, v11, v12);
-    goto L11;
-L10:;
-    v32 = v27 + v5 * 1u;
-    v33 = v11 + v5 * 1u;
-    v34 = load8(v33);
-    store8(v32, v34);
-    v35 = (u64)((u64)v5 + (u64)1u);
-    v36 = v35 == v12;
-    if (v36) { goto L11; }
-    else { v5 = v35; goto L10; }
-L11:;
-    v37 = (u64)((u64)v24 + (u64)v12);
-    store64(v6, v37);
-    goto L12;
-L12:;
-    return;
-}
-
-static void f46(address a0, address a1) {
-    u64 v2, v3, v4, v5, v6, v8, v17, v21, v26, v28, v29, v30, v33, v34, v35, v40;
-    u64 v42, v43, v46, v47, v48, v53, v55, v56, v59, v60, v61, v66, v68, v69, v72, v73;
-    u64 v74, v79, v81, v84, v86, v88, v89, v90;
-    address v7, v10, v11, v12, v13, v14, v15, v16, v18, v19, v22, v27, v32, v37, v38, v45;
-    address v50, v51, v58, v63, v64, v71, v76, v77, v82, v83, v85, v87;
-    u8 v9, v23, v24, v25, v31, v36, v39, v41, v44, v49, v52, v54, v57, v62, v65, v67;
-    u8 v70, v75, v78, v80, v91;
-    u16 v20;
-    v7 = a0 + 16u * 1u;
-    v8 = load64(v7);
-    v9 = v8 == 0u;
-    if (v9) { goto L31; }
+static void f45(address a0, address a1) {
+    u64 v2, v4, v13, v17, v22, v24, v25, v27, v28, v31, v33, v35, v36, v37;
+    address v3, v6, v7, v8, v9, v10, v11, v12, v14, v15, v18, v23, v26, v29, v30, v32;
+    address v34;
+    u8 v5, v19, v20, v21, v38;
+    u16 v16;
+    v3 = a0 + 16u * 1u;
+    v4 = load64(v3);
+    v5 = v4 == 0u;
+    if (v5) { goto L16; }
     else { goto L1; }
 L1:;
-    v10 = a1 + 8u * 1u;
-    v11 = a1 + 32u * 1u;
-    v12 = a1 + 56u * 1u;
-    v13 = a1 + 16u * 1u;
-    v14 = a1 + 24u * 1u;
-    v15 = a1 + 664u * 1u;
+    v6 = a1 + 8u * 1u;
+    v7 = a1 + 32u * 1u;
+    v8 = a1 + 56u * 1u;
+    v9 = a1 + 16u * 1u;
+    v10 = a1 + 24u * 1u;
+    v11 = a1 + 664u * 1u;
     v2 = 0u; goto L2;
 L2:;
-    v16 = load_address(a0);
-    v17 = (u64)((u64)v2 * (u64)1476u);
-    v18 = v16 + v17 * 1u;
-    v19 = v18 + 2u * 1u;
-    v20 = load16(v19);
-    v21 = (u64)v20;
-    v22 = v18 + 4u * 1u;
-    v23 = load8(a1);
-    v24 = v23 == 0u;
-    v25 = (u8)(v20);
-    v26 = load64(v13);
-    if (v24) { goto L3; }
-    else { goto L24; }
+    v12 = load_address(a0);
+    v13 = (u64)((u64)v2 * (u64)1476u);
+    v14 = v12 + v13 * 1u;
+    v15 = v14 + 2u * 1u;
+    v16 = load16(v15);
+    v17 = (u64)v16;
+    v18 = v14 + 4u * 1u;
+    v19 = load8(a1);
+    v20 = v19 == 0u;
+    v21 = (u8)(v16);
+    v22 = load64(v9);
+    if (v20) { goto L3; }
+    else { goto L9; }
 L3:;
-    v27 = v10 + v26 * 1u;
-    store8(v27, v25);
-    v28 = (u64)((u64)v26 + (u64)1u);
-    store64(v13, v28);
-    v29 = load64(v15);
-    switch (v20) {
+    v23 = v6 + v22 * 1u;
+    store8(v23, v21);
+    v24 = (u64)((u64)v22 + (u64)1u);
+    store64(v9, v24);
+    v25 = load64(v11);
+    v26 = v10 + v25 * 1u;
+    switch (v16) {
     case 54u: goto L4;
-    case 56u: goto L9;
-    case 80u: goto L14;
-    default: goto L19;
+    case 56u: goto L5;
+    case 80u: goto L6;
+    default: goto L7;
     }
 L4:;
-    v30 = (u64)((u64)v29 + (u64)UINT64_C(18446744073709551029));
-    v31 = v30 < 54u;
-    if (v31) { goto L30; }
-    else { goto L5; }
+    memory_move(v26, v18, 54u);
+    goto L8;
 L5:;
-    v32 = v14 + v29 * 1u;
-    v33 = (u64)v32;
-    v34 = (u64)v22;
-    v35 = (u64)((u64)v33 - (u64)v34);
-    v36 = v35 < 54u;
-    if (v36) { v3 = 0u; goto L7; }
-    else { goto L6; }
+    memory_move(v26, v18, 56u);
+    goto L8;
 L6:;
-    memory_move(v32, v22, 54u);
+    memory_move(v26, v18, 80u);
     goto L8;
 L7:;
-    v37 = v32 + v3 * 1u;
-    v38 = v22 + v3 * 1u;
-    v39 = load8(v38);
-    store8(v37, v39);
-    v40 = (u64)((u64)v3 + (u64)1u);
-    v41 = v40 == 54u;
-    if (v41) { goto L8; }
-    else { v3 = v40; goto L7; }
+    f44(v26, v18, v17);
+    goto L8;
 L8:;
-    v42 = (u64)((u64)v29 + (u64)54u);
-    store64(v15, v42);
-    goto L30;
+    v27 = load64(v11);
+    v28 = (u64)((u64)v27 + (u64)v17);
+    store64(v11, v28);
+    goto L15;
 L9:;
-    v43 = (u64)((u64)v29 + (u64)UINT64_C(18446744073709551031));
-    v44 = v43 < 56u;
-    if (v44) { goto L30; }
-    else { goto L10; }
-L10:;
-    v45 = v14 + v29 * 1u;
-    v46 = (u64)v45;
-    v47 = (u64)v22;
-    v48 = (u64)((u64)v46 - (u64)v47);
-    v49 = v48 < 56u;
-    if (v49) { v4 = 0u; goto L12; }
-    else { goto L11; }
-L11:;
-    memory_move(v45, v22, 56u);
-    goto L13;
-L12:;
-    v50 = v45 + v4 * 1u;
-    v51 = v22 + v4 * 1u;
-    v52 = load8(v51);
-    store8(v50, v52);
-    v53 = (u64)((u64)v4 + (u64)1u);
-    v54 = v53 == 56u;
-    if (v54) { goto L13; }
-    else { v4 = v53; goto L12; }
-L13:;
-    v55 = (u64)((u64)v29 + (u64)56u);
-    store64(v15, v55);
-    goto L30;
-L14:;
-    v56 = (u64)((u64)v29 + (u64)UINT64_C(18446744073709551055));
-    v57 = v56 < 80u;
-    if (v57) { goto L30; }
-    else { goto L15; }
-L15:;
-    v58 = v14 + v29 * 1u;
-    v59 = (u64)v58;
-    v60 = (u64)v22;
-    v61 = (u64)((u64)v59 - (u64)v60);
-    v62 = v61 < 80u;
-    if (v62) { v5 = 0u; goto L17; }
-    else { goto L16; }
-L16:;
-    memory_move(v58, v22, 80u);
-    goto L18;
-L17:;
-    v63 = v58 + v5 * 1u;
-    v64 = v22 + v5 * 1u;
-    v65 = load8(v64);
-    store8(v63, v65);
-    v66 = (u64)((u64)v5 + (u64)1u);
-    v67 = v66 == 80u;
-    if (v67) { goto L18; }
-    else { v5 = v66; goto L17; }
-L18:;
-    v68 = (u64)((u64)v29 + (u64)80u);
-    store64(v15, v68);
-    goto L30;
-L19:;
-    v69 = (u64)((u64)640u - (u64)v29);
-    v70 = v69 < v21;
-    if (v70) { goto L30; }
-    else { goto L20; }
-L20:;
-    v71 = v14 + v29 * 1u;
-    v72 = (u64)v71;
-    v73 = (u64)v22;
-    v74 = (u64)((u64)v72 - (u64)v73);
-    v75 = v74 < v21;
-    if (v75) { v6 = 0u; goto L22; }
-    else { goto L21; }
-L21:;
-    memory_move(v71, v22, v21);
-    goto L23;
-L22:;
-    v76 = v71 + v6 * 1u;
-    v77 = v22 + v6 * 1u;
-    v78 = load8(v77);
-    store8(v76, v78);
-    v79 = (u64)((u64)v6 + (u64)1u);
-    v80 = v79 == v21;
-    if (v80) { goto L23; }
-    else { v6 = v79; goto L22; }
-L23:;
-    v81 = (u64)((u64)v29 + (u64)v21);
-    store64(v15, v81);
-    goto L30;
-L24:;
-    v82 = load_address(v10);
-    v83 = v82 + v26 * 1u;
-    store8(v83, v25);
-    v84 = (u64)((u64)v26 + (u64)1u);
-    store64(v13, v84);
-    v85 = load_address(v11);
-    v86 = load64(v12);
-    v87 = v85 + v86 * 1u;
-    switch (v20) {
-    case 54u: goto L25;
-    case 56u: goto L26;
-    case 80u: goto L27;
-    default: goto L28;
+    v29 = load_address(v6);
+    v30 = v29 + v22 * 1u;
+    store8(v30, v21);
+    v31 = (u64)((u64)v22 + (u64)1u);
+    store64(v9, v31);
+    v32 = load_address(v7);
+    v33 = load64(v8);
+    v34 = v32 + v33 * 1u;
+    switch (v16) {
+    case 54u: goto L10;
+    case 56u: goto L11;
+    case 80u: goto L12;
+    default: goto L13;
     }
-L25:;
-    memory_move(v87, v22, 54u);
-    goto L29;
-L26:;
-    memory_move(v87, v22, 56u);
-    goto L29;
-L27:;
-    memory_move(v87, v22, 80u);
-    goto L29;
-L28:;
-    f44(v87, v22, v21);
-    goto L29;
-L29:;
-    v88 = load64(v12);
-    v89 = (u64)((u64)v88 + (u64)v21);
-    store64(v12, v89);
-    goto L30;
-L30:;
-    v90 = (u64)((u64)v2 + (u64)1u);
-    v91 = v90 == v8;
-    if (v91) { goto L31; }
-    else { v2 = v90; goto L2; }
-L31:;
+L10:;
+    memory_move(v34, v18, 54u);
+    goto L14;
+L11:;
+    memory_move(v34, v18, 56u);
+    goto L14;
+L12:;
+    memory_move(v34, v18, 80u);
+    goto L14;
+L13:;
+    f44(v34, v18, v17);
+    goto L14;
+L14:;
+    v35 = load64(v8);
+    v36 = (u64)((u64)v35 + (u64)v17);
+    store64(v8, v36);
+    goto L15;
+L15:;
+    v37 = (u64)((u64)v2 + (u64)1u);
+    v38 = v37 == v4;
+    if (v38) { goto L16; }
+    else { v2 = v37; goto L2; }
+L16:;
     return;
 }
 
-static void f47(address a0, u64 a1, address a2, address a3, u16 a4, address a5) {
+static void f46(address a0, u64 a1, address a2, address a3, u16 a4, address a5) {
     u64 v6, v8, v15, v17, v19, v22, v40, v41;
     address v7, v9, v11, v12, v13, v14, v16, v20, v21, v23, v25, v26, v28, v34, v36, v38;
     address v39;
@@ -10324,7 +10134,7 @@ L10:;
     return;
 }
 
-static void f48(address a0, u8 a1, u16 a2, address a3, address a4, address a5) {
+static void f47(address a0, u8 a1, u16 a2, address a3, address a4, address a5) {
     u64 v6, v9, v15, v18, v30, v32, v34, v45, v46, v56, v58, v76, v100;
     address v7, v8, v10, v11, v14, v16, v17, v20, v23, v26, v27, v29, v35, v36, v39, v41;
     address v44, v47, v49, v51, v53, v55, v57, v67, v68, v69, v70, v71, v72, v73, v75, v77;
@@ -10402,7 +10212,7 @@ L8:;
 L9:;
     UNREACHABLE;
 L10:;
-    f49(a0, a2, a3, a5);
+    f48(a0, a2, a3, a5);
     goto L11;
 L11:;
     v38 = a1 == 9u;
@@ -10524,13 +10334,13 @@ L14:;
     v123 = swap16(v66);
     v124 = v11 + 52u * 1u;
     store16(v124, v123);
-    f50(a0, v10, v11);
+    f49(a0, v10, v11);
     goto L15;
 L15:;
     return;
 }
 
-static void f49(address a0, u16 a1, address a2, address a3) {
+static void f48(address a0, u16 a1, address a2, address a3) {
     u64 v4, v6, v13, v21, v22, v24, v26, v31, v32, v43, v47, v48, v49;
     address v5, v7, v10, v11, v12, v17, v18, v19, v20, v27, v28, v30, v33, v41, v42, v46;
     u8 v8, v9, v16, v23, v25, v29, v34, v35, v44, v45, v50;
@@ -10641,7 +10451,7 @@ L15:;
     return;
 }
 
-static void f50(address a0, address a1, address a2) {
+static void f49(address a0, address a1, address a2) {
     address v3, v15, v16, v17, v20, v22, v23, v24, v25, v26, v27, v28, v29, v30, v31, v33;
     address v34, v36, v38, v39, v42, v43, v44, v49, v50, v52, v53, v54, v56, v57, v60, v61;
     address v62, v65, v67, v68, v70, v71, v72, v73, v76, v77, v78, v79, v84, v85, v90, v92;
@@ -10899,7 +10709,7 @@ L40:;
     goto L23;
 }
 
-static u8 f51(address a0, address a1, u64 a2, address a3) {
+static u8 f50(address a0, address a1, u64 a2, address a3) {
     u8 v4, v5, v6, v7, v8, v9, v10, v11, v18, v20, v26, v27, v28, v29, v30, v32;
     u8 v33, v34, v36, v38, v44, v46, v47, v49, v51, v56, v58, v59, v61, v65, v69, v71;
     u8 v72, v73, v74, v75, v76, v78, v80, v82, v84, v93, v97, v99, v101, v103, v122, v123;
@@ -11075,7 +10885,7 @@ L10:;
     store_address(v120, v106);
     v121 = v15 + 16u * 1u;
     store64(v121, v107);
-    f52(v14, v23, v25, v15);
+    f51(v14, v23, v25, v15);
     v122 = load8(v14);
     v123 = v122 == 1u;
     if (v123) { goto L11; }
@@ -11091,7 +10901,7 @@ L11:;
     v131 = load16(v130);
     v132 = v14 + 10u * 1u;
     v133 = load16(v132);
-    v134 = f53(a0, v13);
+    v134 = f52(a0, v13);
     v135 = v134.m0;
     v136 = v135 == 1u;
     if (v136) { goto L12; }
@@ -11195,7 +11005,7 @@ L22:;
     store8(v186, v20);
     v187 = v17 + 8u * 1u;
     memory_cpy(v187, v21, 16u);
-    f54(a0, v16, v9, v8, v17);
+    f53(a0, v16, v9, v8, v17);
     v10 = 1u; goto L23;
 L23:;
     v11 = v10; goto L24;
@@ -11203,7 +11013,7 @@ L24:;
     return v11;
 }
 
-static void f52(address a0, address a1, u64 a2, address a3) {
+static void f51(address a0, address a1, u64 a2, address a3) {
     address v4, v7, v8, v11, v19;
     u64 v5, v12;
     u8 v6, v10, v14, v15, v16, v17;
@@ -11267,7 +11077,7 @@ L6:;
     return;
 }
 
-static struct s1 f53(address a0, address a1) {
+static struct s1 f52(address a0, address a1) {
     address v2, v6, v7, v8, v10, v13, v16, v18, v20, v22, v24, v26, v36, v37, v38, v39;
     address v40, v41, v44, v46, v50, v54, v56, v59, v64, v68, v72, v74, v80, v81, v83;
     u64 v3, v14, v15, v25, v27, v45, v47, v60, v67, v69;
@@ -11412,7 +11222,7 @@ L9:;
     return v96;
 }
 
-static void f54(address a0, address a1, u8 a2, u8 a3, address a4) {
+static void f53(address a0, address a1, u8 a2, u8 a3, address a4) {
     u8 v5, v6, v7, v8, v9, v10, v11, v12, v18, v20, v29, v31, v36, v37, v43, v44;
     u8 v45;
     address v13, v14, v15, v16, v17, v19, v21, v22, v23, v25, v26, v27, v28, v30, v32, v33;
@@ -11543,509 +11353,296 @@ L17:;
     store8(v58, v12);
     v59 = v27 + 10u * 1u;
     memory_cpy(v59, v25, 150u);
-    f55(a0, a1, v56, v28, v27, 1u);
+    f54(a0, a1, v56, v28, v27, 1u);
     return;
 }
 
-static void f55(address a0, address a1, u16 a2, address a3, address a4, u64 a5) {
-    address v6, v16, v22, v23, v24, v25, v28, v30, v32, v35, v42, v43, v44, v46, v47, v49;
-    address v50, v52, v53, v54, v55, v58, v67, v68, v76, v77, v79, v81, v85, v88, v91, v92;
-    address v93, v96, v97, v98, v99, v100, v101, v102, v103, v104, v105, v106, v107, v108, v109, v110;
-    address v111, v112, v113, v114, v115, v116, v117, v118, v158, v160, v164, v166, v167, v169, v184, v188;
-    address v189, v194, v196, v198, v201, v202, v203, v207, v208, v209, v210, v211, v212, v213, v215, v216;
-    address v217, v218, v222, v223, v224, v225, v226, v227, v228, v229, v230, v231, v235, v237, v243, v244;
-    address v250, v252, v257, v258;
-    u64 v7, v8, v9, v11, v17, v18, v19, v20, v21, v26, v31, v36, v37, v39, v41, v56;
-    u64 v59, v63, v64, v65, v70, v78, v80, v89, v94, v119, v120, v124, v126, v128, v130, v132;
-    u64 v134, v136, v139, v141, v143, v145, v147, v149, v151, v157, v168, v173, v175, v176, v177, v178;
-    u64 v179, v180, v181, v182, v185, v186, v191, v193, v195, v197, v204, v205, v219, v220, v239, v240;
-    u64 v241, v246, v249, v251, v253, v254, v256, v259, v260, v261, v262;
-    u8 v10, v12, v13, v27, v34, v38, v40, v45, v57, v60, v61, v62, v66, v69, v71, v72;
-    u8 v73, v74, v75, v83, v86, v87, v90, v95, v121, v122, v123, v125, v127, v129, v131, v133;
-    u8 v135, v137, v138, v140, v142, v144, v146, v148, v150, v152, v159, v162, v165, v170, v171, v172;
-    u8 v174, v183, v187, v190, v192, v206, v221, v238, v242, v245, v247, v248, v255, v263;
-    u16 v14, v15, v29, v33, v48, v51, v82, v84, v153, v154, v161, v163, v199, v200, v214, v232;
-    u16 v233, v234, v236;
-    u32 v155, v156;
+static void f54(address a0, address a1, u16 a2, address a3, address a4, u64 a5) {
+    address v6, v15, v18, v19, v20, v21, v24, v26, v28, v31, v38, v39, v40, v42, v43, v45;
+    address v46, v48, v49, v50, v51, v54, v63, v64, v72, v73, v75, v77, v81, v84, v85, v86;
+    address v87, v90, v91, v92, v93, v94, v95, v96, v97, v98, v99, v100, v101, v102, v103, v104;
+    address v105, v106, v107, v108, v109, v110, v111, v112, v116, v118, v122, v124, v125, v127, v135, v138;
+    address v143, v144;
+    u64 v7, v8, v9, v11, v16, v17, v22, v27, v32, v33, v35, v37, v52, v55, v59, v60;
+    u64 v61, v66, v74, v76, v88, v115, v126, v131, v132, v134, v136, v137, v139, v140, v142, v145;
+    u64 v146, v147, v148;
+    u8 v10, v12, v23, v30, v34, v36, v41, v53, v56, v57, v58, v62, v65, v67, v68, v69;
+    u8 v70, v71, v79, v82, v83, v89, v113, v114, v117, v120, v123, v128, v129, v130, v133, v141;
+    u8 v149;
+    u16 v13, v14, v25, v29, v44, v47, v78, v80, v119, v121;
     u64 block0[7];
-    v22 = ADDRESS(block0);
-    v23 = a0 + 392u * 1u;
-    v24 = load_address(v23);
-    v25 = a0 + 400u * 1u;
-    v26 = load64(v25);
-    v27 = v26 == 0u;
-    if (v27) { goto L59; }
+    v18 = ADDRESS(block0);
+    v19 = a0 + 392u * 1u;
+    v20 = load_address(v19);
+    v21 = a0 + 400u * 1u;
+    v22 = load64(v21);
+    v23 = v22 == 0u;
+    if (v23) { goto L36; }
     else { goto L1; }
 L1:;
-    v28 = a1 + 8u * 1u;
-    v29 = load16(v28);
-    v6 = v24; v7 = v26; v8 = 0u; goto L2;
+    v24 = a1 + 8u * 1u;
+    v25 = load16(v24);
+    v6 = v20; v7 = v22; v8 = 0u; goto L2;
 L2:;
-    v30 = v6 + 2144u * 1u;
-    v31 = (u64)((u64)v7 + (u64)UINT64_C(18446744073709551615));
-    v32 = v6 + 2120u * 1u;
-    v33 = load16(v32);
-    v34 = v29 == v33;
-    if (v34) { goto L3; }
+    v26 = v6 + 2144u * 1u;
+    v27 = (u64)((u64)v7 + (u64)UINT64_C(18446744073709551615));
+    v28 = v6 + 2120u * 1u;
+    v29 = load16(v28);
+    v30 = v25 == v29;
+    if (v30) { goto L3; }
     else { goto L4; }
 L3:;
-    v35 = v6 + 2112u * 1u;
-    v36 = load64(a1);
-    v37 = load64(v35);
-    v38 = v36 == v37;
-    if (v38) { goto L5; }
+    v31 = v6 + 2112u * 1u;
+    v32 = load64(a1);
+    v33 = load64(v31);
+    v34 = v32 == v33;
+    if (v34) { goto L5; }
     else { goto L4; }
 L4:;
-    v39 = (u64)((u64)v8 + (u64)1u);
-    v40 = v31 == 0u;
-    if (v40) { goto L59; }
-    else { v6 = v30; v7 = v31; v8 = v39; goto L2; }
+    v35 = (u64)((u64)v8 + (u64)1u);
+    v36 = v27 == 0u;
+    if (v36) { goto L36; }
+    else { v6 = v26; v7 = v27; v8 = v35; goto L2; }
 L5:;
-    v41 = (u64)((u64)v8 * (u64)2144u);
-    v42 = v24 + v41 * 1u;
-    v43 = v42 + 2137u * 1u;
-    store8(v43, 1u);
-    v44 = v42 + 2122u * 1u;
-    store16(v44, a2);
-    v45 = load8(a3);
-    v46 = v42 + 2128u * 1u;
-    store8(v46, v45);
-    v47 = a3 + 2u * 1u;
-    v48 = load16(v47);
-    v49 = v42 + 2124u * 1u;
-    store16(v49, v48);
-    v50 = a3 + 4u * 1u;
-    v51 = load16(v50);
-    v52 = v42 + 2126u * 1u;
-    store16(v52, v51);
-    v53 = a3 + 8u * 1u;
-    v54 = load_address(v53);
-    v55 = a3 + 16u * 1u;
-    v56 = load64(v55);
-    v57 = v56 == 0u;
-    v58 = v42 + 1424u * 1u;
-    v59 = load64(v58);
-    v60 = v59 == 0u;
-    v61 = v57 ? v60 : 0u;
-    if (v61) { goto L11; }
+    v37 = (u64)((u64)v8 * (u64)2144u);
+    v38 = v20 + v37 * 1u;
+    v39 = v38 + 2137u * 1u;
+    store8(v39, 1u);
+    v40 = v38 + 2122u * 1u;
+    store16(v40, a2);
+    v41 = load8(a3);
+    v42 = v38 + 2128u * 1u;
+    store8(v42, v41);
+    v43 = a3 + 2u * 1u;
+    v44 = load16(v43);
+    v45 = v38 + 2124u * 1u;
+    store16(v45, v44);
+    v46 = a3 + 4u * 1u;
+    v47 = load16(v46);
+    v48 = v38 + 2126u * 1u;
+    store16(v48, v47);
+    v49 = a3 + 8u * 1u;
+    v50 = load_address(v49);
+    v51 = a3 + 16u * 1u;
+    v52 = load64(v51);
+    v53 = v52 == 0u;
+    v54 = v38 + 1424u * 1u;
+    v55 = load64(v54);
+    v56 = v55 == 0u;
+    v57 = v53 ? v56 : 0u;
+    if (v57) { goto L11; }
     else { goto L6; }
 L6:;
-    v62 = v59 == v56;
-    if (v62) { goto L7; }
+    v58 = v55 == v52;
+    if (v58) { goto L7; }
     else { goto L10; }
 L7:;
-    v63 = (u64)v42;
-    v64 = (u64)v54;
-    v65 = (u64)((u64)v63 - (u64)v64);
-    v66 = v65 < v56;
-    if (v66) { v9 = 0u; goto L9; }
+    v59 = (u64)v38;
+    v60 = (u64)v50;
+    v61 = (u64)((u64)v59 - (u64)v60);
+    v62 = v61 < v52;
+    if (v62) { v9 = 0u; goto L9; }
     else { goto L8; }
 L8:;
-    memory_move(v42, v54, v56);
+    memory_move(v38, v50, v52);
     goto L11;
 L9:;
-    v67 = v42 + v9 * 1u;
-    v68 = v54 + v9 * 1u;
-    v69 = load8(v68);
-    store8(v67, v69);
-    v70 = (u64)((u64)v9 + (u64)1u);
-    v71 = v70 == v56;
-    if (v71) { goto L11; }
-    else { v9 = v70; goto L9; }
+    v63 = v38 + v9 * 1u;
+    v64 = v50 + v9 * 1u;
+    v65 = load8(v64);
+    store8(v63, v65);
+    v66 = (u64)((u64)v9 + (u64)1u);
+    v67 = v66 == v52;
+    if (v67) { goto L11; }
+    else { v9 = v66; goto L9; }
 L10:;
-    f43(v42, v54, v56);
+    f43(v38, v50, v52);
     goto L11;
 L11:;
-    v72 = a5 == 0u;
-    if (v72) { v10 = 0u; goto L13; }
+    v68 = a5 == 0u;
+    if (v68) { v10 = 0u; goto L13; }
     else { goto L12; }
 L12:;
-    v73 = load8(a4);
-    v74 = v73 == 1u;
-    v10 = v74; goto L13;
+    v69 = load8(a4);
+    v70 = v69 == 1u;
+    v10 = v70; goto L13;
 L13:;
-    v75 = (u8)v10;
-    v76 = v42 + 2129u * 1u;
-    store8(v76, v75);
-    v77 = v42 + 2104u * 1u;
-    v78 = load64(v77);
-    v79 = v42 + 2112u * 1u;
-    v80 = load64(v79);
-    v81 = v42 + 2120u * 1u;
-    v82 = load16(v81);
-    v83 = load8(a3);
-    v84 = load16(v47);
-    v85 = v42 + 1432u * 1u;
-    v86 = load8(v85);
-    v87 = v86 == 0u;
-    v88 = v42 + 1448u * 1u;
-    v89 = load64(v88);
-    v90 = v89 == 0u;
-    if (v87) { goto L14; }
-    else { goto L18; }
-L14:;
-    v91 = v42 + 1456u * 1u;
-    if (v90) { goto L16; }
+    v71 = (u8)v10;
+    v72 = v38 + 2129u * 1u;
+    store8(v72, v71);
+    v73 = v38 + 2104u * 1u;
+    v74 = load64(v73);
+    v75 = v38 + 2112u * 1u;
+    v76 = load64(v75);
+    v77 = v38 + 2120u * 1u;
+    v78 = load16(v77);
+    v79 = load8(a3);
+    v80 = load16(v43);
+    v81 = v38 + 1432u * 1u;
+    v82 = load8(v81);
+    v83 = v82 == 0u;
+    if (v83) { goto L14; }
     else { goto L15; }
+L14:;
+    v84 = v38 + 1440u * 1u;
+    memory_set(v84, 0u, 16u);
+    v85 = v38 + 2096u * 1u;
+    store64(v85, 0u);
+    goto L18;
 L15:;
-    v92 = v42 + 1440u * 1u;
-    memory_set(v92, 0u, v89);
-    store64(v88, 0u);
-    goto L16;
+    v86 = v38 + 1488u * 1u;
+    v87 = v38 + 1448u * 1u;
+    v88 = load64(v87);
+    v89 = v88 == 0u;
+    if (v89) { goto L17; }
+    else { goto L16; }
 L16:;
-    v93 = v42 + 2096u * 1u;
-    v94 = load64(v93);
-    v95 = v94 == 0u;
-    if (v95) { goto L21; }
-    else { goto L17; }
+    store64(v87, 0u);
+    goto L17;
 L17:;
-    memory_set(v91, 0u, v94);
-    store64(v93, 0u);
-    goto L21;
+    store64(v86, 0u);
+    goto L18;
 L18:;
-    v96 = v42 + 1488u * 1u;
-    if (v90) { goto L20; }
+    if (v68) { goto L35; }
     else { goto L19; }
 L19:;
-    store64(v88, 0u);
-    goto L20;
+    v90 = v18 + 2u * 1u;
+    v91 = v18 + 3u * 1u;
+    v92 = v18 + 4u * 1u;
+    v93 = v18 + 12u * 1u;
+    v94 = v18 + 14u * 1u;
+    v95 = v18 + 16u * 1u;
+    v96 = v18 + 24u * 1u;
+    v97 = v18 + 26u * 1u;
+    v98 = v18 + 27u * 1u;
+    v99 = v18 + 28u * 1u;
+    v100 = v18 + 32u * 1u;
+    v101 = v18 + 33u * 1u;
+    v102 = v18 + 34u * 1u;
+    v103 = v18 + 36u * 1u;
+    v104 = v18 + 38u * 1u;
+    v105 = v18 + 40u * 1u;
+    v106 = v18 + 48u * 1u;
+    v107 = v38 + 1440u * 1u;
+    v108 = v38 + 1464u * 1u;
+    v109 = v38 + 1488u * 1u;
+    v110 = v38 + 1448u * 1u;
+    v111 = v38 + 1456u * 1u;
+    v112 = v38 + 2096u * 1u;
+    v113 = v79 > 2u;
+    v114 = v113 ? 4u : 2u;
+    v11 = 0u; goto L20;
 L20:;
-    store64(v96, 0u);
-    goto L21;
+    v115 = (u64)((u64)v11 * (u64)160u);
+    v116 = a4 + v115 * 1u;
+    v117 = load8(v116);
+    v118 = v116 + 2u * 1u;
+    v119 = load16(v118);
+    v120 = v117 == 1u;
+    v121 = v120 ? v119 : 0u;
+    v122 = v116 + 8u * 1u;
+    v123 = load8(v122);
+    switch (v123) {
+    case 0u: goto L21;
+    case 1u: v12 = v123; v13 = v80; v14 = 0u; v15 = ADDRESS(c155); v16 = 0u; goto L31;
+    case 2u: goto L22;
+    default: goto L30;
+    }
 L21:;
-    if (v72) { goto L58; }
-    else { goto L22; }
+    v124 = v116 + 16u * 1u;
+    v125 = v116 + 152u * 1u;
+    v126 = load64(v125);
+    v12 = 1u; v13 = v80; v14 = 0u; v15 = v124; v16 = v126; goto L31;
 L22:;
-    v97 = v22 + 2u * 1u;
-    v98 = v22 + 3u * 1u;
-    v99 = v22 + 4u * 1u;
-    v100 = v22 + 12u * 1u;
-    v101 = v22 + 14u * 1u;
-    v102 = v22 + 16u * 1u;
-    v103 = v22 + 24u * 1u;
-    v104 = v22 + 26u * 1u;
-    v105 = v22 + 27u * 1u;
-    v106 = v22 + 28u * 1u;
-    v107 = v22 + 32u * 1u;
-    v108 = v22 + 33u * 1u;
-    v109 = v22 + 34u * 1u;
-    v110 = v22 + 36u * 1u;
-    v111 = v22 + 38u * 1u;
-    v112 = v22 + 40u * 1u;
-    v113 = v22 + 48u * 1u;
-    v114 = v42 + 1440u * 1u;
-    v115 = v42 + 1464u * 1u;
-    v116 = v42 + 1488u * 1u;
-    v117 = v42 + 1456u * 1u;
-    v118 = v42 + 2096u * 1u;
-    v119 = (u64)v99;
-    v120 = (u64)v102;
-    v121 = v83 > 2u;
-    v122 = v121 ? 4u : 2u;
-    v123 = (u8)(v78);
-    v124 = (u64)((u64)v78 >> (8u & 63u));
-    v125 = (u8)(v124);
-    v126 = (u64)((u64)v78 >> (16u & 63u));
-    v127 = (u8)(v126);
-    v128 = (u64)((u64)v78 >> (24u & 63u));
-    v129 = (u8)(v128);
-    v130 = (u64)((u64)v78 >> (32u & 63u));
-    v131 = (u8)(v130);
-    v132 = (u64)((u64)v78 >> (40u & 63u));
-    v133 = (u8)(v132);
-    v134 = (u64)((u64)v78 >> (48u & 63u));
-    v135 = (u8)(v134);
-    v136 = (u64)((u64)v78 >> (56u & 63u));
-    v137 = (u8)(v136);
-    v138 = (u8)(v80);
-    v139 = (u64)((u64)v80 >> (8u & 63u));
-    v140 = (u8)(v139);
-    v141 = (u64)((u64)v80 >> (16u & 63u));
-    v142 = (u8)(v141);
-    v143 = (u64)((u64)v80 >> (24u & 63u));
-    v144 = (u8)(v143);
-    v145 = (u64)((u64)v80 >> (32u & 63u));
-    v146 = (u8)(v145);
-    v147 = (u64)((u64)v80 >> (40u & 63u));
-    v148 = (u8)(v147);
-    v149 = (u64)((u64)v80 >> (48u & 63u));
-    v150 = (u8)(v149);
-    v151 = (u64)((u64)v80 >> (56u & 63u));
-    v152 = (u8)(v151);
-    v153 = swap16(a2);
-    v154 = swap16(v82);
-    v155 = (u32)v122;
-    v156 = (u32)((u32)v155 << (16u & 31u));
-    v11 = 0u; goto L23;
+    v127 = v116 + 9u * 1u;
+    v128 = load8(v127);
+    switch (v128) {
+    case 0u: v12 = 2u; v13 = 1u; v14 = v80; v15 = ADDRESS(c155); v16 = 0u; goto L31;
+    case 1u: goto L23;
+    case 2u: goto L24;
+    case 3u: goto L25;
+    case 4u: goto L26;
+    case 5u: goto L27;
+    case 6u: goto L28;
+    default: goto L29;
+    }
 L23:;
-    v157 = (u64)((u64)v11 * (u64)160u);
-    v158 = a4 + v157 * 1u;
-    v159 = load8(v158);
-    v160 = v158 + 2u * 1u;
-    v161 = load16(v160);
-    v162 = v159 == 1u;
-    v163 = v162 ? v161 : 0u;
-    v164 = v158 + 8u * 1u;
-    v165 = load8(v164);
-    switch (v165) {
-    case 0u: goto L24;
-    case 1u: v12 = 0u; v13 = v165; v14 = v84; v15 = 0u; v16 = ADDRESS(c155); v17 = 0u; goto L34;
-    case 2u: goto L25;
-    default: goto L33;
-    }
+    v12 = 2u; v13 = 2u; v14 = v80; v15 = ADDRESS(c155); v16 = 0u; goto L31;
 L24:;
-    v166 = v158 + 16u * 1u;
-    v167 = v158 + 152u * 1u;
-    v168 = load64(v167);
-    v12 = 0u; v13 = 1u; v14 = v84; v15 = 0u; v16 = v166; v17 = v168; goto L34;
+    v12 = 2u; v13 = 3u; v14 = v80; v15 = ADDRESS(c155); v16 = 0u; goto L31;
 L25:;
-    v169 = v158 + 9u * 1u;
-    v170 = load8(v169);
-    switch (v170) {
-    case 0u: v12 = 1u; v13 = 2u; v14 = 1u; v15 = v84; v16 = ADDRESS(c155); v17 = 0u; goto L34;
-    case 1u: goto L26;
-    case 2u: goto L27;
-    case 3u: goto L28;
-    case 4u: goto L29;
-    case 5u: goto L30;
-    case 6u: goto L31;
-    default: goto L32;
-    }
+    v12 = 2u; v13 = 4u; v14 = v80; v15 = ADDRESS(c155); v16 = 0u; goto L31;
 L26:;
-    v12 = 1u; v13 = 2u; v14 = 2u; v15 = v84; v16 = ADDRESS(c155); v17 = 0u; goto L34;
+    v12 = 2u; v13 = 5u; v14 = v80; v15 = ADDRESS(c155); v16 = 0u; goto L31;
 L27:;
-    v12 = 1u; v13 = 2u; v14 = 3u; v15 = v84; v16 = ADDRESS(c155); v17 = 0u; goto L34;
+    v12 = 2u; v13 = 6u; v14 = v80; v15 = ADDRESS(c155); v16 = 0u; goto L31;
 L28:;
-    v12 = 1u; v13 = 2u; v14 = 4u; v15 = v84; v16 = ADDRESS(c155); v17 = 0u; goto L34;
+    v12 = 2u; v13 = 65534u; v14 = v80; v15 = ADDRESS(c155); v16 = 0u; goto L31;
 L29:;
-    v12 = 1u; v13 = 2u; v14 = 5u; v15 = v84; v16 = ADDRESS(c155); v17 = 0u; goto L34;
+    UNREACHABLE;
 L30:;
-    v12 = 1u; v13 = 2u; v14 = 6u; v15 = v84; v16 = ADDRESS(c155); v17 = 0u; goto L34;
+    UNREACHABLE;
 L31:;
-    v12 = 1u; v13 = 2u; v14 = 65534u; v15 = v84; v16 = ADDRESS(c155); v17 = 0u; goto L34;
-L32:;
-    UNREACHABLE;
-L33:;
-    UNREACHABLE;
-L34:;
-    store16(v22, 0u);
+    store16(v18, 0u);
+    store8(v90, 0u);
+    store8(v91, 0u);
+    store64(v92, v74);
+    store16(v93, v121);
+    store16(v94, a2);
+    store64(v95, v76);
+    store16(v96, v78);
     store8(v97, 0u);
     store8(v98, 0u);
-    store64(v99, v78);
-    store16(v100, v163);
-    store16(v101, a2);
-    store64(v102, v80);
-    store16(v103, v82);
-    store8(v104, 0u);
-    store8(v105, 0u);
-    store32(v106, 0u);
-    store8(v107, v13);
-    store8(v108, v122);
-    store16(v109, v14);
-    store16(v110, v15);
-    store16(v111, 0u);
-    store_address(v112, v16);
-    store64(v113, v17);
-    v171 = load8(v85);
-    v172 = v171 == 0u;
-    if (v172) { goto L35; }
-    else { goto L56; }
+    store32(v99, 0u);
+    store8(v100, v12);
+    store8(v101, v114);
+    store16(v102, v13);
+    store16(v103, v14);
+    store16(v104, 0u);
+    store_address(v105, v15);
+    store64(v106, v16);
+    v129 = load8(v81);
+    v130 = v129 == 0u;
+    if (v130) { goto L32; }
+    else { goto L33; }
+L32:;
+    v131 = load64(v112);
+    v132 = f55(v18, v111, v131);
+    v133 = (u8)(v132);
+    v134 = load64(v110);
+    v135 = v107 + v134 * 1u;
+    store8(v135, v133);
+    v136 = load64(v112);
+    v137 = (u64)((u64)v136 + (u64)v132);
+    store64(v112, v137);
+    v17 = v134; goto L34;
+L33:;
+    v138 = load_address(v108);
+    v139 = load64(v109);
+    v140 = f55(v18, v138, v139);
+    v141 = (u8)(v140);
+    v142 = load64(v110);
+    v143 = load_address(v107);
+    v144 = v143 + v142 * 1u;
+    store8(v144, v141);
+    v145 = load64(v109);
+    v146 = (u64)((u64)v145 + (u64)v140);
+    store64(v109, v146);
+    v17 = v142; goto L34;
+L34:;
+    v147 = (u64)((u64)v17 + (u64)1u);
+    store64(v110, v147);
+    v148 = (u64)((u64)v11 + (u64)1u);
+    v149 = v148 == a5;
+    if (v149) { goto L35; }
+    else { v11 = v148; goto L20; }
 L35:;
-    v173 = load64(v118);
-    if (v12) { goto L36; }
-    else { goto L37; }
+    goto L36;
 L36:;
-    v174 = v17 == 0u;
-    v175 = (u64)((u64)v17 & (u64)1u);
-    v176 = (u64)((u64)v175 ^ (u64)1u);
-    v177 = (u64)((u64)v17 + (u64)13u);
-    v178 = (u64)((u64)v177 + (u64)v176);
-    v179 = v174 ? 12u : v178;
-    v18 = v179; goto L38;
-L37:;
-    v180 = (u64)((u64)v17 + (u64)6u);
-    v18 = v180; goto L38;
-L38:;
-    v181 = (u64)((u64)v18 + (u64)48u);
-    v182 = (u64)((u64)640u - (u64)v173);
-    v183 = v182 < v181;
-    if (v183) { v20 = v173; goto L43; }
-    else { goto L39; }
-L39:;
-    v184 = v117 + v173 * 1u;
-    v185 = (u64)v184;
-    v186 = (u64)((u64)v185 - (u64)(ADDRESS(c152) + 8u * 1u));
-    v187 = v186 < v181;
-    if (v187) { v19 = 0u; goto L41; }
-    else { goto L40; }
-L40:;
-    memory_cpy(v184, (ADDRESS(c152) + 8u * 1u), v181);
-    goto L42;
-L41:;
-    v188 = v184 + v19 * 1u;
-    v189 = (ADDRESS(c152) + 8u * 1u) + v19 * 1u;
-    v190 = load8(v189);
-    store8(v188, v190);
-    v191 = (u64)((u64)v19 + (u64)1u);
-    v192 = v191 == v181;
-    if (v192) { goto L42; }
-    else { v19 = v191; goto L41; }
-L42:;
-    v193 = (u64)((u64)v181 + (u64)v173);
-    store64(v118, v193);
-    v20 = v193; goto L43;
-L43:;
-    v194 = v117 + v173 * 1u;
-    v195 = (u64)((u64)v20 - (u64)v173);
-    v196 = v194 + 48u * 1u;
-    v197 = (u64)((u64)v195 + (u64)UINT64_C(18446744073709551568));
-    v198 = v194 + 6u * 1u;
-    memory_set(v198, 0u, 42u);
-    store16(v194, 4621u);
-    v199 = (u16)(v195);
-    v200 = swap16(v199);
-    v201 = v194 + 2u * 1u;
-    store16(v201, v200);
-    v202 = v194 + 4u * 1u;
-    store16(v202, 0u);
-    v203 = v194 + 20u * 1u;
-    v204 = (u64)v203;
-    v205 = (u64)((u64)v204 - (u64)v119);
-    v206 = v205 < 8u;
-    if (v206) { goto L44; }
-    else { goto L45; }
-L44:;
-    store8(v203, v123);
-    v207 = v194 + 21u * 1u;
-    store8(v207, v125);
-    v208 = v194 + 22u * 1u;
-    store8(v208, v127);
-    v209 = v194 + 23u * 1u;
-    store8(v209, v129);
-    v210 = v194 + 24u * 1u;
-    store8(v210, v131);
-    v211 = v194 + 25u * 1u;
-    store8(v211, v133);
-    v212 = v194 + 26u * 1u;
-    store8(v212, v135);
-    v213 = v194 + 27u * 1u;
-    store8(v213, v137);
-    goto L46;
-L45:;
-    store64(v203, v78);
-    goto L46;
-L46:;
-    v214 = swap16(v163);
-    v215 = v194 + 28u * 1u;
-    store16(v215, v214);
-    v216 = v194 + 30u * 1u;
-    store16(v216, v153);
-    v217 = v194 + 32u * 1u;
-    store16(v217, 32516u);
-    v218 = v194 + 34u * 1u;
-    v219 = (u64)v218;
-    v220 = (u64)((u64)v219 - (u64)v120);
-    v221 = v220 < 8u;
-    if (v221) { goto L47; }
-    else { goto L48; }
-L47:;
-    store8(v218, v138);
-    v222 = v194 + 35u * 1u;
-    store8(v222, v140);
-    v223 = v194 + 36u * 1u;
-    store8(v223, v142);
-    v224 = v194 + 37u * 1u;
-    store8(v224, v144);
-    v225 = v194 + 38u * 1u;
-    store8(v225, v146);
-    v226 = v194 + 39u * 1u;
-    store8(v226, v148);
-    v227 = v194 + 40u * 1u;
-    store8(v227, v150);
-    v228 = v194 + 41u * 1u;
-    store8(v228, v152);
-    goto L49;
-L48:;
-    store64(v218, v80);
-    goto L49;
-L49:;
-    v229 = v194 + 42u * 1u;
-    store16(v229, v154);
-    v230 = v194 + 44u * 1u;
-    store32(v230, v156);
-    if (v12) { goto L50; }
-    else { goto L51; }
-L50:;
-    f5(v196, v197, v14, v15, v16, v17);
-    goto L55;
-L51:;
-    v231 = v194 + 54u * 1u;
-    v232 = (u16)(v17);
-    store16(v196, 256u);
-    v233 = (u16)((u32)v232 + (u32)2u);
-    v234 = swap16(v233);
-    v235 = v194 + 50u * 1u;
-    store16(v235, v234);
-    v236 = swap16(v14);
-    v237 = v194 + 52u * 1u;
-    store16(v237, v236);
-    v238 = v17 == 0u;
-    if (v238) { goto L55; }
-    else { goto L52; }
-L52:;
-    v239 = (u64)v231;
-    v240 = (u64)v16;
-    v241 = (u64)((u64)v239 - (u64)v240);
-    v242 = v241 < v17;
-    if (v242) { v21 = 0u; goto L54; }
-    else { goto L53; }
-L53:;
-    memory_move(v231, v16, v17);
-    goto L55;
-L54:;
-    v243 = v231 + v21 * 1u;
-    v244 = v16 + v21 * 1u;
-    v245 = load8(v244);
-    store8(v243, v245);
-    v246 = (u64)((u64)v21 + (u64)1u);
-    v247 = v246 == v17;
-    if (v247) { goto L55; }
-    else { v21 = v246; goto L54; }
-L55:;
-    v248 = (u8)(v181);
-    v249 = load64(v88);
-    v250 = v114 + v249 * 1u;
-    store8(v250, v248);
-    v251 = (u64)((u64)v249 + (u64)1u);
-    store64(v88, v251);
-    goto L57;
-L56:;
-    v252 = load_address(v115);
-    v253 = load64(v116);
-    v254 = f56(v22, v252, v253);
-    v255 = (u8)(v254);
-    v256 = load64(v88);
-    v257 = load_address(v114);
-    v258 = v257 + v256 * 1u;
-    store8(v258, v255);
-    v259 = (u64)((u64)v256 + (u64)1u);
-    store64(v88, v259);
-    v260 = load64(v116);
-    v261 = (u64)((u64)v260 + (u64)v254);
-    store64(v116, v261);
-    goto L57;
-L57:;
-    v262 = (u64)((u64)v11 + (u64)1u);
-    v263 = v262 == a5;
-    if (v263) { goto L58; }
-    else { v11 = v262; goto L23; }
-L58:;
-    goto L59;
-L59:;
     return;
 }
 
-static u64 f56(address a0, address a1, u64 a2) {
+static u64 f55(address a0, address a1, u64 a2) {
     u64 v3, v4, v11, v13, v14, v15, v16, v17, v18, v19, v22, v39, v40, v41, v65, v77;
     u64 v78, v79, v103, v139;
     address v5, v6, v7, v10, v21, v23, v30, v31, v33, v37, v38, v44, v45, v47, v48, v50;
@@ -12287,22 +11884,22 @@ L20:;
     return v19;
 }
 
-static void f57(address a0, address a1, u16 a2, address a3, u64 a4, u8 a5, address a6, u64 a7, address a8) {
+static void f56(address a0, address a1, u16 a2, address a3, u64 a4, u8 a5, address a6, u64 a7, address a8) {
     u8 v9, v10, v11, v12, v25, v26, v27, v28, v30, v31, v32, v34, v36, v42, v44, v45;
     u8 v47, v49, v54, v56, v57, v59, v63, v67, v69, v70, v71, v72, v73, v74, v76, v78;
     u8 v80, v82, v91, v94, v98, v100, v106, v108, v114, v116, v117, v121, v123, v125, v127, v149;
     u8 v151, v177, v182, v187, v190, v192, v200, v203, v204, v205, v209, v212, v214, v218, v224, v225;
-    u8 v227, v233, v239, v240, v243, v248, v253, v256;
+    u8 v227, v237, v238, v244, v248, v251;
     address v13, v17, v18, v19, v20, v21, v22, v23, v24, v29, v33, v35, v46, v48, v55, v58;
     address v62, v75, v77, v79, v81, v87, v88, v89, v90, v92, v93, v95, v97, v99, v105, v107;
     address v113, v115, v120, v122, v124, v126, v128, v130, v140, v141, v142, v143, v144, v145, v146, v147;
     address v161, v162, v163, v164, v165, v166, v167, v168, v169, v170, v171, v172, v173, v174, v175, v176;
     address v178, v179, v180, v183, v185, v188, v194, v195, v196, v197, v198, v199, v201, v210, v211, v215;
-    address v216, v219, v220, v223, v226, v228, v229, v230, v231, v234, v235, v236, v237, v238, v241, v244;
-    address v245, v246, v249, v251, v252, v254, v255, v257, v258;
+    address v216, v219, v220, v223, v226, v228, v229, v230, v231, v232, v233, v234, v235, v236, v239, v240;
+    address v241, v242, v246, v247, v249, v250, v252, v253;
     u64 v14, v15, v16, v41, v60, v61, v64, v65, v66, v68, v83, v84, v85, v86, v96, v118;
     u64 v119, v129, v131, v148, v181, v184, v189, v191, v193, v202, v206, v207, v208, v213, v217, v222;
-    u64 v232, v242, v247, v250, v259;
+    u64 v243, v245, v254;
     u16 v37, v38, v39, v40, v43, v50, v51, v52, v53, v101, v102, v103, v104, v109, v110, v111;
     u16 v112, v132, v133, v134, v135, v136, v137, v138, v139, v152, v153, v154, v155, v160, v186, v221;
     u32 v150, v156, v157, v158, v159;
@@ -12407,7 +12004,7 @@ L7:;
     v82 = load8(v81);
     v9 = v82; v10 = v80; v11 = v76; v12 = v78; goto L9;
 L8:;
-    goto L46;
+    goto L42;
 L9:;
     v83 = (u64)v10;
     v84 = (u64)((u64)v83 << (8u & 63u));
@@ -12422,9 +12019,9 @@ L9:;
     store8(v89, v12);
     v90 = v20 + 18u * 1u;
     memory_set(v90, 0u, 6u);
-    v91 = f58(a1, ADDRESS(c155), 0u, v20);
+    v91 = f57(a1, ADDRESS(c155), 0u, v20);
     if (v91) { goto L10; }
-    else { goto L46; }
+    else { goto L42; }
 L10:;
     v92 = v18 + 72u * 1u;
     store64(v92, 0u);
@@ -12538,14 +12135,14 @@ L10:;
     memory_set(v175, 0u, 6u);
     store_address(v176, v21);
     store8(v92, a5);
-    f59(a1, v17, v18);
+    f58(a1, v17, v18);
     v177 = load8(v175);
     v178 = a1 + 392u * 1u;
     v179 = load_address(v178);
     v180 = a1 + 400u * 1u;
     v181 = load64(v180);
     v182 = v181 == 0u;
-    if (v182) { goto L44; }
+    if (v182) { goto L40; }
     else { v13 = v179; v14 = v181; v15 = 0u; goto L11; }
 L11:;
     v183 = v13 + 2144u * 1u;
@@ -12564,7 +12161,7 @@ L12:;
 L13:;
     v191 = (u64)((u64)v15 + (u64)1u);
     v192 = v184 == 0u;
-    if (v192) { goto L44; }
+    if (v192) { goto L40; }
     else { v13 = v183; v14 = v184; v15 = v191; goto L11; }
 L14:;
     v193 = (u64)((u64)v15 * (u64)2144u);
@@ -12619,7 +12216,7 @@ L20:;
     v217 = load64(v24);
     v218 = v217 == 1u;
     if (v218) { goto L21; }
-    else { goto L35; }
+    else { goto L34; }
 L21:;
     v219 = load_address(v21);
     v220 = v219 + 2u * 1u;
@@ -12631,7 +12228,7 @@ L21:;
     v226 = v194 + 1440u * 1u;
     v227 = (u8)(v221);
     if (v225) { goto L22; }
-    else { goto L29; }
+    else { goto L28; }
 L22:;
     v228 = v194 + 1456u * 1u;
     v229 = v194 + 1441u * 1u;
@@ -12639,129 +12236,111 @@ L22:;
     v230 = v194 + 1448u * 1u;
     store8(v226, v227);
     store64(v230, 1u);
-    v231 = v194 + 2096u * 1u;
-    v232 = load64(v231);
-    v233 = v232 == v222;
-    if (v233) { goto L23; }
-    else { goto L28; }
+    switch (v221) {
+    case 54u: goto L23;
+    case 56u: goto L24;
+    case 80u: goto L25;
+    default: goto L26;
+    }
 L23:;
-    switch (v221) {
-    case 54u: goto L24;
-    case 56u: goto L25;
-    case 80u: goto L26;
-    default: goto L27;
-    }
-L24:;
     memory_move(v228, v223, 54u);
-    goto L44;
-L25:;
+    goto L27;
+L24:;
     memory_move(v228, v223, 56u);
-    goto L44;
-L26:;
+    goto L27;
+L25:;
     memory_move(v228, v223, 80u);
-    goto L44;
-L27:;
+    goto L27;
+L26:;
     f44(v228, v223, v222);
-    goto L44;
+    goto L27;
+L27:;
+    v231 = v194 + 2096u * 1u;
+    store64(v231, v222);
+    goto L40;
 L28:;
-    f45(v228, v223, v222);
-    goto L44;
-L29:;
-    v234 = v194 + 1464u * 1u;
-    v235 = v194 + 1488u * 1u;
-    v236 = v194 + 1448u * 1u;
-    v237 = load_address(v226);
-    store8(v237, v227);
-    store64(v236, 1u);
-    v238 = load_address(v234);
+    v232 = v194 + 1464u * 1u;
+    v233 = v194 + 1488u * 1u;
+    v234 = v194 + 1448u * 1u;
+    v235 = load_address(v226);
+    store8(v235, v227);
+    store64(v234, 1u);
+    v236 = load_address(v232);
     switch (v221) {
-    case 54u: goto L30;
-    case 56u: goto L31;
-    case 80u: goto L32;
-    default: goto L33;
+    case 54u: goto L29;
+    case 56u: goto L30;
+    case 80u: goto L31;
+    default: goto L32;
     }
+L29:;
+    memory_move(v236, v223, 54u);
+    goto L33;
 L30:;
-    memory_move(v238, v223, 54u);
-    goto L34;
+    memory_move(v236, v223, 56u);
+    goto L33;
 L31:;
-    memory_move(v238, v223, 56u);
-    goto L34;
+    memory_move(v236, v223, 80u);
+    goto L33;
 L32:;
-    memory_move(v238, v223, 80u);
-    goto L34;
+    f44(v236, v223, v222);
+    goto L33;
 L33:;
-    f44(v238, v223, v222);
-    goto L34;
+    store64(v233, v222);
+    goto L40;
 L34:;
-    store64(v235, v222);
-    goto L44;
+    v237 = load8(v216);
+    v238 = v237 == 0u;
+    if (v238) { goto L35; }
+    else { goto L36; }
 L35:;
-    v239 = load8(v216);
-    v240 = v239 == 0u;
-    v241 = v194 + 1448u * 1u;
-    v242 = load64(v241);
-    v243 = v242 == 0u;
-    if (v240) { goto L36; }
-    else { goto L40; }
+    v239 = v194 + 1440u * 1u;
+    memory_set(v239, 0u, 16u);
+    v240 = v194 + 2096u * 1u;
+    store64(v240, 0u);
+    goto L39;
 L36:;
-    v244 = v194 + 1456u * 1u;
-    if (v243) { goto L38; }
+    v241 = v194 + 1488u * 1u;
+    v242 = v194 + 1448u * 1u;
+    v243 = load64(v242);
+    v244 = v243 == 0u;
+    if (v244) { goto L38; }
     else { goto L37; }
 L37:;
-    v245 = v194 + 1440u * 1u;
-    memory_set(v245, 0u, v242);
-    store64(v241, 0u);
+    store64(v242, 0u);
     goto L38;
 L38:;
-    v246 = v194 + 2096u * 1u;
-    v247 = load64(v246);
-    v248 = v247 == 0u;
-    if (v248) { goto L43; }
-    else { goto L39; }
-L39:;
-    memory_set(v244, 0u, v247);
-    store64(v246, 0u);
-    goto L43;
-L40:;
-    v249 = v194 + 1488u * 1u;
-    if (v243) { goto L42; }
-    else { goto L41; }
-L41:;
     store64(v241, 0u);
-    goto L42;
-L42:;
-    store64(v249, 0u);
-    goto L43;
-L43:;
-    f46(v21, v216);
-    goto L44;
-L44:;
-    v250 = load64(v24);
+    goto L39;
+L39:;
+    f45(v21, v216);
+    goto L40;
+L40:;
+    v245 = load64(v24);
     memory_set(a8, 0u, 68u);
     store8(a0, 5u);
-    v251 = a0 + 1u * 1u;
-    store8(v251, 0u);
-    v252 = a0 + 8u * 1u;
-    store64(v252, v250);
-    goto L45;
-L45:;
+    v246 = a0 + 1u * 1u;
+    store8(v246, 0u);
+    v247 = a0 + 8u * 1u;
+    store64(v247, v245);
+    goto L41;
+L41:;
     return;
-L46:;
+L42:;
     f38(v22, a1, a2, a3, a4, a6, a7, a8);
-    v253 = load8(v22);
-    store8(a0, v253);
-    v254 = a0 + 1u * 1u;
-    v255 = v22 + 1u * 1u;
-    v256 = load8(v255);
-    store8(v254, v256);
-    v257 = a0 + 8u * 1u;
-    v258 = v22 + 8u * 1u;
-    v259 = load64(v258);
-    store64(v257, v259);
-    goto L45;
+    v248 = load8(v22);
+    store8(a0, v248);
+    v249 = a0 + 1u * 1u;
+    v250 = v22 + 1u * 1u;
+    v251 = load8(v250);
+    store8(v249, v251);
+    v252 = a0 + 8u * 1u;
+    v253 = v22 + 8u * 1u;
+    v254 = load64(v253);
+    store64(v252, v254);
+    goto L41;
 }
 
-static u8 f58(address a0, address a1, u64 a2, address a3) {
+static u8 f57(address a0, address a1, u64 a2, address a3) {
     address v4, v19, v20, v21, v26, v28, v31, v34, v36, v38, v40, v42, v44, v54, v55, v56;
     address v57, v58, v59, v62, v64, v66, v68, v70, v117, v118, v119;
     u64 v5, v32, v33, v43, v45, v80, v83, v99, v100, v101, v102, v108, v109, v111, v112, v114;
@@ -12778,7 +12357,7 @@ static u8 f58(address a0, address a1, u64 a2, address a3) {
     v19 = ADDRESS(block0);
     v20 = ADDRESS(block1);
     v21 = ADDRESS(block2);
-    v22 = f53(a0, a3);
+    v22 = f52(a0, a3);
     v23 = v22.m0;
     v24 = v23 == 1u;
     if (v24) { goto L1; }
@@ -12832,7 +12411,7 @@ L3:;
     v59 = v21 + 16u * 1u;
     store64(v59, v5);
     memory_set(v20, 0u, 12u);
-    f52(v20, a1, a2, v21);
+    f51(v20, a1, a2, v21);
     v60 = load8(v20);
     v61 = v60 == 1u;
     if (v61) { goto L4; }
@@ -13117,7 +12696,7 @@ L62:;
     return v18;
 }
 
-static void f59(address a0, address a1, address a2) {
+static void f58(address a0, address a1, address a2) {
     address v3, v10, v11, v12, v15, v17, v18, v19, v20, v21, v22, v23, v24, v28, v30, v31;
     address v33, v34, v36, v38, v40, v41, v44, v45, v46, v49, v51, v52, v54, v55, v57, v59;
     address v61, v62, v65, v66, v67, v70, v72, v73, v75, v76, v78, v80, v82, v83, v86, v87;
@@ -13337,15 +12916,15 @@ L28:;
     store64(v83, v90);
     goto L23;
 L29:;
-    f60(a0, v8, a2);
+    f59(a0, v8, a2);
     goto L23;
 L30:;
     v91 = (u8)v27;
-    f61(a0, v11, a1, v91, a2);
+    f60(a0, v11, a1, v91, a2);
     goto L23;
 }
 
-static void f60(address a0, u8 a1, address a2) {
+static void f59(address a0, u8 a1, address a2) {
     address v3, v5, v7, v8, v10, v11, v13, v15, v17, v18, v21, v22, v23, v26, v28, v29;
     address v31, v32, v34, v36, v38, v39, v42, v43, v44;
     u8 v4, v6, v27;
@@ -13418,7 +12997,7 @@ L3:;
     return;
 }
 
-static void f61(address a0, address a1, address a2, u8 a3, address a4) {
+static void f60(address a0, address a1, address a2, u8 a3, address a4) {
     u16 v5, v6, v9, v10, v12, v20, v21, v35, v39, v43, v47, v58, v61, v75, v79, v81;
     u16 v85, v86, v94;
     u64 v7, v17, v19, v31, v32, v37, v45, v52, v54, v55, v66, v68, v69, v77, v83, v89;
@@ -13620,7 +13199,7 @@ L32:;
     return;
 }
 
-static void f62(address a0, address a1, u16 a2, address a3, u64 a4, address a5, u64 a6, address a7, u64 a8, address a9) {
+static void f61(address a0, address a1, u16 a2, address a3, u64 a4, address a5, u64 a6, address a7, u64 a8, address a9) {
     u8 v10, v11, v12, v13, v25, v27, v28, v30, v31, v32, v33, v42, v43, v44, v45, v47;
     u8 v48, v49, v51, v53, v59, v61, v62, v64, v66, v71, v73, v74, v76, v80, v84, v86;
     u8 v87, v88, v89, v90, v91, v93, v95, v97, v99, v110, v114, v116, v118, v120, v139, v144;
@@ -13804,7 +13383,7 @@ L9:;
     store_address(v137, v123);
     v138 = v38 + 16u * 1u;
     store64(v138, v124);
-    v139 = f63(v38);
+    v139 = f62(v38);
     if (v139) { goto L10; }
     else { goto L16; }
 L10:;
@@ -13860,7 +13439,7 @@ L15:;
 L16:;
     goto L47;
 L17:;
-    v169 = f64(a1, v40);
+    v169 = f63(a1, v40);
     v170 = v169 == 0u;
     if (v170) { goto L18; }
     else { goto L47; }
@@ -14255,7 +13834,7 @@ L55:;
     store_address(v392, v378);
     v393 = v34 + 16u * 1u;
     store64(v393, v379);
-    v394 = f63(v34);
+    v394 = f62(v34);
     if (v394) { goto L56; }
     else { goto L62; }
 L56:;
@@ -14311,7 +13890,7 @@ L61:;
 L62:;
     goto L66;
 L63:;
-    v424 = f64(a1, v36);
+    v424 = f63(a1, v36);
     v425 = v424 == 1u;
     if (v425) { goto L65; }
     else { goto L66; }
@@ -14355,7 +13934,7 @@ L65:;
     store_address(v450, v378);
     v451 = v37 + 32u * 1u;
     store64(v451, v379);
-    f65(a1, v37, a5, a6);
+    f64(a1, v37, a5, a6);
     f38(v41, a1, a2, a3, a4, a7, a8, a9);
     v452 = v41 + 8u * 1u;
     v453 = load64(v452);
@@ -14370,7 +13949,7 @@ L66:;
     v27 = v454; v28 = v456; v29 = v458; goto L46;
 }
 
-static u8 f63(address a0) {
+static u8 f62(address a0) {
     u8 v1, v2, v3;
     address v4;
     u16 v5;
@@ -14411,7 +13990,7 @@ L3:;
     return v1;
 }
 
-static u8 f64(address a0, address a1) {
+static u8 f63(address a0, address a1) {
     address v2, v5, v6, v7, v8, v10, v12, v17, v20, v22, v24, v30, v31, v33, v39, v41;
     address v46, v48, v50, v52, v59, v60, v61, v62, v63, v64;
     u64 v3, v9, v18, v21, v44, v45, v51, v53;
@@ -14504,7 +14083,7 @@ L4:;
     return v4;
 }
 
-static void f65(address a0, address a1, address a2, u64 a3) {
+static void f64(address a0, address a1, address a2, u64 a3) {
     u8 v4, v9;
     address v5, v6, v7, v8, v10, v11, v12, v13, v14, v15, v17, v18, v19, v20;
     u16 v16;
@@ -14547,11 +14126,11 @@ L3:;
     store8(v19, 0u);
     v20 = v8 + 10u * 1u;
     memory_cpy(v20, v6, 150u);
-    f55(a0, a1, v16, v17, v8, 1u);
+    f54(a0, a1, v16, v17, v8, 1u);
     return;
 }
 
-static void f66(address a0, address a1, u64 a2) {
+static void f65(address a0, address a1, u64 a2) {
     u64 v3, v4, v5, v6, v7, v9, v12, v14, v16, v17, v19, v21, v23, v24, v25, v28;
     u64 v29, v32, v41, v42, v43, v44, v46;
     address v8, v11, v13, v18, v20, v27, v30, v31, v33, v34, v36, v39, v40;
@@ -14648,7 +14227,7 @@ L14:;
     return;
 }
 
-static void f67(address a0, address a1, u8 a2, address a3) {
+static void f66(address a0, address a1, u8 a2, address a3) {
     address v4, v27, v28, v29, v30, v31, v33, v34, v35, v36, v37, v38, v39, v40, v50, v51;
     address v52, v78, v79, v80, v82, v83, v85, v86, v90, v92, v93, v96, v97, v98, v103, v104;
     address v106, v107, v108, v109, v112, v113, v114, v119, v120, v124, v126, v127, v130, v132, v133, v135;
@@ -15087,10 +14666,10 @@ L66:;
     store64(v138, v160);
     goto L69;
 L67:;
-    f68(a0, v12, a3);
+    f67(a0, v12, a3);
     goto L69;
 L68:;
-    f69(a0, v29, a1, v26, v25, a3);
+    f68(a0, v29, a1, v26, v25, a3);
     goto L69;
 L69:;
     return;
@@ -15119,7 +14698,7 @@ L70:;
     goto L69;
 }
 
-static void f68(address a0, u8 a1, address a2) {
+static void f67(address a0, u8 a1, address a2) {
     u64 v3, v4, v5, v6, v11, v19, v20, v27, v28, v29, v34, v36, v37, v38, v43, v52;
     u64 v53, v55, v63, v64, v71, v72, v73, v78, v80, v81, v82, v87, v96, v97;
     address v7, v9, v10, v12, v13, v15, v16, v17, v18, v21, v24, v25, v26, v31, v32, v40;
@@ -15285,7 +14864,7 @@ L15:;
     return;
 }
 
-static void f69(address a0, address a1, address a2, u8 a3, u8 a4, address a5) {
+static void f68(address a0, address a1, address a2, u8 a3, u8 a4, address a5) {
     u16 v6, v7, v21, v29, v30, v48, v50, v51, v59, v64, v82, v83, v100, v101, v107, v108;
     u16 v109, v110, v114, v142, v160, v161, v180, v198, v200, v201, v206, v224, v225;
     u64 v8, v9, v10, v12, v13, v14, v17, v18, v26, v28, v40, v42, v43, v44, v54, v55;
@@ -15699,212 +15278,111 @@ L41:;
     return;
 }
 
-static void f70(address a0, address a1) {
-    u64 v2, v3, v4, v5, v6, v8, v17, v21, v26, v28, v29, v30, v33, v34, v35, v40;
-    u64 v42, v43, v46, v47, v48, v53, v55, v56, v59, v60, v61, v66, v68, v69, v72, v73;
-    u64 v74, v79, v81, v84, v86, v88, v89, v90;
-    address v7, v10, v11, v12, v13, v14, v15, v16, v18, v19, v22, v27, v32, v37, v38, v45;
-    address v50, v51, v58, v63, v64, v71, v76, v77, v82, v83, v85, v87;
-    u8 v9, v23, v24, v25, v31, v36, v39, v41, v44, v49, v52, v54, v57, v62, v65, v67;
-    u8 v70, v75, v78, v80, v91;
-    u16 v20;
-    v7 = a0 + 16u * 1u;
-    v8 = load64(v7);
-    v9 = v8 == 0u;
-    if (v9) { goto L31; }
+static void f69(address a0, address a1) {
+    u64 v2, v4, v13, v17, v22, v24, v25, v27, v28, v31, v33, v35, v36, v37;
+    address v3, v6, v7, v8, v9, v10, v11, v12, v14, v15, v18, v23, v26, v29, v30, v32;
+    address v34;
+    u8 v5, v19, v20, v21, v38;
+    u16 v16;
+    v3 = a0 + 16u * 1u;
+    v4 = load64(v3);
+    v5 = v4 == 0u;
+    if (v5) { goto L16; }
     else { goto L1; }
 L1:;
-    v10 = a1 + 8u * 1u;
-    v11 = a1 + 32u * 1u;
-    v12 = a1 + 56u * 1u;
-    v13 = a1 + 16u * 1u;
-    v14 = a1 + 24u * 1u;
-    v15 = a1 + 664u * 1u;
+    v6 = a1 + 8u * 1u;
+    v7 = a1 + 32u * 1u;
+    v8 = a1 + 56u * 1u;
+    v9 = a1 + 16u * 1u;
+    v10 = a1 + 24u * 1u;
+    v11 = a1 + 664u * 1u;
     v2 = 0u; goto L2;
 L2:;
-    v16 = load_address(a0);
-    v17 = (u64)((u64)v2 * (u64)188u);
-    v18 = v16 + v17 * 1u;
-    v19 = v18 + 2u * 1u;
-    v20 = load16(v19);
-    v21 = (u64)v20;
-    v22 = v18 + 4u * 1u;
-    v23 = load8(a1);
-    v24 = v23 == 0u;
-    v25 = (u8)(v20);
-    v26 = load64(v13);
-    if (v24) { goto L3; }
-    else { goto L24; }
+    v12 = load_address(a0);
+    v13 = (u64)((u64)v2 * (u64)188u);
+    v14 = v12 + v13 * 1u;
+    v15 = v14 + 2u * 1u;
+    v16 = load16(v15);
+    v17 = (u64)v16;
+    v18 = v14 + 4u * 1u;
+    v19 = load8(a1);
+    v20 = v19 == 0u;
+    v21 = (u8)(v16);
+    v22 = load64(v9);
+    if (v20) { goto L3; }
+    else { goto L9; }
 L3:;
-    v27 = v10 + v26 * 1u;
-    store8(v27, v25);
-    v28 = (u64)((u64)v26 + (u64)1u);
-    store64(v13, v28);
-    v29 = load64(v15);
-    switch (v20) {
+    v23 = v6 + v22 * 1u;
+    store8(v23, v21);
+    v24 = (u64)((u64)v22 + (u64)1u);
+    store64(v9, v24);
+    v25 = load64(v11);
+    v26 = v10 + v25 * 1u;
+    switch (v16) {
     case 54u: goto L4;
-    case 56u: goto L9;
-    case 80u: goto L14;
-    default: goto L19;
+    case 56u: goto L5;
+    case 80u: goto L6;
+    default: goto L7;
     }
 L4:;
-    v30 = (u64)((u64)v29 + (u64)UINT64_C(18446744073709551029));
-    v31 = v30 < 54u;
-    if (v31) { goto L30; }
-    else { goto L5; }
+    memory_move(v26, v18, 54u);
+    goto L8;
 L5:;
-    v32 = v14 + v29 * 1u;
-    v33 = (u64)v32;
-    v34 = (u64)v22;
-    v35 = (u64)((u64)v33 - (u64)v34);
-    v36 = v35 < 54u;
-    if (v36) { v3 = 0u; goto L7; }
-    else { goto L6; }
+    memory_move(v26, v18, 56u);
+    goto L8;
 L6:;
-    memory_move(v32, v22, 54u);
+    memory_move(v26, v18, 80u);
     goto L8;
 L7:;
-    v37 = v32 + v3 * 1u;
-    v38 = v22 + v3 * 1u;
-    v39 = load8(v38);
-    store8(v37, v39);
-    v40 = (u64)((u64)v3 + (u64)1u);
-    v41 = v40 == 54u;
-    if (v41) { goto L8; }
-    else { v3 = v40; goto L7; }
+    f44(v26, v18, v17);
+    goto L8;
 L8:;
-    v42 = (u64)((u64)v29 + (u64)54u);
-    store64(v15, v42);
-    goto L30;
+    v27 = load64(v11);
+    v28 = (u64)((u64)v27 + (u64)v17);
+    store64(v11, v28);
+    goto L15;
 L9:;
-    v43 = (u64)((u64)v29 + (u64)UINT64_C(18446744073709551031));
-    v44 = v43 < 56u;
-    if (v44) { goto L30; }
-    else { goto L10; }
-L10:;
-    v45 = v14 + v29 * 1u;
-    v46 = (u64)v45;
-    v47 = (u64)v22;
-    v48 = (u64)((u64)v46 - (u64)v47);
-    v49 = v48 < 56u;
-    if (v49) { v4 = 0u; goto L12; }
-    else { goto L11; }
-L11:;
-    memory_move(v45, v22, 56u);
-    goto L13;
-L12:;
-    v50 = v45 + v4 * 1u;
-    v51 = v22 + v4 * 1u;
-    v52 = load8(v51);
-    store8(v50, v52);
-    v53 = (u64)((u64)v4 + (u64)1u);
-    v54 = v53 == 56u;
-    if (v54) { goto L13; }
-    else { v4 = v53; goto L12; }
-L13:;
-    v55 = (u64)((u64)v29 + (u64)56u);
-    store64(v15, v55);
-    goto L30;
-L14:;
-    v56 = (u64)((u64)v29 + (u64)UINT64_C(18446744073709551055));
-    v57 = v56 < 80u;
-    if (v57) { goto L30; }
-    else { goto L15; }
-L15:;
-    v58 = v14 + v29 * 1u;
-    v59 = (u64)v58;
-    v60 = (u64)v22;
-    v61 = (u64)((u64)v59 - (u64)v60);
-    v62 = v61 < 80u;
-    if (v62) { v5 = 0u; goto L17; }
-    else { goto L16; }
-L16:;
-    memory_move(v58, v22, 80u);
-    goto L18;
-L17:;
-    v63 = v58 + v5 * 1u;
-    v64 = v22 + v5 * 1u;
-    v65 = load8(v64);
-    store8(v63, v65);
-    v66 = (u64)((u64)v5 + (u64)1u);
-    v67 = v66 == 80u;
-    if (v67) { goto L18; }
-    else { v5 = v66; goto L17; }
-L18:;
-    v68 = (u64)((u64)v29 + (u64)80u);
-    store64(v15, v68);
-    goto L30;
-L19:;
-    v69 = (u64)((u64)640u - (u64)v29);
-    v70 = v69 < v21;
-    if (v70) { goto L30; }
-    else { goto L20; }
-L20:;
-    v71 = v14 + v29 * 1u;
-    v72 = (u64)v71;
-    v73 = (u64)v22;
-    v74 = (u64)((u64)v72 - (u64)v73);
-    v75 = v74 < v21;
-    if (v75) { v6 = 0u; goto L22; }
-    else { goto L21; }
-L21:;
-    memory_move(v71, v22, v21);
-    goto L23;
-L22:;
-    v76 = v71 + v6 * 1u;
-    v77 = v22 + v6 * 1u;
-    v78 = load8(v77);
-    store8(v76, v78);
-    v79 = (u64)((u64)v6 + (u64)1u);
-    v80 = v79 == v21;
-    if (v80) { goto L23; }
-    else { v6 = v79; goto L22; }
-L23:;
-    v81 = (u64)((u64)v29 + (u64)v21);
-    store64(v15, v81);
-    goto L30;
-L24:;
-    v82 = load_address(v10);
-    v83 = v82 + v26 * 1u;
-    store8(v83, v25);
-    v84 = (u64)((u64)v26 + (u64)1u);
-    store64(v13, v84);
-    v85 = load_address(v11);
-    v86 = load64(v12);
-    v87 = v85 + v86 * 1u;
-    switch (v20) {
-    case 54u: goto L25;
-    case 56u: goto L26;
-    case 80u: goto L27;
-    default: goto L28;
+    v29 = load_address(v6);
+    v30 = v29 + v22 * 1u;
+    store8(v30, v21);
+    v31 = (u64)((u64)v22 + (u64)1u);
+    store64(v9, v31);
+    v32 = load_address(v7);
+    v33 = load64(v8);
+    v34 = v32 + v33 * 1u;
+    switch (v16) {
+    case 54u: goto L10;
+    case 56u: goto L11;
+    case 80u: goto L12;
+    default: goto L13;
     }
-L25:;
-    memory_move(v87, v22, 54u);
-    goto L29;
-L26:;
-    memory_move(v87, v22, 56u);
-    goto L29;
-L27:;
-    memory_move(v87, v22, 80u);
-    goto L29;
-L28:;
-    f44(v87, v22, v21);
-    goto L29;
-L29:;
-    v88 = load64(v12);
-    v89 = (u64)((u64)v88 + (u64)v21);
-    store64(v12, v89);
-    goto L30;
-L30:;
-    v90 = (u64)((u64)v2 + (u64)1u);
-    v91 = v90 == v8;
-    if (v91) { goto L31; }
-    else { v2 = v90; goto L2; }
-L31:;
+L10:;
+    memory_move(v34, v18, 54u);
+    goto L14;
+L11:;
+    memory_move(v34, v18, 56u);
+    goto L14;
+L12:;
+    memory_move(v34, v18, 80u);
+    goto L14;
+L13:;
+    f44(v34, v18, v17);
+    goto L14;
+L14:;
+    v35 = load64(v8);
+    v36 = (u64)((u64)v35 + (u64)v17);
+    store64(v8, v36);
+    goto L15;
+L15:;
+    v37 = (u64)((u64)v2 + (u64)1u);
+    v38 = v37 == v4;
+    if (v38) { goto L16; }
+    else { v2 = v37; goto L2; }
+L16:;
     return;
 }
 
-static void f71(address a0, u64 a1, address a2, address a3, u16 a4, address a5) {
+static void f70(address a0, u64 a1, address a2, address a3, u16 a4, address a5) {
     u64 v6, v8, v15, v17, v19, v22, v40, v41;
     address v7, v9, v11, v12, v13, v14, v16, v20, v21, v23, v25, v26, v28, v34, v36, v38;
     address v39;
@@ -15986,7 +15464,7 @@ L10:;
     return;
 }
 
-static void f72(address a0, address a1, address a2) {
+static void f71(address a0, address a1, address a2) {
     address v3, v15, v16, v17, v20, v22, v23, v24, v25, v26, v27, v28, v29, v30, v31, v33;
     address v34, v36, v38, v39, v42, v43, v44, v49, v50, v52, v53, v54, v56, v57, v60, v61;
     address v62, v65, v67, v68, v70, v71, v72, v73, v76, v77, v78, v79, v84, v85, v90, v92;
@@ -16237,14 +15715,14 @@ L38:;
     store64(v73, v95);
     goto L23;
 L39:;
-    f68(a0, v8, a2);
+    f67(a0, v8, a2);
     goto L23;
 L40:;
-    f69(a0, v16, a1, v14, v13, a2);
+    f68(a0, v16, a1, v14, v13, a2);
     goto L23;
 }
 
-static struct s2 f73(address a0, address a1, u64 a2) {
+static struct s2 f72(address a0, address a1, u64 a2) {
     u64 v3, v4, v14, v16, v19, v23, v24, v25, v27, v30, v32, v34, v58, v59, v60, v65;
     u64 v67;
     u8 v5, v8, v9, v17, v21, v22, v31, v33, v35, v36, v38, v39, v41, v42, v61, v64;
@@ -16259,7 +15737,7 @@ static struct s2 f73(address a0, address a1, u64 a2) {
     if (v9) { goto L1; }
     else { goto L2; }
 L1:;
-    v10 = f74(a0, a1, a2);
+    v10 = f73(a0, a1, a2);
     v6 = v10; goto L9;
 L2:;
     v11 = a0 + 450u * 1u;
@@ -16274,7 +15752,7 @@ L2:;
 L3:;
     v18 = a1 + v16 * 1u;
     v19 = (u64)((u64)a2 - (u64)v16);
-    v20 = f74(a0, v18, v19);
+    v20 = f73(a0, v18, v19);
     v21 = v20.m0;
     v22 = v21 == 1u;
     if (v22) { goto L4; }
@@ -16362,7 +15840,7 @@ L9:;
     return v6;
 }
 
-static struct s2 f74(address a0, address a1, u64 a2) {
+static struct s2 f73(address a0, address a1, u64 a2) {
     u64 v3, v5, v6, v8, v9, v10, v11, v12, v13, v16, v17, v21, v25, v26, v27, v29;
     u64 v30, v32, v33, v34, v35, v38, v40, v43, v47, v48, v49, v50, v51, v52, v60, v64;
     u64 v65, v69, v71, v75, v78, v82, v83, v84, v85, v86, v90, v91, v94, v102, v103, v106;
@@ -16654,7 +16132,7 @@ L34:;
     v207 = a0 + 384u * 1u;
     v208 = (u64)((u64)a2 + (u64)UINT64_C(18446744073709551604));
     memory_set(v56, 0u, 1176u);
-    f75(v56, a0);
+    f74(v56, a0);
     v209 = v56 + 1168u * 1u;
     v210 = load64(v209);
     v211 = v208 < v210;
@@ -17082,7 +16560,7 @@ L73:;
     return v466;
 }
 
-static void f75(address a0, address a1) {
+static void f74(address a0, address a1) {
     u64 v2, v4, v6, v7, v8, v9, v10, v13, v14, v15, v39, v70, v71, v74, v75, v79;
     u64 v80, v81, v105, v139, v140, v141, v165, v193, v197, v201, v205, v207, v210, v214, v216, v218;
     u64 v230, v231, v233, v234, v236, v237, v241, v242;
@@ -17476,7 +16954,7 @@ L21:;
     return;
 }
 
-static void f76(address a0, address a1) {
+static void f75(address a0, address a1) {
     u64 v2, v4, v5, v14, v23, v32, v41, v50, v53, v138, v140, v141, v142, v143, v145, v148;
     u64 v152, v161, v170, v179, v188, v197, v206, v215, v225, v229, v230, v231, v232, v234, v237, v238;
     u64 v241;
@@ -17976,7 +17454,7 @@ L13:;
     return;
 }
 
-static void f77(address a0, address a1) {
+static void f76(address a0, address a1) {
     u64 v2, v5, v6, v8, v21, v24, v27, v29, v31, v32, v34, v37, v42, v46, v47, v48;
     u64 v49, v51, v54, v55, v58;
     address v3, v4, v7, v9, v10, v11, v12, v13, v14, v15, v18, v19, v20, v30, v35, v36;
@@ -18124,7 +17602,7 @@ L16:;
     goto L15;
 }
 
-static u32 f78(address a0, u16 a1, address a2, u64 a3, address a4, u8 a5, address a6, u64 a7, address a8) {
+static u32 f77(address a0, u16 a1, address a2, u64 a3, address a4, u8 a5, address a6, u64 a7, address a8) {
     u8 v9, v10, v11, v13, v18, v19, v21, v22, v25, v26, v27, v28, v31, v32, v33, v34;
     u8 v59, v60, v62, v64, v71, v72, v73, v74, v75, v76, v78, v79, v80, v82, v84, v90;
     u8 v92, v93, v95, v97, v102, v104, v105, v107, v111, v115, v117, v118, v119, v120, v121, v122;
@@ -18503,7 +17981,7 @@ L32:;
     if (v267) { goto L33; }
     else { goto L34; }
 L33:;
-    v268 = f79(a0, a2, a3);
+    v268 = f78(a0, a2, a3);
     if (v268) { goto L95; }
     else { goto L34; }
 L34:;
@@ -18511,7 +17989,7 @@ L34:;
     v270 = load_address(v269);
     v271 = v69 + 432u * 1u;
     v272 = load64(v271);
-    f80(v52, v69, v270, v272, a2, a3);
+    f79(v52, v69, v270, v272, a2, a3);
     v273 = load8(v52);
     v274 = v273 == 1u;
     if (v274) { goto L95; }
@@ -18530,7 +18008,7 @@ L36:;
     if (v282) { v11 = v280; v12 = v278; v13 = 1u; goto L38; }
     else { goto L37; }
 L37:;
-    v283 = f79(a0, a2, a3);
+    v283 = f78(a0, a2, a3);
     v11 = 1u; v12 = v278; v13 = v283; goto L38;
 L38:;
     v284 = a0 + 843u * 1u;
@@ -18629,7 +18107,7 @@ L49:;
     store_address(v338, v66);
     v339 = v50 + 16u * 1u;
     store64(v339, v68);
-    v340 = f51(v336, a2, a3, v50);
+    v340 = f50(v336, a2, a3, v50);
     if (v340) { goto L50; }
     else { goto L51; }
 L50:;
@@ -18650,10 +18128,10 @@ L52:;
     f38(v49, v336, a1, a2, a3, a6, a7, v57);
     goto L56;
 L53:;
-    f57(v49, v336, a1, a2, a3, v64, a6, a7, v57);
+    f56(v49, v336, a1, a2, a3, v64, a6, a7, v57);
     goto L56;
 L54:;
-    f62(v49, v336, a1, a2, a3, v66, v68, a6, a7, v57);
+    f61(v49, v336, a1, a2, a3, v66, v68, a6, a7, v57);
     goto L56;
 L55:;
     UNREACHABLE;
@@ -18695,7 +18173,7 @@ L61:;
     store_address(v355, v66);
     v356 = v44 + 16u * 1u;
     store64(v356, v68);
-    v357 = f51(v17, a2, a3, v44);
+    v357 = f50(v17, a2, a3, v44);
     if (v357) { goto L62; }
     else { goto L63; }
 L62:;
@@ -18716,10 +18194,10 @@ L64:;
     f38(v43, v17, a1, a2, a3, a6, a7, v57);
     goto L68;
 L65:;
-    f57(v43, v17, a1, a2, a3, v64, a6, a7, v57);
+    f56(v43, v17, a1, a2, a3, v64, a6, a7, v57);
     goto L68;
 L66:;
-    f62(v43, v17, a1, a2, a3, v66, v68, a6, a7, v57);
+    f61(v43, v17, a1, a2, a3, v66, v68, a6, a7, v57);
     goto L68;
 L67:;
     UNREACHABLE;
@@ -18734,7 +18212,7 @@ L69:;
     v24 = v23; v25 = v22; v26 = v21; goto L70;
 L70:;
     v365 = a0 + 776u * 1u;
-    f66(v365, a6, v24);
+    f65(v365, a6, v24);
     v366 = a0 + 842u * 1u;
     v367 = load8(v366);
     v368 = (u8)((v367) & UINT64_C(1));
@@ -18764,7 +18242,7 @@ L73:;
     store_address(v378, v66);
     v379 = v40 + 16u * 1u;
     store64(v379, v68);
-    v380 = f51(v17, a2, a3, v40);
+    v380 = f50(v17, a2, a3, v40);
     if (v380) { goto L74; }
     else { goto L75; }
 L74:;
@@ -18785,10 +18263,10 @@ L76:;
     f38(v39, v17, a1, a2, a3, a6, a7, v57);
     goto L80;
 L77:;
-    f57(v39, v17, a1, a2, a3, v64, a6, a7, v57);
+    f56(v39, v17, a1, a2, a3, v64, a6, a7, v57);
     goto L80;
 L78:;
-    f62(v39, v17, a1, a2, a3, v66, v68, a6, a7, v57);
+    f61(v39, v17, a1, a2, a3, v66, v68, a6, a7, v57);
     goto L80;
 L79:;
     UNREACHABLE;
@@ -18807,7 +18285,7 @@ L82:;
     else { v33 = v32; v34 = v31; v35 = v30; v36 = 0u; goto L84; }
 L83:;
     v389 = a0 + 776u * 1u;
-    f66(v389, a6, v30);
+    f65(v389, a6, v30);
     store8(v12, 1u);
     v390 = a0 + 842u * 1u;
     store8(v390, 1u);
@@ -18872,7 +18350,7 @@ L98:;
     return v37;
 }
 
-static u8 f79(address a0, address a1, u64 a2) {
+static u8 f78(address a0, address a1, u64 a2) {
     u8 v3, v7, v8, v9, v10, v12, v13, v14, v16, v18, v24, v26, v27, v29, v31, v36;
     u8 v38, v39, v41, v45, v49, v51, v52, v53, v54, v55, v56, v62, v66, v68, v75, v82;
     u8 v85, v86;
@@ -19007,7 +18485,7 @@ L14:;
     else { v4 = v78; v5 = v79; goto L12; }
 }
 
-static void f80(address a0, address a1, address a2, u64 a3, address a4, u64 a5) {
+static void f79(address a0, address a1, address a2, u64 a3, address a4, u64 a5) {
     u8 v6, v7, v8, v9, v12, v13, v14, v15, v17, v18, v19, v21, v23, v29, v31, v32;
     u8 v34, v36, v41, v43, v44, v46, v50, v54, v56, v57, v58, v59, v60, v61, v63, v65;
     u8 v67, v69, v78, v82, v84, v86, v88, v89, v93, v95, v97, v99;
@@ -19117,7 +18595,7 @@ L8:;
     store8(v76, v9);
     v77 = v11 + 18u * 1u;
     memory_set(v77, 0u, 6u);
-    v78 = f58(a1, a2, a3, v11);
+    v78 = f57(a1, a2, a3, v11);
     if (v78) { goto L12; }
     else { goto L11; }
 L9:;
@@ -19196,7 +18674,7 @@ L12:;
     goto L9;
 }
 
-static u64 f81(u8 a0, u8 a1) {
+static u64 f80(u8 a0, u8 a1) {
     u64 v2, v4, v5, v6, v12, v17, v18, v19, v20;
     address v3, v7, v8, v9, v10, v13, v15;
     u8 v11, v14, v16;
@@ -19298,7 +18776,7 @@ L22:;
     return v20;
 }
 
-static void f82(address a0, address a1, address a2, u64 a3, address a4) {
+static void f81(address a0, address a1, address a2, u64 a3, address a4) {
     u64 v5, v7, v10, v11, v13, v14, v16, v20, v21, v22, v79, v82, v88, v89, v90, v91;
     u64 v93, v95, v98, v99, v102, v302, v316, v317, v324, v325;
     address v6, v28, v29, v30, v31, v33, v35, v37, v39, v41, v44, v49, v52, v53, v80, v81;
@@ -19506,7 +18984,7 @@ L24:;
     default: v23 = v34; v24 = 3u; v25 = 1u; v26 = v32; v27 = v36; goto L71;
     }
 L25:;
-    v107 = f83(127u, a2, a3);
+    v107 = f82(127u, a2, a3);
     v108 = v107.m0;
     v109 = (u8)((v108) & UINT64_C(1));
     if (v109) { goto L26; }
@@ -19516,7 +18994,7 @@ L26:;
     v111 = (u8)(v110);
     v18 = 0u; v19 = v111; v20 = 1u; goto L66;
 L27:;
-    v112 = f83(32767u, a2, a3);
+    v112 = f82(32767u, a2, a3);
     v113 = v112.m0;
     v114 = (u8)((v113) & UINT64_C(1));
     if (v114) { goto L28; }
@@ -19529,7 +19007,7 @@ L28:;
     v119 = (u8)(v118);
     v18 = v119; v19 = v117; v20 = 2u; goto L66;
 L29:;
-    v120 = f84(a2, a3);
+    v120 = f83(a2, a3);
     v121 = v120.m0;
     v122 = (u8)((v121) & UINT64_C(1));
     if (v122) { goto L30; }
@@ -19540,7 +19018,7 @@ L30:;
     v125 = v124 ? v42 : 0u;
     v18 = 0u; v19 = v125; v20 = 1u; goto L66;
 L31:;
-    v126 = f84(a2, a3);
+    v126 = f83(a2, a3);
     v127 = v126.m0;
     v128 = (u8)((v127) & UINT64_C(1));
     if (v128) { goto L32; }
@@ -19550,7 +19028,7 @@ L32:;
     v130 = (u8)((u32)v129 & (u32)1u);
     v18 = 0u; v19 = v130; v20 = 1u; goto L66;
 L33:;
-    v131 = f86(a2, a3);
+    v131 = f85(a2, a3);
     v132 = v131.m0;
     v133 = v132 == 1u;
     v134 = v131.m1;
@@ -19815,7 +19293,7 @@ L60:;
     if (v303) { v15 = 254u; goto L39; }
     else { v16 = v302; goto L59; }
 L61:;
-    v304 = f86(a2, a3);
+    v304 = f85(a2, a3);
     v17 = v304; goto L62;
 L62:;
     v305 = v17.m0;
@@ -19826,7 +19304,7 @@ L63:;
     v307 = v17.m1;
     v18 = 0u; v19 = v307; v20 = 1u; goto L66;
 L64:;
-    v308 = f86(a2, a3);
+    v308 = f85(a2, a3);
     v309 = v308.m0;
     v310 = v309 == 1u;
     if (v310) { goto L65; }
@@ -19879,7 +19357,7 @@ L71:;
     return;
 }
 
-static struct s3 f83(u16 a0, address a1, u64 a2) {
+static struct s3 f82(u16 a0, address a1, u64 a2) {
     u64 v3, v5, v6, v7, v8, v48, v50, v60, v62, v63, v65, v66, v71, v79, v81, v82;
     u64 v84, v85;
     u32 v4, v15, v20, v22, v23, v24, v28, v30, v31, v32, v33, v34, v38, v39, v40, v41;
@@ -20033,7 +19511,7 @@ L21:;
     return v93;
 }
 
-static struct s1 f84(address a0, u64 a1) {
+static struct s1 f83(address a0, u64 a1) {
     u64 v2, v3, v4, v34, v58, v60, v61, v63, v64;
     u8 v5, v6, v8, v9, v10, v11, v12, v13, v15, v16, v17, v18, v19, v20, v22, v23;
     u8 v24, v25, v26, v27, v28, v29, v30, v31, v32, v33, v35, v37, v39, v40, v41, v42;
@@ -20155,7 +19633,7 @@ L14:;
     return v70;
 }
 
-static void f85(address a0, u8 a1, u8 a2) {
+static void f84(address a0, u8 a1, u8 a2) {
     u64 v3, v5, v9, v12, v14, v18, v20, v21, v24, v26, v27, v30, v32;
     address v4, v10, v11, v13, v19, v22, v23, v25, v28, v29, v31, v33, v34;
     u8 v6, v7, v8, v15, v16, v17;
@@ -20250,7 +19728,7 @@ L18:;
     UNREACHABLE;
 }
 
-static struct s1 f86(address a0, u64 a1) {
+static struct s1 f85(address a0, u64 a1) {
     u8 v2, v3, v4, v7, v8, v9, v10, v11, v12, v13, v15, v16, v18, v20, v21, v22;
     u8 v23, v24, v25, v26, v27, v28, v29, v30, v31, v32, v33, v34, v35, v36, v37, v38;
     u8 v39, v40, v41, v42, v43, v44, v45, v47, v48, v49, v50, v51, v53, v56, v60, v61;
@@ -20378,7 +19856,7 @@ L20:;
     return v67;
 }
 
-static struct s4 f87(address a0) {
+static struct s4 f86(address a0) {
     u64 v1, v10;
     address v2, v4, v6, v9;
     u8 v3, v5, v7;
@@ -20445,7 +19923,7 @@ L1:;
     v5 = load8(v4);
     v6 = a0 + 1u * 1u;
     v7 = load8(v6);
-    v8 = f88(v7, v5);
+    v8 = f87(v7, v5);
     v9 = v8.m0;
     v10 = v8.m1;
     v1 = v10; v2 = v9; goto L53;
@@ -20561,7 +20039,7 @@ L54:;
     UNREACHABLE;
 }
 
-static struct s4 f88(u8 a0, u8 a1) {
+static struct s4 f87(u8 a0, u8 a1) {
     u64 v2, v4, v6, v7;
     address v3, v5, v8, v9;
     struct s4 v10, v11;
@@ -20684,7 +20162,7 @@ L35:;
     UNREACHABLE;
 }
 
-static u64 f89(u16 a0, address a1) {
+static u64 f88(u16 a0, address a1) {
     u64 v2, v4, v12, v22;
     address v3, v6, v8, v13, v16, v19;
     u8 v5, v7, v9, v10, v11, v14, v15, v17, v18, v20, v21, v23;
@@ -20795,7 +20273,7 @@ L27:;
     UNREACHABLE;
 }
 
-static void f90(u8 a0, u8 a1, address a2) {
+static void f89(u8 a0, u8 a1, address a2) {
     u64 v3, v4, v5, v6, v7, v14, v19, v21, v23, v27, v29, v30, v31, v36, v42, v44;
     u64 v46, v50, v52, v53, v56, v64, v66, v74;
     address v8, v11, v12, v13, v15, v18, v20, v26, v28, v33, v34, v38, v41, v43, v49, v51;
@@ -20805,7 +20283,7 @@ static void f90(u8 a0, u8 a1, address a2) {
     u64 block0[3];
     v8 = ADDRESS(block0);
     memory_set(v8, 0u, 24u);
-    f85(v8, a0, a1);
+    f84(v8, a0, a1);
     v9 = load8(v8);
     v10 = v9 == 1u;
     if (v10) { goto L1; }
@@ -20935,7 +20413,7 @@ L18:;
     return;
 }
 
-static struct s4 f91(u16 a0, address a1, u64 a2) {
+static struct s4 f90(u16 a0, address a1, u64 a2) {
     u8 v3, v4, v9, v11, v12, v17, v22, v25, v27, v30, v31, v32, v33, v36, v38, v40;
     u8 v45, v48, v49, v51, v52;
     u64 v5, v6, v8, v10, v13, v14, v15, v16, v19, v21, v24, v26, v28, v29, v35, v37;
@@ -21019,7 +20497,7 @@ L19:;
 L20:;
     v3 = 11u; v4 = 4u; goto L21;
 L21:;
-    v10 = f81(v3, v4);
+    v10 = f80(v3, v4);
     v11 = a2 == v10;
     if (v11) { goto L23; }
     else { v7 = ADDRESS(c155); v8 = 0u; goto L53; }
@@ -21093,7 +20571,7 @@ L41:;
 L42:;
     v5 = 6u; v6 = 8u; goto L49;
 L43:;
-    v20 = f92(a1, a2);
+    v20 = f91(a1, a2);
     v21 = v20.m1;
     v22 = v21 == 0u;
     if (v22) { v7 = ADDRESS(c155); v8 = 0u; goto L53; }
@@ -21166,7 +20644,7 @@ L53:;
     return v63;
 }
 
-static struct s4 f92(address a0, u64 a1) {
+static struct s4 f91(address a0, u64 a1) {
     u64 v2, v3, v5, v7, v11, v13, v16, v20, v21, v23, v24, v26, v29, v31, v34, v36;
     u64 v40, v41, v43, v44, v47, v50, v52, v58, v60, v63, v66, v68, v71, v73;
     address v4, v6, v9, v10, v15, v18, v25, v28, v30, v33, v35, v38, v45, v46, v49, v51;
@@ -21274,7 +20752,7 @@ L10:;
     return v75;
 }
 
-static void f93(address a0, u8 a1, u8 a2, address a3, u64 a4) {
+static void f92(address a0, u8 a1, u8 a2, address a3, u64 a4) {
     u64 v5, v7, v8, v10, v11, v13, v14, v16, v17, v18, v20, v22, v24, v25, v26, v28;
     u64 v30, v33, v35, v36, v40, v42, v43, v44, v45, v49, v50, v52, v53, v54, v55, v56;
     u64 v58, v59, v60, v62, v63, v64, v75, v76, v78, v79, v80, v81, v82, v85, v87, v88;
@@ -21762,10 +21240,10 @@ L49:;
     v339.m1 = v22;
     v31 = v339; goto L60;
 L50:;
-    v340 = f92(a3, a4);
+    v340 = f91(a3, a4);
     v31 = v340; goto L60;
 L51:;
-    v341 = f92(a3, a4);
+    v341 = f91(a3, a4);
     v342 = v341.m0;
     v343 = v341.m1;
     v344 = v343 == 0u;
@@ -21905,7 +21383,7 @@ L66:;
     UNREACHABLE;
 }
 
-static void f94(u64 a0, address a1) {
+static void f93(u64 a0, address a1) {
     u64 v2, v3, v4, v5, v6, v7, v8, v11, v12, v13, v14, v20, v28, v30, v42, v44;
     u64 v45, v57, v68, v70, v72, v80, v85, v87, v89, v93;
     address v9, v21, v23, v25, v26, v27, v31, v33, v35, v36, v43, v46, v48, v50, v51, v58;
@@ -22052,7 +21530,7 @@ L13:;
     return;
 }
 
-static struct s4 f95(address a0, u64 a1) {
+static struct s4 f94(address a0, u64 a1) {
     u64 v2, v3, v4, v5, v6, v7, v8, v10, v11, v12, v13, v19, v27, v29, v41, v43;
     u64 v44, v56, v67, v69, v71, v79, v82;
     u8 v9, v21, v23, v31, v33, v36, v37, v38, v39, v40, v46, v48, v58, v60, v64, v65;
@@ -22184,7 +21662,7 @@ L11:;
     return v84;
 }
 
-static struct s3 f96(address a0, u64 a1) {
+static struct s3 f95(address a0, u64 a1) {
     u64 v2, v4, v5, v8, v12, v27;
     address v3, v9, v14, v16;
     u8 v6, v11, v13, v15, v17, v18, v19, v20, v21, v22, v23, v24, v25, v26, v28;
@@ -22297,7 +21775,7 @@ L26:;
     return v30;
 }
 
-static struct s3 f97(address a0, u64 a1) {
+static struct s3 f96(address a0, u64 a1) {
     u8 v2, v3, v4, v5, v7, v8, v9, v11, v12, v13, v14, v15, v16, v17, v18, v19;
     u8 v20, v21, v22, v23, v24, v25, v26, v27, v29, v31, v32, v33, v34, v35, v36, v37;
     u8 v38, v39, v40, v41, v42, v43, v44, v45, v46, v47;
@@ -22420,7 +21898,7 @@ L22:;
     return v53;
 }
 
-static void f98(address a0, address a1, u64 a2) {
+static void f97(address a0, address a1, u64 a2) {
     u8 v3, v6, v7, v8, v11, v12, v13, v18, v20, v21, v23, v24, v26, v29, v31, v32;
     u8 v33, v34, v35, v36, v37, v38, v39, v40, v41, v42, v43, v44, v45, v46, v47, v50;
     u8 v60, v62, v63, v64, v65, v66, v67, v68, v69, v70, v71, v72, v73, v74, v75, v76;
@@ -22610,7 +22088,7 @@ L34:;
     v3 = v13; v4 = v14; goto L5;
 }
 
-static u32 f99(address a0, u64 a1, address a2, u64 a3) {
+static u32 f98(address a0, u64 a1, address a2, u64 a3) {
     u32 v4, v6, v7, v9, v13, v14, v15, v17, v18, v19, v20, v22, v23, v24, v25, v27;
     u32 v28, v29, v30, v32, v33, v34, v35, v37, v38, v39, v40, v42, v43, v44, v45, v47;
     u32 v48, v49, v50, v52, v53, v54, v60, v61, v62, v64, v65, v66, v67, v69, v70, v71;
@@ -22730,7 +22208,7 @@ L4:;
     return v104;
 }
 
-static void f100(address a0, address a1, u64 a2) {
+static void f99(address a0, address a1, u64 a2) {
     u32 v3, v31, v32, v33, v34, v35, v36, v37, v38, v39, v40, v41, v73, v74, v75, v77;
     u32 v78, v79, v80, v82, v83, v84, v85, v87, v88, v89, v90, v92, v93, v94, v95, v97;
     u32 v98, v99, v100, v102, v103, v104, v105, v107, v108, v109, v110, v112, v113, v114, v117, v118;
@@ -22957,7 +22435,7 @@ L12:;
     goto L3;
 }
 
-static void f101(address a0, address a1, address a2, address a3, u64 a4, address a5, u64 a6, address a7, u64 a8) {
+static void f100(address a0, address a1, address a2, address a3, u64 a4, address a5, u64 a6, address a7, u64 a8) {
     u8 v9, v10, v12, v13, v18, v19, v20, v21, v24, v25, v26, v27, v35, v38, v41, v54;
     u8 v57, v65, v66, v67, v68, v70, v71, v73, v76, v79, v81, v92, v94, v118, v131, v133;
     u8 v135, v142, v147, v148, v152, v155, v157, v159, v180, v181, v183, v184, v198, v205, v207, v209;
@@ -23064,7 +22542,7 @@ L9:;
     store64(v75, v14);
     return;
 L10:;
-    v76 = f102(a1, v53);
+    v76 = f101(a1, v53);
     if (v76) { goto L11; }
     else { v12 = 1u; v13 = 1u; v14 = 0u; goto L9; }
 L11:;
@@ -23371,7 +22849,7 @@ L35:;
     v237 = (u64)((u64)v45 - (u64)v221);
     v238 = swap32(v224);
     store32(v46, v238);
-    v239 = f99(v46, 4u, v231, v237);
+    v239 = f98(v46, 4u, v231, v237);
     v240 = (u64)((u64)v45 + (u64)UINT64_C(18446744073709543398));
     v241 = v240 < 4u;
     if (v241) { goto L37; }
@@ -23392,7 +22870,7 @@ L37:;
     if (v247) { v12 = 1u; v13 = 2u; v14 = 0u; goto L9; }
     else { goto L38; }
 L38:;
-    v248 = f103(a1, v53);
+    v248 = f102(a1, v53);
     v249 = v248 == 0u;
     if (v249) { goto L39; }
     else { v12 = 1u; v13 = 3u; v14 = 0u; goto L9; }
@@ -23402,7 +22880,7 @@ L39:;
     v12 = 0u; v13 = 0u; v14 = v246; goto L9;
 }
 
-static u8 f102(address a0, address a1) {
+static u8 f101(address a0, address a1) {
     u64 v2, v3, v15, v18, v22, v25, v35, v36, v43, v50, v52, v55, v71, v76, v79, v87;
     u64 v90, v98, v104, v106, v114, v117;
     u8 v4, v5, v6, v8, v11, v12, v13, v19, v20, v26, v28, v29, v37, v38, v40, v41;
@@ -23665,7 +23143,7 @@ L40:;
     UNREACHABLE;
 }
 
-static u8 f103(address a0, address a1) {
+static u8 f102(address a0, address a1) {
     u16 v2, v3, v4, v19, v21, v23;
     u8 v5, v9, v10, v11, v15, v17, v33, v34, v36, v37, v38, v44, v45, v61, v62, v65;
     u8 v76, v78, v79, v81, v82, v83, v89, v90, v95, v97, v98, v99, v100, v101, v103, v104;
@@ -23740,7 +23218,7 @@ L5:;
     if (v44) { goto L6; }
     else { v6 = v43; goto L8; }
 L6:;
-    v45 = f104(v39);
+    v45 = f103(v39);
     if (v45) { goto L7; }
     else { v10 = 1u; goto L32; }
 L7:;
@@ -23772,7 +23250,7 @@ L8:;
     if (v61) { goto L9; }
     else { v7 = v60; goto L13; }
 L9:;
-    v62 = f105(v56);
+    v62 = f104(v56);
     if (v62) { goto L10; }
     else { goto L11; }
 L10:;
@@ -23901,7 +23379,7 @@ L33:;
     UNREACHABLE;
 }
 
-static u8 f104(address a0) {
+static u8 f103(address a0) {
     u8 v1, v5, v10, v14, v15, v21, v26;
     struct pair v2, v19, v23, v24;
     address v3, v6, v16, v28;
@@ -23954,7 +23432,7 @@ L6:;
     v1 = 1u; goto L1;
 }
 
-static u8 f105(address a0) {
+static u8 f104(address a0) {
     u8 v1, v5, v10, v14, v15, v19, v23;
     struct pair v2, v17, v20, v21;
     address v3, v6, v16, v25;
@@ -24004,7 +23482,7 @@ L6:;
     v1 = 1u; goto L1;
 }
 
-static void f106(address a0, address a1, address a2, u64 a3) {
+static void f105(address a0, address a1, address a2, u64 a3) {
     u8 v4, v7, v16, v17, v18, v23, v36, v37, v38, v39, v40, v42, v43, v44, v46, v47;
     u8 v48, v50, v51, v52, v53, v54, v55, v56, v61, v63, v65, v66, v67, v68, v70, v76;
     u8 v77, v81, v84, v88, v93, v100, v108, v110, v112, v113, v114, v115, v117, v123, v124, v125;
@@ -24146,7 +23624,7 @@ L14:;
     v97 = swap32(v96);
     v98 = swap32(v60);
     store32(v33, v98);
-    v99 = f99(v33, 4u, v57, v78);
+    v99 = f98(v33, 4u, v57, v78);
     v100 = v97 == v99;
     if (v100) { goto L33; }
     else { v17 = 0u; v18 = 0u; v19 = 0u; v20 = 0u; v21 = 0u; v22 = 0u; v23 = 1u; v24 = 0u; v25 = 0u; v26 = 0u; goto L63; }
@@ -24372,7 +23850,7 @@ L53:;
     if (v190) { goto L57; }
     else { goto L54; }
 L54:;
-    f107(v28, v143);
+    f106(v28, v143);
     v191 = load8(v28);
     v192 = v191 == 1u;
     if (v192) { goto L55; }
@@ -24391,7 +23869,7 @@ L55:;
     v199 = v31 + 8u * 1u;
     v200 = v30 + 6u * 1u;
     memory_cpy(v199, v200, 24u);
-    v201 = f102(a1, v31);
+    v201 = f101(a1, v31);
     if (v201) { goto L60; }
     else { v16 = 1u; goto L62; }
 L56:;
@@ -24418,7 +23896,7 @@ L60:;
     store8(v210, v194);
     v211 = v32 + 8u * 1u;
     memory_cpy(v211, v200, 24u);
-    v212 = f103(a1, v32);
+    v212 = f102(a1, v32);
     v213 = v212 == 0u;
     if (v213) { goto L61; }
     else { v16 = 2u; goto L62; }
@@ -24426,7 +23904,7 @@ L61:;
     v214 = load32(v59);
     v215 = swap32(v214);
     store32(v27, v215);
-    v216 = f99(v27, 4u, v57, v78);
+    v216 = f98(v27, 4u, v57, v78);
     store32(v59, v216);
     memory_cpy(v35, v30, 30u);
     memory_cpy(v34, v35, 30u);
@@ -24465,7 +23943,7 @@ L63:;
     goto L15;
 }
 
-static void f107(address a0, address a1) {
+static void f106(address a0, address a1) {
     u64 v2, v8, v11, v39, v40, v41, v42, v43, v44, v45, v46, v47, v48, v49, v50, v51;
     u64 v52, v53, v54, v55, v56, v57, v58, v59, v60, v61, v66, v67, v68, v73, v74, v75;
     u64 v77, v79, v81, v82, v83, v84, v85, v86, v87, v88, v89, v91, v109, v110, v111, v112;
@@ -25035,7 +24513,7 @@ L17:;
     goto L2;
 }
 
-static u8 f108(address a0, u64 a1, address a2) {
+static u8 f107(address a0, u64 a1, address a2) {
     address v3, v7, v8, v10, v14, v21, v24, v27, v30, v33, v36, v39, v42, v45, v48, v51;
     address v54, v57, v60, v63, v66, v69, v72, v75, v78, v81, v84, v87, v90, v93, v96, v99;
     address v102, v105, v108, v111, v114;
@@ -25274,7 +24752,7 @@ L38:;
     return v5;
 }
 
-static void f109(address a0, address a1, u64 a2) {
+static void f108(address a0, address a1, u64 a2) {
     u8 v3, v4, v11, v19, v23, v24, v25, v26, v28, v29, v30, v32, v34, v40, v42, v43;
     u8 v45, v47, v52, v54, v55, v57, v61, v65, v67, v68, v69, v70, v71, v72, v74, v76;
     u8 v77, v78, v82, v84, v92, v94, v101, v103, v112, v114, v119, v120, v126, v128, v136, v138;
@@ -25418,7 +24896,7 @@ L8:;
     memory_set(v21, 0u, 7u);
     v12 = 1u; v13 = v88; v14 = v98; v15 = v99; v16 = v107; v17 = v108; v18 = v118; v19 = v3; goto L12;
 L9:;
-    f110(v22, a1, a2);
+    f109(v22, a1, a2);
     v119 = load8(v22);
     v120 = v119 == 1u;
     if (v120) { goto L10; }
@@ -25493,7 +24971,7 @@ L12:;
     return;
 }
 
-static void f110(address a0, address a1, u64 a2) {
+static void f109(address a0, address a1, u64 a2) {
     u64 v3, v5, v23, v42, v43, v46, v47, v48, v50, v65, v66, v67, v68;
     address v4, v6, v11, v15, v17, v28, v30, v37, v40, v44, v57, v61, v63, v69, v70;
     u8 v7, v8, v9, v10, v12, v13, v14, v16, v18, v24, v26, v27, v29, v31, v36, v38;
@@ -25601,7 +25079,7 @@ L10:;
     return;
 }
 
-static u8 f111(u64 a0, address a1, u64 a2, address a3, u64 a4, u64 a5) {
+static u8 f110(u64 a0, address a1, u64 a2, address a3, u64 a4, u64 a5) {
     u64 v6, v8, v12, v13, v16, v17, v18, v19, v20, v21, v22, v24, v25, v26, v27, v28;
     u64 v31, v32, v35, v36, v37, v40, v41, v42, v43, v44, v45, v46, v47, v48, v49, v50;
     u64 v51, v52, v54, v55, v56, v58, v59, v61, v69, v72, v84, v86, v88, v90, v91, v92;
@@ -25747,7 +25225,7 @@ L13:;
     v7 = 1u; goto L10;
 }
 
-static void f112(address a0, u32 a1, address a2, u64 a3) {
+static void f111(address a0, u32 a1, address a2, u64 a3) {
     u64 v4, v5, v6, v7, v8, v9, v10, v12, v14, v15, v27, v44, v45, v46, v47, v48;
     u64 v49, v50, v51, v52, v53, v54, v55, v56, v57, v58, v59, v60, v61, v62, v63, v64;
     u64 v65, v66, v67, v68, v69, v70, v71, v72, v74, v75, v76, v94, v95, v96, v97, v98;
@@ -26041,7 +25519,7 @@ L7:;
     else { v6 = v5; goto L9; }
 L8:;
     v251 = (u64)((u64)v5 + (u64)32u);
-    v252 = f113(v16, v251, a3);
+    v252 = f112(v16, v251, a3);
     v253 = (u64)((u64)a3 - (u64)v252);
     v254 = v253 > 31u;
     if (v254) { v5 = v252; goto L7; }
@@ -26178,7 +25656,7 @@ L19:;
     v358 = (u64)((u64)v10 + (u64)1u);
     v359 = a2 + v358 * 1u;
     v360 = (u64)((u64)a3 - (u64)v358);
-    f98(v17, a2, v10);
+    f97(v17, a2, v10);
     v361 = load8(v17);
     v362 = v361 == 1u;
     if (v362) { goto L21; }
@@ -26233,7 +25711,7 @@ L27:;
     v11 = 1u; v12 = v366; v13 = v385; goto L20;
 }
 
-static u64 f113(address a0, u64 a1, u64 a2) {
+static u64 f112(address a0, u64 a1, u64 a2) {
     u64 v3, v4, v5, v10, v11, v28, v29, v30, v31, v32, v33, v34, v35, v36, v37, v38;
     u64 v39, v40, v41, v42, v43, v44, v45, v46, v47, v48, v49, v50, v51, v52, v53, v70;
     u64 v71, v72, v73, v74, v75, v76, v77, v78, v79, v80, v81, v82, v83, v84, v85, v86;
@@ -26627,7 +26105,7 @@ L4:;
     return v4;
 }
 
-static void f114(address a0, u16 a1, address a2, u64 a3) {
+static void f113(address a0, u16 a1, address a2, u64 a3) {
     u64 v4, v5, v8, v10, v11, v12, v15, v16, v21, v22, v25, v26, v27, v28, v31, v32;
     u64 v33, v36, v37, v40, v41, v46, v47, v50, v51, v52, v55, v56, v59, v60, v63, v64;
     u64 v67, v68, v71, v73, v74, v77, v79, v80, v84, v85, v113, v129, v131, v132, v134, v135;
@@ -26720,7 +26198,7 @@ static void f114(address a0, u16 a1, address a2, u64 a3) {
     v110 = v98 + 8u * 1u;
     store64(v110, 0u);
     store_address(v98, v100);
-    v111 = f91(a1, a2, a3);
+    v111 = f90(a1, a2, a3);
     v112 = v111.m0;
     v113 = v111.m1;
     v114 = v113 == 0u;
@@ -26744,7 +26222,7 @@ L2:;
     v127 = v100 + 16u * 1u;
     store_address(v100, v92);
     memory_set(v103, 0u, 16u);
-    v128 = f118(v100, 6u);
+    v128 = f117(v100, 6u);
     if (v128) { goto L3; }
     else { goto L7; }
 L3:;
@@ -26783,7 +26261,7 @@ L7:;
     v142 = (u8)(((u32)v128 ^ (u32)1u) & UINT64_C(1));
     v143 = (u8)v142;
     store8(v110, v143);
-    f115(a2, a3, v98);
+    f114(a2, a3, v98);
     v144 = load8(v110);
     v145 = v144 == 0u;
     if (v145) { goto L9; }
@@ -26807,7 +26285,7 @@ L10:;
     if (v154) { goto L11; }
     else { v4 = v151; v5 = v153; goto L13; }
 L11:;
-    v155 = f118(v146, 1u);
+    v155 = f117(v146, 1u);
     if (v155) { goto L12; }
     else { v6 = 1u; goto L14; }
 L12:;
@@ -26827,7 +26305,7 @@ L14:;
     v161 = (u8)v6;
     v89 = v161; goto L225;
 L15:;
-    v162 = f119(v146, ADDRESS(c320), 1u);
+    v162 = f118(v146, ADDRESS(c320), 1u);
     v89 = v162; goto L225;
 L16:;
     v163 = (u64)((u64)v8 * (u64)6u);
@@ -26857,7 +26335,7 @@ L17:;
     if (v183) { v9 = 0u; goto L19; }
     else { goto L18; }
 L18:;
-    v184 = f119(v180, ADDRESS(c155), 0u);
+    v184 = f118(v180, ADDRESS(c155), 0u);
     v9 = v184; goto L19;
 L19:;
     store8(v110, v9);
@@ -26865,7 +26343,7 @@ L19:;
     store8(v97, v165);
     store8(v115, v167);
     store8(v116, v169);
-    v186 = f87(v97);
+    v186 = f86(v97);
     v187 = v186.m0;
     v188 = v186.m1;
     if (v185) { goto L20; }
@@ -26885,7 +26363,7 @@ L21:;
     if (v196) { goto L22; }
     else { v10 = v192; v11 = v194; goto L24; }
 L22:;
-    v197 = f118(v180, v188);
+    v197 = f117(v180, v188);
     if (v197) { goto L23; }
     else { v13 = 1u; goto L28; }
 L23:;
@@ -26924,7 +26402,7 @@ L28:;
     v212 = (u8)v13;
     v14 = v212; goto L30;
 L29:;
-    v213 = f119(v180, v187, v188);
+    v213 = f118(v180, v187, v188);
     v14 = v213; goto L30;
 L30:;
     store8(v110, v14);
@@ -26945,7 +26423,7 @@ L32:;
     if (v221) { goto L33; }
     else { v15 = v218; v16 = v220; goto L35; }
 L33:;
-    v222 = f118(v180, 1u);
+    v222 = f117(v180, 1u);
     if (v222) { goto L34; }
     else { v17 = 1u; goto L36; }
 L34:;
@@ -26965,7 +26443,7 @@ L36:;
     v228 = (u8)v17;
     v18 = v228; goto L38;
 L37:;
-    v229 = f119(v180, ADDRESS(c322), 1u);
+    v229 = f118(v180, ADDRESS(c322), 1u);
     v18 = v229; goto L38;
 L38:;
     store8(v110, v18);
@@ -27002,7 +26480,7 @@ L43:;
     if (v242) { goto L44; }
     else { v21 = v238; v22 = v240; goto L46; }
 L44:;
-    v243 = f118(v233, 2u);
+    v243 = f117(v233, 2u);
     if (v243) { goto L45; }
     else { v23 = 1u; goto L50; }
 L45:;
@@ -27035,7 +26513,7 @@ L50:;
     v253 = (u8)v23;
     v24 = v253; goto L52;
 L51:;
-    v254 = f119(v233, ADDRESS(c300), 2u);
+    v254 = f118(v233, ADDRESS(c300), 2u);
     v24 = v254; goto L52;
 L52:;
     store8(v110, v24);
@@ -27047,13 +26525,13 @@ L53:;
 L54:;
     v256 = v177 + v25 * 1u;
     v257 = load8(v256);
-    f116(v257, v98);
+    f115(v257, v98);
     v258 = (u64)((u64)v25 + (u64)1u);
     v259 = v258 == v232;
     if (v259) { goto L214; }
     else { v25 = v258; goto L54; }
 L55:;
-    f93(v96, v173, v175, v177, v178);
+    f92(v96, v173, v175, v177, v178);
     v260 = load8(v96);
     v261 = load8(v117);
     v262 = load8(v118);
@@ -27081,11 +26559,11 @@ L55:;
     default: goto L213;
     }
 L56:;
-    f120(v270, v98);
+    f119(v270, v98);
     goto L214;
 L57:;
     memory_set(v95, 0u, 40u);
-    v272 = f95(v95, v270);
+    v272 = f94(v95, v270);
     v273 = v272.m0;
     v274 = v272.m1;
     v275 = v19 == 0u;
@@ -27108,7 +26586,7 @@ L59:;
     if (v285) { goto L60; }
     else { v26 = v281; v27 = v283; goto L62; }
 L60:;
-    v286 = f118(v276, v274);
+    v286 = f117(v276, v274);
     if (v286) { goto L61; }
     else { v29 = 1u; goto L66; }
 L61:;
@@ -27147,7 +26625,7 @@ L66:;
     v301 = (u8)v29;
     v30 = v301; goto L68;
 L67:;
-    v302 = f119(v276, v273, v274);
+    v302 = f118(v276, v273, v274);
     v30 = v302; goto L68;
 L68:;
     store8(v110, v30);
@@ -27180,7 +26658,7 @@ L73:;
     if (v316) { goto L74; }
     else { v31 = v312; v32 = v314; goto L76; }
 L74:;
-    v317 = f118(v307, v304);
+    v317 = f117(v307, v304);
     if (v317) { goto L75; }
     else { v34 = 1u; goto L80; }
 L75:;
@@ -27218,7 +26696,7 @@ L80:;
     v332 = (u8)v34;
     v35 = v332; goto L82;
 L81:;
-    v333 = f119(v307, v305, v304);
+    v333 = f118(v307, v305, v304);
     v35 = v333; goto L82;
 L82:;
     store8(v110, v35);
@@ -27246,7 +26724,7 @@ L85:;
     if (v346) { goto L86; }
     else { v36 = v343; v37 = v345; goto L88; }
 L86:;
-    v347 = f118(v338, 1u);
+    v347 = f117(v338, 1u);
     if (v347) { goto L87; }
     else { v38 = 1u; goto L89; }
 L87:;
@@ -27266,14 +26744,14 @@ L89:;
     v353 = (u8)v38;
     v39 = v353; goto L91;
 L90:;
-    v354 = f119(v338, ADDRESS(c321), 1u);
+    v354 = f118(v338, ADDRESS(c321), 1u);
     v39 = v354; goto L91;
 L91:;
     store8(v110, v39);
     goto L92;
 L92:;
     v355 = (u64)((u64)v334 >> (16u & 63u));
-    f120(v355, v98);
+    f119(v355, v98);
     v356 = load8(v110);
     v357 = v356 == 0u;
     if (v357) { goto L93; }
@@ -27294,7 +26772,7 @@ L94:;
     if (v366) { goto L95; }
     else { v40 = v363; v41 = v365; goto L97; }
 L95:;
-    v367 = f118(v358, 1u);
+    v367 = f117(v358, 1u);
     if (v367) { goto L96; }
     else { v42 = 1u; goto L98; }
 L96:;
@@ -27314,7 +26792,7 @@ L98:;
     v373 = (u8)v42;
     v43 = v373; goto L100;
 L99:;
-    v374 = f119(v358, ADDRESS(c324), 1u);
+    v374 = f118(v358, ADDRESS(c324), 1u);
     v43 = v374; goto L100;
 L100:;
     store8(v110, v43);
@@ -27327,7 +26805,7 @@ L102:;
     v377 = (u32)((u32)v44 * (u32)10u);
     v378 = (u32)((u32)v377 >> (16u & 31u));
     v379 = (u64)v378;
-    f120(v379, v98);
+    f119(v379, v98);
     v380 = (u32)((u32)v377 & (u32)65534u);
     v381 = v380 == 0u;
     v382 = (u8)((u32)v45 + (u32)255u);
@@ -27337,27 +26815,27 @@ L102:;
     else { v44 = v380; v45 = v382; goto L102; }
 L103:;
     v385 = (u8)(v270);
-    f116(v261, v98);
-    f116(v262, v98);
-    f116(v263, v98);
-    f116(v265, v98);
-    f116(v267, v98);
-    f116(v268, v98);
-    f116(v269, v98);
-    f116(v385, v98);
+    f115(v261, v98);
+    f115(v262, v98);
+    f115(v263, v98);
+    f115(v265, v98);
+    f115(v267, v98);
+    f115(v268, v98);
+    f115(v269, v98);
+    f115(v385, v98);
     goto L214;
 L104:;
-    f116(v262, v98);
-    f116(v263, v98);
-    f116(v265, v98);
-    f116(v267, v98);
-    f116(v268, v98);
-    f116(v269, v98);
+    f115(v262, v98);
+    f115(v263, v98);
+    f115(v265, v98);
+    f115(v267, v98);
+    f115(v268, v98);
+    f115(v269, v98);
     v386 = (u8)(v270);
-    f116(v386, v98);
+    f115(v386, v98);
     v387 = (u64)((u64)v270 >> (8u & 63u));
     v388 = (u8)(v387);
-    f116(v388, v98);
+    f115(v388, v98);
     v389 = load8(v110);
     v390 = v389 == 0u;
     if (v390) { goto L105; }
@@ -27378,7 +26856,7 @@ L106:;
     if (v399) { goto L107; }
     else { v46 = v396; v47 = v398; goto L109; }
 L107:;
-    v400 = f118(v391, 1u);
+    v400 = f117(v391, 1u);
     if (v400) { goto L108; }
     else { v48 = 1u; goto L110; }
 L108:;
@@ -27398,7 +26876,7 @@ L110:;
     v406 = (u8)v48;
     v49 = v406; goto L112;
 L111:;
-    v407 = f119(v391, ADDRESS(c325), 1u);
+    v407 = f118(v391, ADDRESS(c325), 1u);
     v49 = v407; goto L112;
 L112:;
     store8(v110, v49);
@@ -27406,11 +26884,11 @@ L112:;
 L113:;
     v408 = (u64)((u64)v270 >> (16u & 63u));
     v409 = (u64)((u64)v408 & (u64)65535u);
-    f120(v409, v98);
+    f119(v409, v98);
     goto L214;
 L114:;
     memory_set(v94, 0u, 24u);
-    f85(v94, v261, v262);
+    f84(v94, v261, v262);
     v410 = load8(v94);
     v411 = v410 == 1u;
     if (v411) { goto L115; }
@@ -27438,7 +26916,7 @@ L117:;
     if (v424) { goto L118; }
     else { v50 = v420; v51 = v422; goto L120; }
 L118:;
-    v425 = f118(v415, v413);
+    v425 = f117(v415, v413);
     if (v425) { goto L119; }
     else { v53 = 1u; goto L124; }
 L119:;
@@ -27477,7 +26955,7 @@ L124:;
     v440 = (u8)v53;
     v54 = v440; goto L126;
 L125:;
-    v441 = f119(v415, v412, v413);
+    v441 = f118(v415, v412, v413);
     v54 = v441; goto L126;
 L126:;
     store8(v110, v54);
@@ -27503,7 +26981,7 @@ L129:;
     if (v452) { goto L130; }
     else { v55 = v448; v56 = v450; goto L132; }
 L130:;
-    v453 = f118(v443, 2u);
+    v453 = f117(v443, 2u);
     if (v453) { goto L131; }
     else { v57 = 1u; goto L136; }
 L131:;
@@ -27536,13 +27014,13 @@ L136:;
     v463 = (u8)v57;
     v58 = v463; goto L138;
 L137:;
-    v464 = f119(v443, ADDRESS(c300), 2u);
+    v464 = f118(v443, ADDRESS(c300), 2u);
     v58 = v464; goto L138;
 L138:;
     store8(v110, v58);
     goto L139;
 L139:;
-    f116(v262, v98);
+    f115(v262, v98);
     goto L140;
 L140:;
     goto L214;
@@ -27567,7 +27045,7 @@ L143:;
     if (v475) { goto L144; }
     else { v59 = v471; v60 = v473; goto L146; }
 L144:;
-    v476 = f118(v466, 6u);
+    v476 = f117(v466, 6u);
     if (v476) { goto L145; }
     else { v61 = 1u; goto L150; }
 L145:;
@@ -27608,14 +27086,14 @@ L150:;
     v490 = (u8)v61;
     v62 = v490; goto L152;
 L151:;
-    v491 = f119(v466, ADDRESS(c326), 6u);
+    v491 = f118(v466, ADDRESS(c326), 6u);
     v62 = v491; goto L152;
 L152:;
     store8(v110, v62);
     goto L153;
 L153:;
     v492 = (u64)v262;
-    f120(v492, v98);
+    f119(v492, v98);
     v493 = load8(v110);
     v494 = v493 == 0u;
     if (v494) { goto L154; }
@@ -27637,7 +27115,7 @@ L155:;
     if (v504) { goto L156; }
     else { v63 = v500; v64 = v502; goto L158; }
 L156:;
-    v505 = f118(v495, 12u);
+    v505 = f117(v495, 12u);
     if (v505) { goto L157; }
     else { v65 = 1u; goto L162; }
 L157:;
@@ -27690,13 +27168,13 @@ L162:;
     v525 = (u8)v65;
     v66 = v525; goto L164;
 L163:;
-    v526 = f119(v495, ADDRESS(c327), 12u);
+    v526 = f118(v495, ADDRESS(c327), 12u);
     v66 = v526; goto L164;
 L164:;
     store8(v110, v66);
     goto L165;
 L165:;
-    f116(v263, v98);
+    f115(v263, v98);
     v527 = load8(v110);
     v528 = v527 == 0u;
     if (v528) { goto L166; }
@@ -27718,7 +27196,7 @@ L167:;
     if (v538) { goto L168; }
     else { v67 = v534; v68 = v536; goto L170; }
 L168:;
-    v539 = f118(v529, 12u);
+    v539 = f117(v529, 12u);
     if (v539) { goto L169; }
     else { v69 = 1u; goto L174; }
 L169:;
@@ -27771,14 +27249,14 @@ L174:;
     v559 = (u8)v69;
     v70 = v559; goto L176;
 L175:;
-    v560 = f119(v529, ADDRESS(c328), 12u);
+    v560 = f118(v529, ADDRESS(c328), 12u);
     v70 = v560; goto L176;
 L176:;
     store8(v110, v70);
     goto L177;
 L177:;
-    f116(v267, v98);
-    f116(v265, v98);
+    f115(v267, v98);
+    f115(v265, v98);
     goto L214;
 L178:;
     v561 = (address)v270;
@@ -27809,10 +27287,10 @@ L181:;
     if (v574) { goto L182; }
     else { goto L183; }
 L182:;
-    v575 = f117(v571, v93, 1u);
+    v575 = f116(v571, v93, 1u);
     v72 = v575; goto L184;
 L183:;
-    v576 = f119(v571, v93, 1u);
+    v576 = f118(v571, v93, 1u);
     v72 = v576; goto L184;
 L184:;
     store8(v110, v72);
@@ -27837,7 +27315,7 @@ L187:;
     if (v586) { goto L188; }
     else { v73 = v582; v74 = v584; goto L190; }
 L188:;
-    v587 = f118(v577, 2u);
+    v587 = f117(v577, 2u);
     if (v587) { goto L189; }
     else { v75 = 1u; goto L194; }
 L189:;
@@ -27870,13 +27348,13 @@ L194:;
     v597 = (u8)v75;
     v76 = v597; goto L196;
 L195:;
-    v598 = f119(v577, ADDRESS(c329), 2u);
+    v598 = f118(v577, ADDRESS(c329), 2u);
     v76 = v598; goto L196;
 L196:;
     store8(v110, v76);
     goto L197;
 L197:;
-    f116(v564, v98);
+    f115(v564, v98);
     goto L198;
 L198:;
     v599 = (u64)((u64)v71 + (u64)1u);
@@ -27885,7 +27363,7 @@ L198:;
     else { v71 = v599; goto L179; }
 L199:;
     v601 = (address)v270;
-    f115(v601, v271, v98);
+    f114(v601, v271, v98);
     goto L214;
 L200:;
     v602 = v271 < 8u;
@@ -27896,28 +27374,28 @@ L201:;
     v77 = v271; v78 = v603; goto L202;
 L202:;
     v604 = load8(v78);
-    f116(v604, v98);
+    f115(v604, v98);
     v605 = v78 + 1u * 1u;
     v606 = load8(v605);
-    f116(v606, v98);
+    f115(v606, v98);
     v607 = v78 + 2u * 1u;
     v608 = load8(v607);
-    f116(v608, v98);
+    f115(v608, v98);
     v609 = v78 + 3u * 1u;
     v610 = load8(v609);
-    f116(v610, v98);
+    f115(v610, v98);
     v611 = v78 + 4u * 1u;
     v612 = load8(v611);
-    f116(v612, v98);
+    f115(v612, v98);
     v613 = v78 + 5u * 1u;
     v614 = load8(v613);
-    f116(v614, v98);
+    f115(v614, v98);
     v615 = v78 + 6u * 1u;
     v616 = load8(v615);
-    f116(v616, v98);
+    f115(v616, v98);
     v617 = v78 + 7u * 1u;
     v618 = load8(v617);
-    f116(v618, v98);
+    f115(v618, v98);
     v619 = v78 + 8u * 1u;
     v620 = (u64)((u64)v77 + (u64)UINT64_C(18446744073709551608));
     v621 = v620 > 7u;
@@ -27944,7 +27422,7 @@ L205:;
     if (v632) { goto L206; }
     else { v79 = v629; v80 = v631; goto L208; }
 L206:;
-    v633 = f118(v624, 1u);
+    v633 = f117(v624, 1u);
     if (v633) { goto L207; }
     else { v81 = 1u; goto L209; }
 L207:;
@@ -27964,7 +27442,7 @@ L209:;
     v639 = (u8)v81;
     v82 = v639; goto L211;
 L210:;
-    v640 = f119(v624, ADDRESS(c322), 1u);
+    v640 = f118(v624, ADDRESS(c322), 1u);
     v82 = v640; goto L211;
 L211:;
     store8(v110, v82);
@@ -27996,7 +27474,7 @@ L217:;
     if (v651) { goto L218; }
     else { v84 = v648; v85 = v650; goto L220; }
 L218:;
-    v652 = f118(v643, 1u);
+    v652 = f117(v643, 1u);
     if (v652) { goto L219; }
     else { v86 = 1u; goto L221; }
 L219:;
@@ -28016,7 +27494,7 @@ L221:;
     v658 = (u8)v86;
     v87 = v658; goto L223;
 L222:;
-    v659 = f119(v643, ADDRESS(c320), 1u);
+    v659 = f118(v643, ADDRESS(c320), 1u);
     v87 = v659; goto L223;
 L223:;
     store8(v110, v87);
@@ -28055,7 +27533,7 @@ L229:;
     return;
 }
 
-static void f115(address a0, u64 a1, address a2) {
+static void f114(address a0, u64 a1, address a2) {
     u64 v3, v4, v7, v14, v17, v19, v22, v23, v24, v31;
     u8 v5, v6, v8, v10, v11, v15, v20, v21, v27, v28, v30, v32;
     address v9, v12, v13, v16, v18, v25, v26, v29;
@@ -28084,7 +27562,7 @@ L3:;
     if (v20) { goto L4; }
     else { v3 = v17; v4 = v19; goto L6; }
 L4:;
-    v21 = f118(v12, 1u);
+    v21 = f117(v12, 1u);
     if (v21) { goto L5; }
     else { v5 = 1u; goto L7; }
 L5:;
@@ -28104,7 +27582,7 @@ L7:;
     v27 = (u8)v5;
     v6 = v27; goto L9;
 L8:;
-    v28 = f119(v12, ADDRESS(c321), 1u);
+    v28 = f118(v12, ADDRESS(c321), 1u);
     v6 = v28; goto L9;
 L9:;
     store8(v9, v6);
@@ -28112,7 +27590,7 @@ L9:;
 L10:;
     v29 = a0 + v7 * 1u;
     v30 = load8(v29);
-    f116(v30, a2);
+    f115(v30, a2);
     v31 = (u64)((u64)v7 + (u64)1u);
     v32 = v31 == a1;
     if (v32) { goto L11; }
@@ -28121,7 +27599,7 @@ L11:;
     return;
 }
 
-static void f116(u8 a0, address a1) {
+static void f115(u8 a0, address a1) {
     u8 v2, v3, v7, v8, v9, v10, v11, v12, v13, v17, v18, v19, v20, v21, v22, v23;
     u8 v24, v25, v29, v30, v31;
     address v4, v5, v6, v14, v15, v26, v27;
@@ -28150,10 +27628,10 @@ L1:;
     if (v17) { goto L2; }
     else { goto L3; }
 L2:;
-    v18 = f117(v14, v5, 1u);
+    v18 = f116(v14, v5, 1u);
     v2 = v18; goto L4;
 L3:;
-    v19 = f119(v14, v5, 1u);
+    v19 = f118(v14, v5, 1u);
     v2 = v19; goto L4;
 L4:;
     store8(v6, v2);
@@ -28175,10 +27653,10 @@ L5:;
     if (v29) { goto L6; }
     else { goto L7; }
 L6:;
-    v30 = f117(v26, v4, 1u);
+    v30 = f116(v26, v4, 1u);
     v3 = v30; goto L8;
 L7:;
-    v31 = f119(v26, v4, 1u);
+    v31 = f118(v26, v4, 1u);
     v3 = v31; goto L8;
 L8:;
     store8(v6, v3);
@@ -28187,7 +27665,7 @@ L9:;
     return;
 }
 
-static u8 f117(address a0, address a1, u64 a2) {
+static u8 f116(address a0, address a1, u64 a2) {
     u64 v3, v4, v5, v6, v7, v15, v27, v41, v51, v54, v56, v57, v60, v61, v62, v65;
     u64 v66, v67, v72;
     u8 v8, v9, v10, v12, v14, v16, v18, v19, v20, v21, v23, v24, v25, v26, v28, v30;
@@ -28292,7 +27770,7 @@ L15:;
     if (v58) { goto L16; }
     else { v5 = v54; v6 = v56; goto L18; }
 L16:;
-    v59 = f118(a0, a2);
+    v59 = f117(a0, a2);
     if (v59) { goto L17; }
     else { v8 = 1u; goto L22; }
 L17:;
@@ -28334,7 +27812,7 @@ L23:;
     return v9;
 }
 
-static u8 f118(address a0, u64 a1) {
+static u8 f117(address a0, u64 a1) {
     u8 v2, v7, v12, v16, v17, v21, v25;
     struct pair v3, v19, v22, v23;
     address v4, v8, v18, v27;
@@ -28385,7 +27863,7 @@ L6:;
     v2 = 1u; goto L1;
 }
 
-static u8 f119(address a0, address a1, u64 a2) {
+static u8 f118(address a0, address a1, u64 a2) {
     u64 v3, v4, v5, v6, v7, v15, v17, v18, v23, v25, v33, v34, v41, v43;
     u8 v8, v9, v13, v14, v16, v20, v21, v22, v24, v26, v27, v28, v29, v30, v31, v32;
     u8 v36, v38, v39, v42, v44, v45, v46, v47;
@@ -28428,13 +27906,13 @@ L6:;
     if (v26) { goto L8; }
     else { v5 = v25; goto L7; }
 L7:;
-    v27 = f117(a0, ADDRESS(c345), 4u);
+    v27 = f116(a0, ADDRESS(c345), 4u);
     v28 = (u8)((v27) & UINT64_C(1));
     if (v28) { v8 = 1u; goto L16; }
     else { goto L6; }
 L8:;
     store8(v10, 1u);
-    v29 = f117(a0, v19, v17);
+    v29 = f116(a0, v19, v17);
     v30 = (u8)((v29) & UINT64_C(1));
     if (v30) { v8 = 1u; goto L16; }
     else { v6 = v15; goto L9; }
@@ -28468,19 +27946,19 @@ L13:;
     if (v44) { goto L15; }
     else { v7 = v43; goto L14; }
 L14:;
-    v45 = f117(a0, ADDRESS(c345), 4u);
+    v45 = f116(a0, ADDRESS(c345), 4u);
     v46 = (u8)((v45) & UINT64_C(1));
     if (v46) { v8 = 1u; goto L16; }
     else { goto L13; }
 L15:;
     store8(v37, 0u);
-    v47 = f117(a0, v35, v33);
+    v47 = f116(a0, v35, v33);
     v8 = v47; goto L16;
 L16:;
     return v8;
 }
 
-static void f120(u64 a0, address a1) {
+static void f119(u64 a0, address a1) {
     u64 v2, v3, v4, v5, v6, v7, v8, v13, v14, v15, v16, v22, v30, v32, v44, v46;
     u64 v47, v59, v70, v72, v74, v82, v88, v91, v93, v94, v97, v98, v99;
     u8 v9, v10, v12, v24, v26, v34, v36, v39, v40, v41, v42, v43, v49, v51, v61, v63;
@@ -28620,7 +28098,7 @@ L11:;
     if (v95) { goto L12; }
     else { v7 = v91; v8 = v93; goto L14; }
 L12:;
-    v96 = f118(v86, v82);
+    v96 = f117(v86, v82);
     if (v96) { goto L13; }
     else { v9 = 1u; goto L15; }
 L13:;
@@ -28640,7 +28118,7 @@ L15:;
     v102 = (u8)v9;
     v10 = v102; goto L17;
 L16:;
-    v103 = f119(v86, v81, v82);
+    v103 = f118(v86, v81, v82);
     v10 = v103; goto L17;
 L17:;
     store8(v83, v10);
@@ -28649,7 +28127,7 @@ L18:;
     return;
 }
 
-static void f121(address a0, u64 a1) {
+static void f120(address a0, u64 a1) {
     u64 v2, v3, v4, v5, v6, v8, v10, v12, v14, v15, v16, v18, v20, v22, v48, v61;
     u64 v62, v63, v65, v69, v71, v74, v78, v82, v85, v87, v90, v92, v100, v101, v121, v125;
     u64 v137, v138, v141, v147, v159, v163, v186, v188, v190, v192, v195, v197, v200, v205, v208, v210;
@@ -28779,7 +28257,7 @@ L9:;
     store16(v57, 1u);
     v76 = (u16)(v3);
     store16(v58, v76);
-    v77 = f102(v56, v44);
+    v77 = f101(v56, v44);
     if (v77) { v5 = v2; goto L20; }
     else { goto L10; }
 L10:;
@@ -28872,7 +28350,7 @@ L23:;
     v114 = v43 + 18u * 1u;
     store16(v114, 65535u);
     v115 = a0 + 8u * 1u;
-    v116 = f102(v115, v43);
+    v116 = f101(v115, v43);
     if (v116) { goto L24; }
     else { goto L27; }
 L24:;
@@ -28884,7 +28362,7 @@ L24:;
     v119 = load_address(v118);
     v120 = a0 + 192u * 1u;
     v121 = load64(v120);
-    f101(v42, v115, v41, ADDRESS(c155), 0u, ADDRESS(c155), 0u, v119, v121);
+    f100(v42, v115, v41, ADDRESS(c155), 0u, ADDRESS(c155), 0u, v119, v121);
     v122 = load8(v42);
     v123 = v122 == 0u;
     if (v123) { goto L25; }
@@ -28962,7 +28440,7 @@ L35:;
     v152 = v40 + 18u * 1u;
     store16(v152, v149);
     v153 = a0 + 8u * 1u;
-    v154 = f102(v153, v40);
+    v154 = f101(v153, v40);
     if (v154) { goto L36; }
     else { goto L39; }
 L36:;
@@ -28974,7 +28452,7 @@ L36:;
     v157 = load_address(v156);
     v158 = a0 + 192u * 1u;
     v159 = load64(v158);
-    f101(v39, v153, v38, ADDRESS(c155), 0u, ADDRESS(c155), 0u, v157, v159);
+    f100(v39, v153, v38, ADDRESS(c155), 0u, ADDRESS(c155), 0u, v157, v159);
     v160 = load8(v39);
     v161 = v160 == 0u;
     if (v161) { goto L37; }
@@ -29024,7 +28502,7 @@ L42:;
     store8(v37, 2u);
     v182 = (u16)(v8);
     store16(v179, v182);
-    v183 = f102(v178, v37);
+    v183 = f101(v178, v37);
     if (v183) { goto L43; }
     else { goto L50; }
 L43:;
@@ -29117,11 +28595,11 @@ L57:;
     store8(v36, 4u);
     v226 = v36 + 18u * 1u;
     store16(v226, 65535u);
-    v227 = f102(v225, v36);
+    v227 = f101(v225, v36);
     if (v227) { goto L58; }
     else { goto L59; }
 L58:;
-    f122(a0, a1);
+    f121(a0, a1);
     goto L19;
 L59:;
     v228 = a0 + 172u * 1u;
@@ -29242,7 +28720,7 @@ L76:;
     store8(v35, 2u);
     v286 = (u16)(v16);
     store16(v283, v286);
-    v287 = f102(v282, v35);
+    v287 = f101(v282, v35);
     if (v287) { goto L77; }
     else { goto L84; }
 L77:;
@@ -29335,7 +28813,7 @@ L91:;
     store8(v34, 4u);
     v330 = v34 + 18u * 1u;
     store16(v330, 65535u);
-    v331 = f102(v329, v34);
+    v331 = f101(v329, v34);
     if (v331) { goto L98; }
     else { goto L92; }
 L92:;
@@ -29347,7 +28825,7 @@ L92:;
     store8(v333, 7u);
     v334 = v33 + 18u * 1u;
     store16(v334, 65535u);
-    v335 = f102(v329, v33);
+    v335 = f101(v329, v33);
     if (v335) { goto L93; }
     else { goto L96; }
 L93:;
@@ -29359,7 +28837,7 @@ L93:;
     v338 = load_address(v337);
     v339 = a0 + 192u * 1u;
     v340 = load64(v339);
-    f101(v32, v329, v31, ADDRESS(c155), 0u, ADDRESS(c155), 0u, v338, v340);
+    f100(v32, v329, v31, ADDRESS(c155), 0u, ADDRESS(c155), 0u, v338, v340);
     v341 = load8(v32);
     v342 = v341 == 0u;
     if (v342) { goto L94; }
@@ -29409,7 +28887,7 @@ L99:;
     store8(v359, 3u);
     v360 = v30 + 18u * 1u;
     store16(v360, 65535u);
-    v361 = f102(v329, v30);
+    v361 = f101(v329, v30);
     if (v361) { goto L100; }
     else { goto L103; }
 L100:;
@@ -29421,7 +28899,7 @@ L100:;
     v364 = load_address(v363);
     v365 = a0 + 192u * 1u;
     v366 = load64(v365);
-    f101(v29, v329, v28, ADDRESS(c155), 0u, ADDRESS(c155), 0u, v364, v366);
+    f100(v29, v329, v28, ADDRESS(c155), 0u, ADDRESS(c155), 0u, v364, v366);
     v367 = load8(v29);
     v368 = v367 == 0u;
     if (v368) { goto L101; }
@@ -29457,7 +28935,7 @@ L103:;
 L104:;
     goto L19;
 L105:;
-    f122(a0, a1);
+    f121(a0, a1);
     goto L19;
 L106:;
     v381 = a0 + 104u * 1u;
@@ -29502,7 +28980,7 @@ L112:;
     v400 = v27 + 18u * 1u;
     store16(v400, v397);
     v401 = a0 + 8u * 1u;
-    v402 = f102(v401, v27);
+    v402 = f101(v401, v27);
     v403 = (u16)v24;
     if (v402) { goto L113; }
     else { goto L116; }
@@ -29515,7 +28993,7 @@ L113:;
     v406 = load_address(v405);
     v407 = a0 + 192u * 1u;
     v408 = load64(v407);
-    f101(v26, v401, v25, ADDRESS(c155), 0u, ADDRESS(c155), 0u, v406, v408);
+    f100(v26, v401, v25, ADDRESS(c155), 0u, ADDRESS(c155), 0u, v406, v408);
     v409 = load8(v26);
     v410 = v409 == 0u;
     if (v410) { goto L114; }
@@ -29566,7 +29044,7 @@ L119:;
     UNREACHABLE;
 }
 
-static void f122(address a0, u64 a1) {
+static void f121(address a0, u64 a1) {
     address v2, v3, v4, v5, v9, v10, v11, v13, v14, v15, v16, v20, v22, v23, v24, v25;
     address v26, v27, v28, v29, v30, v31, v32, v33, v34, v35;
     u64 v6, v7, v17, v21;
@@ -29591,7 +29069,7 @@ L1:;
     v10 = v4 + 18u * 1u;
     store16(v10, 65535u);
     v11 = a0 + 8u * 1u;
-    v12 = f102(v11, v4);
+    v12 = f101(v11, v4);
     if (v12) { goto L2; }
     else { goto L5; }
 L2:;
@@ -29603,7 +29081,7 @@ L2:;
     v15 = load_address(v14);
     v16 = a0 + 192u * 1u;
     v17 = load64(v16);
-    f101(v3, v11, v2, ADDRESS(c155), 0u, ADDRESS(c155), 0u, v15, v17);
+    f100(v3, v11, v2, ADDRESS(c155), 0u, ADDRESS(c155), 0u, v15, v17);
     v18 = load8(v3);
     v19 = v18 == 0u;
     if (v19) { goto L3; }
@@ -29652,7 +29130,7 @@ L8:;
     return;
 }
 
-static void f123(address a0, address a1, u64 a2) {
+static void f122(address a0, address a1, u64 a2) {
     u16 v3, v6, v9, v10, v12, v13, v56, v57, v58, v59, v64, v65, v66, v67, v75, v76;
     u16 v77, v78, v102, v103, v105, v106;
     address v4, v14, v19, v24, v26, v28, v30, v32, v34, v36, v38, v40, v42, v44, v46, v52;
@@ -29797,7 +29275,7 @@ L8:;
     return;
 }
 
-static void f124(address a0, u16 a1, u8 a2) {
+static void f123(address a0, u16 a1, u8 a2) {
     u64 v3, v6, v10, v11, v14, v15, v19, v24, v26, v29, v31, v38, v43, v45, v48, v50;
     u64 v57, v61, v64;
     u8 v4, v8, v12, v16, v22, v30, v32, v35, v36, v37, v39, v41, v49, v51, v54, v55;
@@ -29939,7 +29417,7 @@ L22:;
     return;
 }
 
-static void f125(address a0, u64 a1, u8 a2, u16 a3, address a4, u64 a5) {
+static void f124(address a0, u64 a1, u8 a2, u16 a3, address a4, u64 a5) {
     u16 v6, v8, v10, v12, v17, v19, v20, v22, v42, v63, v102, v133, v139, v185, v215, v235;
     u16 v240, v259, v291, v310;
     u64 v7, v9, v11, v13, v14, v21, v23, v46, v47, v51, v53, v57, v59, v61, v64, v66;
@@ -30086,7 +29564,7 @@ L10:;
     store8(v76, 1u);
     goto L11;
 L11:;
-    f121(a0, a1);
+    f120(a0, a1);
     goto L90;
 L12:;
     store16(v39, 13u);
@@ -30156,7 +29634,7 @@ L21:;
     store8(v111, 1u);
     goto L22;
 L22:;
-    f121(a0, a1);
+    f120(a0, a1);
     goto L90;
 L23:;
     memory_set(v38, 0u, 32u);
@@ -30168,7 +29646,7 @@ L23:;
     v114 = v38 + 18u * 1u;
     store16(v114, v42);
     v115 = a0 + 8u * 1u;
-    v116 = f102(v115, v38);
+    v116 = f101(v115, v38);
     if (v116) { goto L24; }
     else { goto L27; }
 L24:;
@@ -30180,7 +29658,7 @@ L24:;
     v119 = load_address(v118);
     v120 = a0 + 192u * 1u;
     v121 = load64(v120);
-    f101(v37, v115, v36, ADDRESS(c155), 0u, ADDRESS(c155), 0u, v119, v121);
+    f100(v37, v115, v36, ADDRESS(c155), 0u, ADDRESS(c155), 0u, v119, v121);
     v122 = load8(v37);
     v123 = v122 == 0u;
     if (v123) { goto L25; }
@@ -30249,7 +29727,7 @@ L33:;
     v143 = v35 + 18u * 1u;
     store16(v143, 65535u);
     v144 = a0 + 8u * 1u;
-    v145 = f102(v144, v35);
+    v145 = f101(v144, v35);
     if (v145) { goto L34; }
     else { goto L37; }
 L34:;
@@ -30261,7 +29739,7 @@ L34:;
     v148 = load_address(v147);
     v149 = a0 + 192u * 1u;
     v150 = load64(v149);
-    f101(v34, v144, v33, ADDRESS(c155), 0u, ADDRESS(c155), 0u, v148, v150);
+    f100(v34, v144, v33, ADDRESS(c155), 0u, ADDRESS(c155), 0u, v148, v150);
     v151 = load8(v34);
     v152 = v151 == 0u;
     if (v152) { goto L35; }
@@ -30312,7 +29790,7 @@ L40:;
     v166 = v32 + 18u * 1u;
     store16(v166, v133);
     v167 = a0 + 8u * 1u;
-    v168 = f102(v167, v32);
+    v168 = f101(v167, v32);
     if (v168) { goto L41; }
     else { goto L44; }
 L41:;
@@ -30324,7 +29802,7 @@ L41:;
     v171 = load_address(v170);
     v172 = a0 + 192u * 1u;
     v173 = load64(v172);
-    f101(v31, v167, v30, ADDRESS(c155), 0u, ADDRESS(c155), 0u, v171, v173);
+    f100(v31, v167, v30, ADDRESS(c155), 0u, ADDRESS(c155), 0u, v171, v173);
     v174 = load8(v31);
     v175 = v174 == 0u;
     if (v175) { goto L42; }
@@ -30386,7 +29864,7 @@ L47:;
     v194 = load_address(v193);
     v195 = a0 + 192u * 1u;
     v196 = load64(v195);
-    f101(v29, v192, v28, ADDRESS(c155), 0u, ADDRESS(c155), 0u, v194, v196);
+    f100(v29, v192, v28, ADDRESS(c155), 0u, ADDRESS(c155), 0u, v194, v196);
     v197 = load8(v29);
     v198 = v197 == 0u;
     if (v198) { goto L48; }
@@ -30421,7 +29899,7 @@ L51:;
     v213 = load8(v212);
     v15 = v213; goto L52;
 L52:;
-    f126(a0, a1, v185, v15);
+    f125(a0, a1, v185, v15);
     goto L90;
 L53:;
     v214 = a5 < 258u ? a5 : 258u;
@@ -30456,7 +29934,7 @@ L56:;
     v224 = load_address(v223);
     v225 = a0 + 192u * 1u;
     v226 = load64(v225);
-    f101(v27, v222, v26, a4, v214, ADDRESS(c155), 0u, v224, v226);
+    f100(v27, v222, v26, a4, v214, ADDRESS(c155), 0u, v224, v226);
     v227 = load8(v27);
     v228 = v227 == 0u;
     if (v228) { goto L57; }
@@ -30486,7 +29964,7 @@ L60:;
     else { goto L62; }
 L61:;
     v238 = load8(v236);
-    f126(a0, a1, v235, v238);
+    f125(a0, a1, v235, v238);
     goto L90;
 L62:;
     v239 = a5 < 258u ? a5 : 258u;
@@ -30521,7 +29999,7 @@ L65:;
     v249 = load_address(v248);
     v250 = a0 + 192u * 1u;
     v251 = load64(v250);
-    f101(v25, v247, v24, a4, v239, ADDRESS(c155), 0u, v249, v251);
+    f100(v25, v247, v24, a4, v239, ADDRESS(c155), 0u, v249, v251);
     v252 = load8(v25);
     v253 = v252 == 0u;
     if (v253) { goto L66; }
@@ -30566,7 +30044,7 @@ L71:;
     store8(v271, 1u);
     goto L72;
 L72:;
-    f121(a0, a1);
+    f120(a0, a1);
     goto L90;
 L73:;
     store16(v39, 13u);
@@ -30669,7 +30147,7 @@ L86:;
     store8(v323, 1u);
     goto L87;
 L87:;
-    f121(a0, a1);
+    f120(a0, a1);
     goto L90;
 L88:;
     store16(v39, 13u);
@@ -30690,7 +30168,7 @@ L91:;
     UNREACHABLE;
 }
 
-static void f126(address a0, u64 a1, u16 a2, u8 a3) {
+static void f125(address a0, u64 a1, u16 a2, u8 a3) {
     u16 v4, v6, v17, v41;
     u64 v5, v7, v11, v12, v14, v20, v31, v35, v37, v39, v42, v44, v48, v52;
     address v8, v9, v10, v15, v16, v19, v22, v23, v26, v27, v28, v29, v30, v32, v33, v34;
@@ -30782,7 +30260,7 @@ L11:;
     store8(v54, 1u);
     goto L12;
 L12:;
-    f121(a0, a1);
+    f120(a0, a1);
     goto L14;
 L13:;
     v55 = a0 + 172u * 1u;
@@ -30800,7 +30278,7 @@ L14:;
     return;
 }
 
-static u8 f127(address a0) {
+static u8 f126(address a0) {
     u64 v1, v6, v11, v13, v15, v16, v18, v20, v24, v25, v27, v29, v32, v34, v38, v40;
     u64 v41, v43, v45, v49, v50, v52, v54, v57, v59;
     struct pair v2, v3, v26, v30, v31, v51, v55, v56;
@@ -30813,7 +30291,7 @@ static u8 f127(address a0) {
     else { v1 = v6; goto L3; }
 L1:;
     v8 = a0 + 48u * 1u;
-    v9 = f128(v8);
+    v9 = f127(v8);
     v10 = (u8)((v9) & UINT64_C(1));
     if (v10) { v4 = 1u; goto L17; }
     else { goto L2; }
@@ -30917,7 +30395,7 @@ L17:;
     return v4;
 }
 
-static u8 f128(address a0) {
+static u8 f127(address a0) {
     u64 v1, v2, v3, v5, v7, v8, v9, v10, v12, v13, v14, v15, v19, v22, v23, v24;
     u64 v25, v32, v34, v35, v36, v39, v40, v47, v118, v119, v121, v124, v127, v128, v131, v133;
     u64 v134, v135, v136, v138, v139, v141, v142, v144, v150, v151, v153, v155, v158, v160, v162, v163;
@@ -31242,7 +30720,7 @@ L30:;
     if (v190) { goto L31; }
     else { v9 = v7; v10 = 0u; goto L33; }
 L31:;
-    v191 = f129(a0, v3);
+    v191 = f128(a0, v3);
     if (v191) { goto L32; }
     else { goto L36; }
 L32:;
@@ -31433,7 +30911,7 @@ L44:;
     return v16;
 }
 
-static u8 f129(address a0, u64 a1) {
+static u8 f128(address a0, u64 a1) {
     u8 v2, v7, v12, v16, v17, v23, v28;
     struct pair v3, v21, v25, v26;
     address v4, v8, v18, v30;
@@ -31487,7 +30965,7 @@ L6:;
     v2 = 1u; goto L1;
 }
 
-static void f130(address a0, address a1, u64 a2, address a3, address a4, u16 a5, u16 a6) {
+static void f129(address a0, address a1, u64 a2, address a3, address a4, u16 a5, u16 a6) {
     u8 v7, v16, v19, v24, v30, v31, v32, v36, v41, v53, v54, v55, v57, v58, v59, v61;
     u8 v62, v63, v65, v66, v67, v68, v70, v71, v73, v74, v75, v77, v78, v79, v80, v84;
     u8 v86, v90, v92, v94, v96, v98, v100, v102, v104, v106, v108, v110, v112, v114, v116, v118;
@@ -32106,7 +31584,7 @@ L50:;
     goto L37;
 }
 
-static struct s1 f131(address a0, u64 a1) {
+static struct s1 f130(address a0, u64 a1) {
     u64 v2, v3, v5, v12, v14, v23, v26, v27, v35, v36, v38;
     address v4, v6, v9, v13, v15, v17, v19, v20, v21, v22, v29, v30, v32, v39;
     u8 v7, v8, v10, v11, v18, v24, v25, v28, v34, v37, v40;
@@ -32185,7 +31663,7 @@ L10:;
     return v42;
 }
 
-static void f132(address a0, address a1, u64 a2, address a3, u64 a4, address a5, u64 a6) {
+static void f131(address a0, address a1, u64 a2, address a3, u64 a4, address a5, u64 a6) {
     u64 v7, v9, v15, v35, v39, v41, v44, v49, v58, v61, v64;
     u8 v8, v10, v13, v16, v19, v20, v22, v24, v28, v31, v45, v46, v47, v48, v52, v59;
     u8 v62, v63, v65, v66, v67;
@@ -32199,7 +31677,7 @@ static void f132(address a0, address a1, u64 a2, address a3, u64 a4, address a5,
     v12 = ADDRESS(block1);
     memory_set(v11, 0u, 16u);
     memory_set(v12, 0u, 7u);
-    f133(v11, a1, a2, a3, a4, a5, a6);
+    f132(v11, a1, a2, a3, a4, a5, a6);
     v13 = load8(v11);
     v14 = v11 + 8u * 1u;
     v15 = load64(v14);
@@ -32208,7 +31686,7 @@ static void f132(address a0, address a1, u64 a2, address a3, u64 a4, address a5,
     else { goto L3; }
 L1:;
     v17 = (address)v15;
-    v18 = f152(a5, a6, v17);
+    v18 = f151(a5, a6, v17);
     v19 = v18.m0;
     v20 = v19 == 0u;
     if (v20) { goto L4; }
@@ -32326,7 +31804,7 @@ L18:;
     goto L2;
 }
 
-static void f133(address a0, address a1, u64 a2, address a3, u64 a4, address a5, u64 a6) {
+static void f132(address a0, address a1, u64 a2, address a3, u64 a4, address a5, u64 a6) {
     u8 v7, v8, v9, v10, v11, v19, v20, v21, v23, v24, v25, v26, v28, v29, v30, v32;
     u8 v33, v34, v36, v37, v38, v39, v41, v42, v44, v45, v47, v48, v49, v50, v52, v54;
     u8 v55, v60, v62, v63, v65, v68, v69, v70, v78, v79, v82, v84, v87, v88, v89;
@@ -32348,9 +31826,9 @@ static void f133(address a0, address a1, u64 a2, address a3, u64 a4, address a5,
     v17 = ADDRESS(block4);
     memory_set(v14, 0u, 384u);
     memory_set(v15, 0u, 48u);
-    f134(v14);
+    f133(v14);
     memory_cpy(v13, v14, 384u);
-    v18 = f131(a3, a4);
+    v18 = f130(a3, a4);
     v19 = v18.m0;
     v20 = v19 == 1u;
     if (v20) { goto L1; }
@@ -32401,7 +31879,7 @@ L7:;
     if (v45) { goto L8; }
     else { v7 = 2u; v8 = 2u; goto L13; }
 L8:;
-    v46 = f138(a5, a6, v13);
+    v46 = f137(a5, a6, v13);
     v47 = v46.m0;
     v48 = v47 == 0u;
     if (v48) { goto L9; }
@@ -32430,7 +31908,7 @@ L11:;
 L12:;
     store64(v16, v22);
     v61 = (u16)(v58);
-    f150(v15, v16, v61, a3, a4);
+    f149(v15, v16, v61, a3, a4);
     v62 = load8(v15);
     v63 = v62 == 0u;
     if (v63) { goto L16; }
@@ -32462,7 +31940,7 @@ L15:;
 L16:;
     v76 = v15 + 8u * 1u;
     memory_cpy(v17, v13, 384u);
-    v77 = f151(v17, v76);
+    v77 = f150(v17, v76);
     v78 = v77.m0;
     v79 = v78 == 0u;
     v80 = v77.m1;
@@ -32486,7 +31964,7 @@ L18:;
     v9 = 1u; v10 = 3u; v11 = 0u; v12 = 0u; goto L15;
 }
 
-static void f134(address a0) {
+static void f133(address a0) {
     address v1, v2, v3, v4, v5, v6, v7, v8, v9, v10, v11, v12, v13, v14, v15, v16;
     address v17, v18, v19, v20, v21, v22, v23, v24, v25, v28;
     u8 v26, v27;
@@ -32543,7 +32021,7 @@ static void f134(address a0) {
     store8(v24, 1u);
     v25 = v3 + 20u * 1u;
     store32(v25, 0u);
-    f135(v2, v1, v3, 1u);
+    f134(v2, v1, v3, 1u);
     v26 = load8(v2);
     v27 = v26 == 0u;
     if (v27) { goto L1; }
@@ -32557,7 +32035,7 @@ L2:;
     UNREACHABLE;
 }
 
-static void f135(address a0, address a1, address a2, u64 a3) {
+static void f134(address a0, address a1, address a2, u64 a3) {
     u64 v4, v15, v32, v33, v34, v35, v38, v41, v42, v45, v51, v53, v70, v72;
     address v5, v6, v7, v8, v9, v10, v11, v14, v16, v18, v20, v22, v24, v26, v28, v30;
     address v31, v37, v39, v40, v47, v48, v50, v52, v54, v56, v57, v58, v60, v61, v63, v65;
@@ -32589,7 +32067,7 @@ static void f135(address a0, address a1, address a2, u64 a3) {
     memory_set(v9, 0u, 144u);
     memory_set(v10, 0u, 10u);
     memory_set(v11, 0u, 150u);
-    f136(v8, a1, a2, a3);
+    f135(v8, a1, a2, a3);
     v12 = load8(v8);
     v13 = v12 == 0u;
     if (v13) { goto L1; }
@@ -32833,7 +32311,7 @@ L9:;
     goto L8;
 }
 
-static void f136(address a0, address a1, address a2, u64 a3) {
+static void f135(address a0, address a1, address a2, u64 a3) {
     address v4, v6, v8, v9, v10, v11, v12, v16, v17, v18, v19, v20, v23, v24, v29, v44;
     address v45, v46, v47, v48, v49, v50, v51, v52, v53, v54, v55, v56, v57, v58, v59, v60;
     address v61, v62, v63, v64, v65, v66, v67, v68, v69, v70, v71, v72, v73, v74, v75, v76;
@@ -33090,7 +32568,7 @@ L13:;
     v120 = (u64)((u64)v7 * (u64)24u);
     v121 = a2 + v120 * 1u;
     store32(v8, 0u);
-    f137(v8, v121);
+    f136(v8, v121);
     v122 = load8(v8);
     v123 = v122 == 0u;
     if (v123) { goto L14; }
@@ -33251,7 +32729,7 @@ L20:;
     goto L10;
 }
 
-static void f137(address a0, address a1) {
+static void f136(address a0, address a1) {
     address v2, v7, v12, v13, v14, v15, v16, v17, v18, v19, v20, v21, v22, v23, v24, v25;
     address v26, v27, v28, v29, v30, v31, v32, v33, v34, v37, v48, v64, v66, v67, v68;
     u64 v3, v35, v47;
@@ -33431,7 +32909,7 @@ L17:;
     return;
 }
 
-static struct s1 f138(address a0, u64 a1, address a2) {
+static struct s1 f137(address a0, u64 a1, address a2) {
     u8 v3, v4, v6, v9, v12, v14, v19, v22, v25, v30, v35, v36, v37, v38, v40, v41;
     u8 v47, v48, v49, v50, v51, v52, v53;
     address v5, v7, v10, v15, v16, v26, v27, v31, v32, v33, v39, v43;
@@ -33487,7 +32965,7 @@ L5:;
     store_address(v32, v27);
     v33 = v5 + 16u * 1u;
     store64(v33, v29);
-    v34 = f139(a0, a1, a2);
+    v34 = f138(a0, a1, a2);
     v35 = v34.m0;
     v36 = v35 == 0u;
     if (v36) { goto L6; }
@@ -33505,7 +32983,7 @@ L7:;
     v43 = a2 + v42 * 1u;
     v44 = load64(v43);
     v45 = (u16)(v44);
-    v46 = f146(v5, v45);
+    v46 = f145(v5, v45);
     v47 = v46.m0;
     v48 = v46.m1;
     v49 = v47 != 0u;
@@ -33522,7 +33000,7 @@ L8:;
     return v55;
 }
 
-static struct s1 f139(address a0, u64 a1, address a2) {
+static struct s1 f138(address a0, u64 a1, address a2) {
     u8 v3, v4, v5, v6, v8, v12, v14, v16, v17, v29, v30, v32, v33, v34, v36, v37;
     u8 v38, v40, v41, v42, v43, v45, v46, v47, v48, v49, v50, v51, v52, v53;
     address v7, v9, v18, v19, v20, v21, v22, v23, v24, v25, v26, v27, v28, v31, v35, v39;
@@ -33589,7 +33067,7 @@ L3:;
     if (v43) { goto L4; }
     else { v5 = 0u; v6 = 0u; goto L9; }
 L4:;
-    v44 = f140(a2, v9, v10);
+    v44 = f139(a2, v9, v10);
     v45 = v44.m0;
     v46 = v45 == 0u;
     if (v46) { goto L5; }
@@ -33600,7 +33078,7 @@ L5:;
     if (v48) { goto L6; }
     else { v3 = 0u; goto L7; }
 L6:;
-    v49 = f145(a2, v9, v10);
+    v49 = f144(a2, v9, v10);
     v3 = v49; goto L7;
 L7:;
     v50 = (u8)v3;
@@ -33618,7 +33096,7 @@ L9:;
     return v55;
 }
 
-static struct s1 f140(address a0, address a1, u64 a2) {
+static struct s1 f139(address a0, address a1, u64 a2) {
     u8 v3, v4, v7, v10, v12, v15, v18, v21, v23, v24, v26, v27, v28, v30, v31;
     address v5, v6, v8, v13, v14, v22, v25;
     u64 v9, v11, v16, v17, v19, v20;
@@ -33655,7 +33133,7 @@ L3:;
     else { goto L4; }
 L4:;
     v22 = v14 + 1u * 1u;
-    f141(v6, a1, v13, v11);
+    f140(v6, a1, v13, v11);
     v23 = load8(v6);
     v24 = v23 == 1u;
     if (v24) { goto L5; }
@@ -33667,11 +33145,11 @@ L5:;
     if (v26) { goto L6; }
     else { goto L7; }
 L6:;
-    v27 = f142(a0, v5, v22, v20);
+    v27 = f141(a0, v5, v22, v20);
     v28 = (u8)v27;
     v3 = v28; v4 = 0u; goto L8;
 L7:;
-    v29 = f143(a0, v5, v22, v20);
+    v29 = f142(a0, v5, v22, v20);
     v30 = v29.m0;
     v31 = v29.m1;
     v3 = v31; v4 = v30; goto L8;
@@ -33683,7 +33161,7 @@ L8:;
     return v33;
 }
 
-static void f141(address a0, address a1, address a2, u64 a3) {
+static void f140(address a0, address a1, address a2, u64 a3) {
     address v4, v5, v6, v8, v9, v10, v11, v13, v15, v19, v21, v23, v25, v27, v31, v36;
     address v42, v44, v46, v48, v50, v52, v54, v56, v81, v83, v85, v87, v89, v91, v93, v95;
     address v121, v123, v129, v133, v135, v141, v143, v145, v147, v160, v162, v164, v166, v168, v170, v174;
@@ -34018,7 +33496,7 @@ L3:;
     goto L1;
 }
 
-static u8 f142(address a0, address a1, address a2, u64 a3) {
+static u8 f141(address a0, address a1, address a2, u64 a3) {
     u64 v4, v6, v48, v68, v125, v147, v148, v149, v150, v151, v152, v153, v154, v155, v156, v157;
     u64 v158, v159, v160, v161, v162, v163, v164, v165, v166, v167, v168, v169, v179, v190, v304, v308;
     u64 v334, v335, v336, v337, v340, v343, v344, v347, v354, v356, v365, v378, v380;
@@ -34462,7 +33940,7 @@ L3:;
     v295 = v56 + 192u * 1u;
     store64(v295, v6);
     memory_set(v52, 0u, 144u);
-    f136(v52, a1, v56, v6);
+    f135(v52, a1, v56, v6);
     v296 = load8(v52);
     v297 = v296 == 0u;
     if (v297) { goto L4; }
@@ -34702,7 +34180,7 @@ L13:;
     return v297;
 }
 
-static struct s1 f143(address a0, address a1, address a2, u64 a3) {
+static struct s1 f142(address a0, address a1, address a2, u64 a3) {
     u64 v4, v8, v10, v13, v15, v17, v39, v40, v41, v42, v43, v44, v45, v46, v47, v48;
     u64 v49, v50, v51, v52, v53, v54, v55, v56, v57, v58, v59, v60, v61, v71, v82, v92;
     u8 v5, v6, v9, v14, v20, v22, v24, v26, v28, v30, v32, v34, v36, v38, v62, v64;
@@ -34812,7 +34290,7 @@ L3:;
     if (v83) { goto L4; }
     else { v4 = v82; goto L3; }
 L4:;
-    f144(v7, a1, v16, v8);
+    f143(v7, a1, v16, v8);
     v84 = load8(v7);
     v85 = v84 == 0u;
     if (v85) { goto L5; }
@@ -34852,7 +34330,7 @@ L9:;
     return v101;
 }
 
-static void f144(address a0, address a1, address a2, u64 a3) {
+static void f143(address a0, address a1, address a2, u64 a3) {
     address v4, v6, v14, v16, v17, v18, v19, v20, v21, v22, v23, v24, v25, v29, v30, v31;
     address v32, v33, v36, v37, v42, v60, v64, v67, v69, v71, v74, v75, v81, v83, v85, v87;
     address v89, v91, v93, v95, v97, v100, v102, v122, v124, v126, v128, v129, v130, v131, v132, v141;
@@ -34977,7 +34455,7 @@ L12:;
 L13:;
     v59 = (u64)((u64)v7 * (u64)24u);
     v60 = a2 + v59 * 1u;
-    f137(v20, v60);
+    f136(v20, v60);
     v61 = load8(v20);
     v62 = v61 == 0u;
     if (v62) { goto L12; }
@@ -35367,7 +34845,7 @@ L33:;
     goto L18;
 }
 
-static u8 f145(address a0, address a1, u64 a2) {
+static u8 f144(address a0, address a1, u64 a2) {
     u8 v3, v5, v8, v12, v14, v16, v17, v23, v27, v28, v29, v30, v31, v35, v36, v37;
     u8 v41, v42, v43, v44, v45, v46, v47, v48, v51, v52, v55, v56, v59, v60, v64, v65;
     u8 v66, v70, v71, v72, v73, v77, v78, v79, v80, v84, v85, v86, v87, v88, v89, v90;
@@ -35387,7 +34865,7 @@ static u8 f145(address a0, address a1, u64 a2) {
     v19 = ADDRESS(block1);
     v20 = ADDRESS(block2);
     memory_set(v19, 0u, 1176u);
-    f75(v19, a0);
+    f74(v19, a0);
     memory_cpy(v20, v19, 1176u);
     v21 = v20 + 1168u * 1u;
     v22 = load64(v21);
@@ -35604,7 +35082,7 @@ L27:;
     return v17;
 }
 
-static struct s1 f146(address a0, u16 a1) {
+static struct s1 f145(address a0, u16 a1) {
     u8 v2, v3, v22, v27, v32, v33, v36, v37, v38, v40;
     address v4, v5, v6, v7, v8, v9, v10, v11, v12, v13, v14, v15, v16, v17, v18, v19;
     address v20, v21, v29, v30, v31, v34, v39;
@@ -35670,7 +35148,7 @@ L2:;
     memory_set(v31, 0u, 1264u);
     goto L3;
 L3:;
-    v32 = f147(a0, v4);
+    v32 = f146(a0, v4);
     v33 = load8(v4);
     v34 = v4 + 24u * 1u;
     v35 = load64(v34);
@@ -35692,7 +35170,7 @@ L5:;
     return v42;
 }
 
-static u8 f147(address a0, address a1) {
+static u8 f146(address a0, address a1) {
     u8 v2, v5, v7, v8, v9, v10, v11, v12, v13, v14, v15, v16, v19, v20, v23, v37;
     u8 v38, v40, v43, v44, v45, v46, v47, v48, v49, v50, v51, v52, v53, v54, v55, v56;
     u8 v57, v58, v59, v60, v64, v65, v66, v67, v68, v69, v70, v71, v72, v73, v74, v75;
@@ -35730,7 +35208,7 @@ L3:;
     v34 = v18 + 16u * 1u;
     v35 = v18 + 48u * 1u;
     v36 = v18 + 56u * 1u;
-    f148(v18, v25, v22, a1);
+    f147(v18, v25, v22, a1);
     v37 = load8(v18);
     v38 = v37 == 1u;
     if (v38) { goto L4; }
@@ -35753,7 +35231,7 @@ L5:;
     v50 = load8(v26);
     v3 = v41; v4 = v39; v5 = 1u; v6 = v42; v7 = v43; v8 = v44; v9 = v45; v10 = v46; v11 = v47; v12 = v48; v13 = v49; v14 = v50; goto L6;
 L6:;
-    f148(v18, v3, v4, a1);
+    f147(v18, v3, v4, a1);
     v51 = load8(v18);
     v52 = v51 == 1u;
     if (v52) { goto L7; }
@@ -35837,7 +35315,7 @@ L19:;
     v2 = v91; goto L1;
 }
 
-static void f148(address a0, address a1, u64 a2, address a3) {
+static void f147(address a0, address a1, u64 a2, address a3) {
     u8 v4, v12, v13, v18, v28, v31, v34, v38, v42, v45, v48, v51, v52, v54, v57, v60;
     u8 v63, v66, v70, v73, v76, v79, v82, v86, v89, v90, v91, v92, v93, v94, v95, v96;
     u8 v97, v98, v101, v105, v111, v114, v115, v124, v128, v131, v135, v138, v139, v141, v143, v144;
@@ -36215,7 +35693,7 @@ L50:;
 L51:;
     v186 = a3 + v21 * 1u;
     v187 = load64(v186);
-    v188 = f149(v4, v51, v22, v187);
+    v188 = f148(v4, v51, v22, v187);
     if (v188) { goto L54; }
     else { goto L55; }
 L52:;
@@ -36257,7 +35735,7 @@ L55:;
     goto L2;
 }
 
-static u8 f149(u8 a0, u8 a1, address a2, u64 a3) {
+static u8 f148(u8 a0, u8 a1, address a2, u64 a3) {
     address v4, v9, v13, v15, v20, v22;
     u64 v5, v10, v16, v23;
     u8 v6, v7, v8, v11, v12, v14, v17, v18, v19, v21, v24, v25, v26, v27;
@@ -36338,7 +35816,7 @@ L16:;
     return v6;
 }
 
-static void f150(address a0, address a1, u16 a2, address a3, u64 a4) {
+static void f149(address a0, address a1, u16 a2, address a3, u64 a4) {
     u64 v5, v6, v7, v8, v10, v12, v15, v18, v20, v29, v34, v37, v39, v41, v45, v52;
     u64 v54, v57, v59, v61, v62, v63, v65, v67, v70, v72, v75, v79, v94, v97, v106, v109;
     u64 v112;
@@ -36561,7 +36039,7 @@ L23:;
     return;
 }
 
-static struct s5 f151(address a0, address a1) {
+static struct s5 f150(address a0, address a1) {
     u64 v2, v17, v19, v21, v25, v27, v29, v31, v33, v53, v62, v65, v68;
     u8 v3, v12, v32, v49, v50, v51, v52, v56, v63, v66, v67, v69, v70;
     address v4, v5, v6, v7, v8, v9, v10, v11, v13, v14, v15, v16, v18, v20, v22, v23;
@@ -36702,7 +36180,7 @@ L13:;
     return v72;
 }
 
-static struct s1 f152(address a0, u64 a1, address a2) {
+static struct s1 f151(address a0, u64 a1, address a2) {
     u8 v3, v4, v7, v10, v13, v15, v20, v23, v26, v31, v53, v54, v59, v64, v69, v70;
     u8 v73, v74, v75;
     address v5, v6, v8, v11, v16, v17, v27, v28, v32, v33, v34, v35, v36, v37, v38, v39;
@@ -36831,7 +36309,7 @@ L8:;
     TRAP;
     UNREACHABLE;
 L9:;
-    v69 = f153(v5, v6, a2);
+    v69 = f152(v5, v6, a2);
     v70 = load8(v6);
     v71 = v6 + 24u * 1u;
     v72 = load64(v71);
@@ -36852,7 +36330,7 @@ L11:;
     return v78;
 }
 
-static u8 f153(address a0, address a1, address a2) {
+static u8 f152(address a0, address a1, address a2) {
     address v3, v8, v9, v13, v14, v17, v19, v20, v21, v22, v23, v24, v25, v26, v27, v28;
     address v29, v32, v36, v37, v41, v44, v46, v49;
     u64 v4, v7, v10, v18, v33, v38, v39, v43, v45, v50;
@@ -36884,7 +36362,7 @@ L1:;
     v29 = v13 + 16u * 1u;
     v3 = v20; v4 = v18; v5 = 0u; v6 = 0u; goto L2;
 L2:;
-    f148(v14, v3, v4, a1);
+    f147(v14, v3, v4, a1);
     v30 = load8(v14);
     v31 = v30 == 1u;
     if (v31) { goto L3; }
@@ -36932,7 +36410,7 @@ L9:;
     else { v9 = v44; v10 = v45; goto L7; }
 L10:;
     v53 = load16(v28);
-    f55(a2, v21, v53, v29, v8, v38);
+    f54(a2, v21, v53, v29, v8, v38);
     v11 = 0u; goto L11;
 L11:;
     v54 = (u8)((u32)v11 + (u32)v5);
@@ -36947,7 +36425,7 @@ L13:;
     return v12;
 }
 
-static void f154(address a0, address a1, address a2, u64 a3, address a4, u64 a5) {
+static void f153(address a0, address a1, address a2, u64 a3, address a4, u64 a5) {
     u64 v6, v17, v18, v36, v39, v41, v43, v49, v60, v71, v74, v80, v99, v101, v105, v109;
     u64 v157, v160, v264, v266, v314, v330, v333, v334;
     address v7, v16, v19, v20, v21, v22, v23, v24, v25, v26, v27, v28, v29, v30, v31, v32;
@@ -37289,7 +36767,7 @@ L5:;
     if (v233) { goto L10; }
     else { goto L6; }
 L6:;
-    f135(v21, v32, v7, a3);
+    f134(v21, v32, v7, a3);
     v234 = load8(v21);
     v235 = v234 == 0u;
     if (v235) { goto L7; }
@@ -37313,7 +36791,7 @@ L9:;
     memory_cpy(v244, v245, 384u);
     v11 = v10; v12 = v9; v13 = v8; v14 = 1u; v15 = v234; goto L11;
 L10:;
-    f144(v20, v32, v7, a3);
+    f143(v20, v32, v7, a3);
     v246 = load8(v20);
     v247 = v20 + 1u * 1u;
     v248 = load8(v247);
@@ -37360,7 +36838,7 @@ L13:;
     memory_set(v273, 0u, 416u);
     goto L12;
 L14:;
-    v274 = f131(a4, a5);
+    v274 = f130(a4, a5);
     v275 = v274.m0;
     v276 = v274.m1;
     v277 = v275 == 1u;
@@ -37550,7 +37028,7 @@ L35:;
     goto L12;
 }
 
-static u8 f155(address a0) {
+static u8 f154(address a0) {
     u8 v1, v5, v10, v14, v15, v21, v26;
     struct pair v2, v19, v23, v24;
     address v3, v6, v16, v28;
@@ -37603,7 +37081,7 @@ L6:;
     v1 = 1u; goto L1;
 }
 
-static u8 f156(address a0) {
+static u8 f155(address a0) {
     u8 v1, v5, v10, v14, v15, v21, v26;
     struct pair v2, v19, v23, v24;
     address v3, v6, v16, v28;
@@ -37656,7 +37134,7 @@ L6:;
     v1 = 1u; goto L1;
 }
 
-static u8 f157(address a0) {
+static u8 f156(address a0) {
     u8 v1, v5, v10, v14, v15, v21, v26;
     struct pair v2, v19, v23, v24;
     address v3, v6, v16, v28;
@@ -37709,7 +37187,7 @@ L6:;
     v1 = 1u; goto L1;
 }
 
-static u32 f158(address a0, address a1) {
+static u32 f157(address a0, address a1) {
     u64 v2, v10, v12, v16, v18, v22, v24, v28, v30, v32, v34, v36, v38, v56, v58, v67;
     u64 v72, v76, v82;
     u32 v3;
@@ -37882,7 +37360,7 @@ L18:;
     return v3;
 }
 
-static void f159(address a0, address a1, address a2, address a3, u64 a4) {
+static void f158(address a0, address a1, address a2, address a3, u64 a4) {
     u64 v5, v13, v15, v16, v23, v37, v39, v40, v44, v46;
     address v6, v7, v8, v9, v10, v14, v19, v20, v21, v22, v24, v25, v30, v35, v41, v42;
     address v43, v45, v49, v51, v53, v55, v56, v57, v58, v59;
@@ -37957,9 +37435,9 @@ L4:;
     if (v47) { goto L5; }
     else { v5 = v46; goto L4; }
 L5:;
-    f160(v9, a2);
+    f159(v9, a2);
     memory_set(v6, 0u, 80u);
-    f161(v6, a1, v9, v8, a4);
+    f160(v6, a1, v9, v8, a4);
     v48 = load8(v6);
     v49 = v6 + 1u * 1u;
     v50 = load8(v49);
@@ -37981,7 +37459,7 @@ L5:;
     goto L2;
 }
 
-static void f160(address a0, address a1) {
+static void f159(address a0, address a1) {
     u64 v2, v4, v30, v34, v64, v68, v81, v82, v84, v85;
     u16 v3, v8, v23, v27, v42, v56, v66, v73, v74, v87, v88, v90, v91, v98, v99, v103;
     u16 v105, v106;
@@ -38260,7 +37738,7 @@ L3:;
     return;
 }
 
-static void f161(address a0, address a1, address a2, address a3, u64 a4) {
+static void f160(address a0, address a1, address a2, address a3, u64 a4) {
     address v5, v13, v21, v22, v23, v24, v25, v34, v38, v40, v44, v46, v51, v53, v55, v59;
     address v61, v63, v67, v71, v81, v82, v85, v87, v90, v93, v100, v101, v103, v106, v108, v110;
     address v112, v126, v127, v129, v133, v134, v138, v166, v167, v169, v174, v176, v178, v182, v184, v186;
@@ -38405,7 +37883,7 @@ L13:;
     else { goto L14; }
 L14:;
     v100 = a1 + 192u * 1u;
-    f162(v22, a2, a1, v100);
+    f161(v22, a2, a1, v100);
     v101 = v22 + 20u * 1u;
     v102 = load64(v101);
     v103 = v22 + 34u * 1u;
@@ -38482,7 +37960,7 @@ L25:;
     else { v14 = v139; v15 = v140; goto L23; }
 L26:;
     memory_cpy(v23, v21, 72u);
-    f162(v24, a2, a1, v100);
+    f161(v24, a2, a1, v100);
     memory_cpy(v100, v24, 36u);
     v142 = load8(a2);
     v143 = load8(v34);
@@ -38701,7 +38179,7 @@ L37:;
     goto L36;
 }
 
-static void f162(address a0, address a1, address a2, address a3) {
+static void f161(address a0, address a1, address a2, address a3) {
     u64 v4, v6, v7, v8, v18, v20, v24, v26, v28, v30, v49, v50, v51, v52, v53, v54;
     u64 v55, v56, v57, v58, v59, v60, v64, v66, v67, v69, v71, v90, v91, v92, v93, v94;
     u64 v95, v96, v97, v98, v99, v100, v101, v103, v107, v109;
@@ -38869,7 +38347,7 @@ L6:;
     return;
 }
 
-static void f163(address a0, address a1, address a2, address a3, u64 a4) {
+static void f162(address a0, address a1, address a2, address a3, u64 a4) {
     u64 v5, v16, v18, v19, v26, v40, v42, v43, v47, v49;
     u8 v6, v14, v15, v20, v25, v29, v30, v31, v32, v34, v35, v36, v37, v39, v41, v50;
     u8 v51, v53, v55, v57, v60, v64, v65, v67, v68, v69;
@@ -38912,7 +38390,7 @@ L2:;
     memory_set(v24, 0u, 72u);
     goto L1;
 L3:;
-    f160(v10, a2);
+    f159(v10, a2);
     memory_set(v8, 0u, 1536u);
     v25 = a4 == 0u;
     if (v25) { goto L5; }
@@ -38951,7 +38429,7 @@ L4:;
     else { v5 = v49; goto L4; }
 L5:;
     memory_set(v7, 0u, 80u);
-    f161(v7, v12, v10, v8, a4);
+    f160(v7, v12, v10, v8, a4);
     v51 = load8(v7);
     v52 = v7 + 1u * 1u;
     v53 = load8(v52);
@@ -38968,9 +38446,9 @@ L5:;
 L6:;
     memory_cpy(v9, v58, 72u);
     v61 = a1 + 8u * 1u;
-    f161(v11, v61, v10, v8, a4);
+    f160(v11, v61, v10, v8, a4);
     v62 = a1 + 392u * 1u;
-    f161(v11, v62, v10, v8, a4);
+    f160(v11, v62, v10, v8, a4);
     v63 = a1 + 840u * 1u;
     v64 = load8(v63);
     v65 = (u8)((v64) & UINT64_C(1));
@@ -39001,7 +38479,7 @@ L9:;
     goto L1;
 }
 
-static void f164(address a0, address a1, u8 a2, u16 a3, u16 a4, address a5, u64 a6) {
+static void f163(address a0, address a1, u8 a2, u16 a3, u16 a4, address a5, u64 a6) {
     u8 v7, v8, v9, v10, v11, v12, v13, v14, v15, v16, v17, v22, v23, v25, v26, v31;
     u8 v35, v36, v41, v42, v43, v52, v53, v54, v55, v56, v57, v61, v62, v63, v64, v69;
     u8 v70, v71, v72, v73, v76, v77, v80, v81, v84, v88;
@@ -39310,7 +38788,7 @@ L54:;
     goto L2;
 }
 
-static void f165(address a0, address a1, u16 a2, address a3, u64 a4) {
+static void f164(address a0, address a1, u16 a2, address a3, u64 a4) {
     u16 v5, v11, v12, v13, v14, v31, v43, v45, v49, v51, v57, v81, v82, v83, v84, v87;
     u16 v94, v95, v96, v97, v150, v151, v152, v153, v154, v155, v156, v157, v191, v203, v204, v205;
     u16 v206, v207, v208, v209, v210, v211;
@@ -39367,7 +38845,7 @@ L4:;
     v35 = load_address(v34);
     v36 = a1 + 432u * 1u;
     v37 = load64(v36);
-    f80(v21, a1, v35, v37, a3, a4);
+    f79(v21, a1, v35, v37, a3, a4);
     v38 = load8(v21);
     v39 = v38 == 1u;
     if (v39) { goto L5; }
@@ -39556,7 +39034,7 @@ L16:;
     store_address(v162, v148);
     v163 = v17 + 16u * 1u;
     store64(v163, v149);
-    v164 = f63(v17);
+    v164 = f62(v17);
     if (v164) { goto L17; }
     else { goto L23; }
 L17:;
@@ -39611,7 +39089,7 @@ L22:;
 L23:;
     v10 = 0u; v11 = 0u; v12 = 0u; v13 = 0u; v14 = 0u; v15 = 0u; v16 = 0u; goto L27;
 L24:;
-    v193 = f64(a1, v19);
+    v193 = f63(a1, v19);
     v194 = v193 < 2u;
     if (v194) { goto L26; }
     else { v10 = 0u; v11 = 0u; v12 = 0u; v13 = 0u; v14 = 0u; v15 = 0u; v16 = 0u; goto L27; }
@@ -39664,7 +39142,7 @@ L27:;
     goto L2;
 }
 
-static void f166(address a0, address a1, u16 a2, address a3, u64 a4) {
+static void f165(address a0, address a1, u16 a2, address a3, u64 a4) {
     address v5, v6, v7, v8, v9, v13, v15, v16, v18, v19, v22, v23, v24, v25, v26, v27;
     address v29, v31, v34, v35, v36, v37;
     u8 v10, v11, v12, v14, v17, v20, v28, v30, v32;
@@ -39683,14 +39161,14 @@ static void f166(address a0, address a1, u16 a2, address a3, u64 a4) {
     if (v11) { goto L1; }
     else { goto L3; }
 L1:;
-    v12 = f79(a1, a3, a4);
+    v12 = f78(a1, a3, a4);
     if (v12) { goto L3; }
     else { goto L4; }
 L2:;
     return;
 L3:;
     v13 = load_address(a1);
-    f165(v7, v13, a2, a3, a4);
+    f164(v7, v13, a2, a3, a4);
     v14 = load8(v7);
     store8(a0, v14);
     v15 = a0 + 1u * 1u;
@@ -39713,7 +39191,7 @@ L4:;
     memory_move(v24, v25, 384u);
     memory_cpy(v25, v6, 384u);
     v26 = load_address(a1);
-    f165(v8, v26, a2, a3, a4);
+    f164(v8, v26, a2, a3, a4);
     v27 = load_address(a1);
     memory_cpy(v5, v27, 384u);
     memory_move(v27, v25, 384u);
@@ -42809,7 +42287,7 @@ L13:;
     store_address(v95, v40);
     v96 = v11 + 16u * 1u;
     store64(v96, v42);
-    v97 = f51(v49, v93, v92, v11);
+    v97 = f50(v49, v93, v92, v11);
     if (v97) { goto L14; }
     else { goto L15; }
 L14:;
@@ -42818,7 +42296,7 @@ L14:;
     v98 = v9 + 8u * 1u;
     v99 = load64(v98);
     v100 = v25 + 776u * 1u;
-    f66(v100, v17, v99);
+    f65(v100, v17, v99);
     v101 = load_address(v25);
     v102 = v101 + 448u * 1u;
     v103 = v25 + 841u * 1u;
@@ -42844,10 +42322,10 @@ L16:;
     f38(v10, v49, v32, v93, v92, v17, a3, v26);
     goto L20;
 L17:;
-    f57(v10, v49, v32, v93, v92, v38, v17, a3, v26);
+    f56(v10, v49, v32, v93, v92, v38, v17, a3, v26);
     goto L20;
 L18:;
-    f62(v10, v49, v32, v93, v92, v40, v42, v17, a3, v26);
+    f61(v10, v49, v32, v93, v92, v40, v42, v17, a3, v26);
     goto L20;
 L19:;
     UNREACHABLE;
@@ -42858,7 +42336,7 @@ L20:;
     v110 = v10 + 8u * 1u;
     v111 = load64(v110);
     v112 = v25 + 776u * 1u;
-    f66(v112, v17, v111);
+    f65(v112, v17, v111);
     v113 = load_address(v25);
     v114 = v113 + 448u * 1u;
     v115 = v25 + 841u * 1u;
@@ -43430,12 +42908,12 @@ L41:;
     store64(a6, 0u);
     v21 = 2u; goto L51;
 L42:;
-    f48(v43, 3u, a1, v31, v27, v28);
+    f47(v43, 3u, a1, v31, v27, v28);
     v263 = load64(v80);
     store64(a6, v263);
     v21 = 3u; goto L51;
 L43:;
-    f48(v43, 4u, a1, v31, v27, v28);
+    f47(v43, 4u, a1, v31, v27, v28);
     v264 = load64(v80);
     store64(a6, v264);
     v21 = 4u; goto L51;
@@ -43448,22 +42926,22 @@ L44:;
 L45:;
     v267 = v17 + 1448u * 1u;
     v268 = load64(v267);
-    f47(v19, v268, v20, v23, a1, v28);
+    f46(v19, v268, v20, v23, a1, v28);
     v269 = load64(v80);
     store64(a6, v269);
     v21 = 6u; goto L51;
 L46:;
-    f48(v43, 7u, a1, v31, v27, v28);
+    f47(v43, 7u, a1, v31, v27, v28);
     v270 = load64(v80);
     store64(a6, v270);
     v21 = 7u; goto L51;
 L47:;
-    f48(v43, 8u, a1, v31, v27, v28);
+    f47(v43, 8u, a1, v31, v27, v28);
     v271 = load64(v80);
     store64(a6, v271);
     v21 = 8u; goto L51;
 L48:;
-    f48(v43, 9u, a1, v31, v27, v28);
+    f47(v43, 9u, a1, v31, v27, v28);
     v272 = load64(v80);
     store64(a6, v272);
     v21 = 9u; goto L51;
@@ -43480,18 +42958,18 @@ u32 portable_ptpm_clock_handle_shared(address a0, u16 a1, address a2, u64 a3, ad
     u64 v40, v41, v42, v43, v45, v46, v60, v63, v78, v80, v83, v86, v87, v91, v97, v98;
     u64 v101, v102, v103, v105, v125, v144, v145, v148, v149, v150, v152, v168, v169, v170, v171, v188;
     u64 v198, v207, v210, v227, v244, v245, v251, v253, v266, v267, v311, v314, v319, v321, v323, v332;
-    u64 v336, v337, v338, v343, v347, v352, v362, v372, v377, v385, v390, v395, v417, v419, v420, v427;
-    u64 v469, v470, v480, v482, v484, v488, v489, v490, v491, v493, v494, v496, v497, v501, v502, v503;
-    u64 v505, v509, v511, v512, v513, v514, v520, v521, v522, v523;
+    u64 v336, v337, v338, v343, v347, v352, v373, v380, v385, v390, v412, v414, v415, v422, v464, v465;
+    u64 v475, v477, v479, v483, v484, v485, v486, v488, v489, v491, v492, v496, v497, v498, v500, v504;
+    u64 v506, v507, v508, v509, v515, v516, v517, v518;
     u8 v10, v11, v12, v13, v14, v30, v33, v35, v44, v59, v62, v67, v68, v70, v71, v74;
     u8 v76, v77, v82, v88, v92, v96, v104, v106, v109, v110, v111, v112, v114, v115, v116, v118;
     u8 v120, v126, v128, v129, v131, v133, v138, v140, v141, v143, v147, v151, v153, v154, v155, v156;
     u8 v157, v159, v160, v162, v164, v166, v167, v176, v178, v179, v180, v182, v184, v185, v186, v190;
     u8 v192, v200, v202, v208, v212, v214, v219, v220, v221, v222, v224, v226, v236, v238, v243, v247;
     u8 v249, v265, v268, v270, v272, v283, v285, v307, v312, v317, v320, v322, v330, v333, v334, v335;
-    u8 v339, v342, v344, v348, v354, v355, v357, v363, v369, v370, v373, v378, v381, v383, v386, v393;
-    u8 v396, v397, v399, v400, v401, v404, v409, v410, v418, v422, v424, v439, v441, v445, v447, v471;
-    u8 v473, v474, v475, v476, v483, v487, v495, v498, v504, v508, v515, v517, v519, v524, v525, v526;
+    u8 v339, v342, v344, v348, v354, v355, v357, v367, v368, v374, v376, v378, v381, v388, v391, v392;
+    u8 v394, v395, v396, v399, v404, v405, v413, v417, v419, v434, v436, v440, v442, v466, v468, v469;
+    u8 v470, v471, v478, v482, v490, v493, v499, v503, v510, v512, v514, v519, v520, v521;
     address v15, v21, v23, v24, v32, v39, v48, v49, v50, v51, v52, v53, v54, v55, v56, v57;
     address v58, v61, v64, v65, v66, v69, v72, v73, v75, v79, v84, v89, v90, v93, v94, v95;
     address v99, v100, v107, v108, v113, v117, v119, v130, v132, v139, v142, v146, v158, v161, v163, v165;
@@ -43500,16 +42978,16 @@ u32 portable_ptpm_clock_handle_shared(address a0, u16 a1, address a2, u64 a3, ad
     address v269, v271, v273, v274, v275, v276, v277, v278, v279, v280, v281, v282, v286, v287, v288, v290;
     address v292, v294, v295, v296, v298, v299, v304, v306, v308, v309, v310, v313, v315, v318, v324, v325;
     address v326, v327, v328, v329, v331, v340, v341, v345, v346, v349, v350, v353, v356, v358, v359, v360;
-    address v361, v364, v365, v366, v367, v368, v371, v374, v375, v376, v379, v380, v382, v384, v387, v388;
-    address v389, v391, v394, v398, v405, v406, v407, v408, v411, v412, v413, v414, v415, v416, v421, v423;
-    address v425, v426, v432, v433, v434, v435, v436, v437, v438, v440, v442, v443, v444, v448, v449, v450;
-    address v452, v454, v456, v457, v458, v460, v461, v466, v468, v472, v477, v478, v479, v485, v486, v492;
-    address v499, v500, v506, v507, v510, v516, v518, v527, v528;
+    address v361, v362, v363, v364, v365, v366, v369, v370, v371, v372, v375, v377, v379, v382, v383, v384;
+    address v386, v389, v393, v400, v401, v402, v403, v406, v407, v408, v409, v410, v411, v416, v418, v420;
+    address v421, v427, v428, v429, v430, v431, v432, v433, v435, v437, v438, v439, v443, v444, v445, v447;
+    address v449, v451, v452, v453, v455, v456, v461, v463, v467, v472, v473, v474, v480, v481, v487, v494;
+    address v495, v501, v502, v505, v511, v513, v522, v523;
     u16 v19, v25, v26, v81, v85, v121, v122, v123, v124, v127, v134, v135, v136, v137, v193, v194;
     u16 v195, v196, v203, v204, v205, v215, v216, v217, v218, v228, v229, v230, v231, v232, v233, v239;
-    u16 v240, v241, v242, v254, v255, v256, v257, v289, v291, v293, v297, v305, v316, v351, v392, v402;
-    u16 v403, v428, v429, v430, v431, v451, v453, v455, v459, v467, v481;
-    u32 v47, v284, v300, v301, v302, v303, v446, v462, v463, v464, v465, v529, v530, v531;
+    u16 v240, v241, v242, v254, v255, v256, v257, v289, v291, v293, v297, v305, v316, v351, v387, v397;
+    u16 v398, v423, v424, v425, v426, v446, v448, v450, v454, v462, v476;
+    u32 v47, v284, v300, v301, v302, v303, v441, v457, v458, v459, v460, v524, v525, v526;
     struct s1 v264;
     u64 block0[3];
     u64 block1[9];
@@ -43546,20 +43024,20 @@ u32 portable_ptpm_clock_handle_shared(address a0, u16 a1, address a2, u64 a3, ad
     v67 = load8(v66);
     v68 = (u8)((v67) & UINT64_C(1));
     if (v68) { goto L1; }
-    else { v47 = 32u; goto L111; }
+    else { v47 = 32u; goto L107; }
 L1:;
     v69 = load_address(a0);
     v70 = load8(v69);
     v71 = v70 == 1u;
     if (v71) { goto L2; }
-    else { v47 = 32u; goto L111; }
+    else { v47 = 32u; goto L107; }
 L2:;
     v72 = v69 + 8u * 1u;
     v73 = load_address(v72);
     memory_set(a6, 0u, 24u);
     memory_set(v58, 0u, 24u);
     v74 = a1 == 0u;
-    if (v74) { goto L110; }
+    if (v74) { goto L106; }
     else { goto L3; }
 L3:;
     v75 = v73 + 240u * 1u;
@@ -43570,7 +43048,7 @@ L3:;
     v80 = load64(v79);
     v81 = (u16)(v80);
     v82 = a1 > v81;
-    if (v82) { goto L110; }
+    if (v82) { goto L106; }
     else { goto L4; }
 L4:;
     v83 = (u64)((u64)v80 & (u64)65535u);
@@ -43612,7 +43090,7 @@ L8:;
     v9 = v105; goto L9;
 L9:;
     v106 = v9 > a5;
-    if (v106) { goto L109; }
+    if (v106) { goto L105; }
     else { goto L10; }
 L10:;
     store_address(v58, v64);
@@ -43723,7 +43201,7 @@ L18:;
     v179 = (u8)((u32)v178 | (u32)v176);
     v180 = v179 == 0u;
     if (v180) { goto L19; }
-    else { v35 = 1u; goto L88; }
+    else { v35 = 1u; goto L84; }
 L19:;
     v181 = v61 + 4u * 1u;
     v182 = load8(v181);
@@ -43735,7 +43213,7 @@ L19:;
 L20:;
     v186 = f39(v73, v56);
     if (v186) { goto L21; }
-    else { v35 = 1u; goto L88; }
+    else { v35 = 1u; goto L84; }
 L21:;
     v187 = v61 + 20u * 1u;
     v188 = load64(v187);
@@ -43747,7 +43225,7 @@ L21:;
     v194 = (u16)((u32)v193 << (8u & 15u));
     v195 = (u16)v192;
     v196 = (u16)((u32)v194 | (u32)v195);
-    v19 = v196; v20 = v188; goto L69;
+    v19 = v196; v20 = v188; goto L65;
 L22:;
     v197 = v61 + 20u * 1u;
     v198 = load64(v197);
@@ -43761,7 +43239,7 @@ L22:;
     v206 = v73 + 384u * 1u;
     v207 = load64(v206);
     v208 = v198 == v207;
-    if (v208) { v35 = 2u; goto L88; }
+    if (v208) { v35 = 2u; goto L84; }
     else { goto L23; }
 L23:;
     v209 = v61 + 34u * 1u;
@@ -43778,21 +43256,21 @@ L23:;
     v220 = v210 == UINT64_C(18446744073709551615);
     v221 = (u8)(((u32)v220 | (u32)v219) & UINT64_C(1));
     if (v221) { goto L24; }
-    else { v28 = v210; v29 = v207; v30 = 3u; goto L80; }
+    else { v28 = v210; v29 = v207; v30 = 3u; goto L76; }
 L24:;
     switch (v218) {
     case 65535u: goto L26;
-    case 0u: v28 = v210; v29 = v207; v30 = 3u; goto L80;
+    case 0u: v28 = v210; v29 = v207; v30 = 3u; goto L76;
     default: goto L25;
     }
 L25:;
     v222 = v218 > v81;
-    if (v222) { v28 = v210; v29 = v207; v30 = 3u; goto L80; }
+    if (v222) { v28 = v210; v29 = v207; v30 = 3u; goto L76; }
     else { goto L26; }
 L26:;
     switch (v13) {
-    case 2u: v28 = v210; v29 = v207; v30 = 4u; goto L80;
-    case 4u: v28 = v210; v29 = v207; v30 = 4u; goto L80;
+    case 2u: v28 = v210; v29 = v207; v30 = 4u; goto L76;
+    case 4u: v28 = v210; v29 = v207; v30 = 4u; goto L76;
     case 0u: goto L28;
     case 1u: goto L28;
     case 3u: goto L28;
@@ -43814,7 +43292,7 @@ L29:;
     v230 = (u16)((u32)v229 << (8u & 15u));
     v231 = (u16)v226;
     v232 = (u16)((u32)v230 | (u32)v231);
-    v25 = v232; v26 = v228; v27 = v227; goto L79;
+    v25 = v232; v26 = v228; v27 = v227; goto L75;
 L30:;
     v233 = (u16)((u32)v204 | (u32)v205);
     store64(v53, v198);
@@ -43859,21 +43337,21 @@ L30:;
     v264 = f41(v206, v53, v242, v54);
     v265 = v264.m0;
     switch (v265) {
-    case 0u: v25 = v242; v26 = v233; v27 = v251; goto L79;
+    case 0u: v25 = v242; v26 = v233; v27 = v251; goto L75;
     case 1u: goto L34;
-    case 2u: v19 = v233; v20 = v198; goto L69;
-    case 3u: v35 = 8u; goto L88;
+    case 2u: v19 = v233; v20 = v198; goto L65;
+    case 3u: v35 = 8u; goto L84;
     case 4u: goto L31;
     default: goto L32;
     }
 L31:;
-    v35 = 7u; goto L88;
+    v35 = 7u; goto L84;
 L32:;
     UNREACHABLE;
 L33:;
     v266 = (u64)v159;
     v267 = (u64)((u64)v266 << (8u & 63u));
-    v33 = 0u; v34 = v267; goto L87;
+    v33 = 0u; v34 = v267; goto L83;
 L34:;
     v268 = v264.m1;
     v269 = v61 + 44u * 1u;
@@ -43938,14 +43416,14 @@ L34:;
     v305 = swap16(v257);
     v306 = v51 + 52u * 1u;
     store16(v306, v305);
-    f67(v73, v50, v268, v51);
+    f66(v73, v50, v268, v51);
     v307 = load8(v281);
     v308 = v73 + 392u * 1u;
     v309 = load_address(v308);
     v310 = v73 + 400u * 1u;
     v311 = load64(v310);
     v312 = v311 == 0u;
-    if (v312) { goto L68; }
+    if (v312) { goto L64; }
     else { v15 = v309; v16 = v311; v17 = 0u; goto L35; }
 L35:;
     v313 = v15 + 2144u * 1u;
@@ -43964,7 +43442,7 @@ L36:;
 L37:;
     v321 = (u64)((u64)v17 + (u64)1u);
     v322 = v314 == 0u;
-    if (v322) { goto L68; }
+    if (v322) { goto L64; }
     else { v15 = v313; v16 = v314; v17 = v321; goto L35; }
 L38:;
     v323 = (u64)((u64)v17 * (u64)2144u);
@@ -44019,7 +43497,7 @@ L44:;
     v347 = load64(v108);
     v348 = v347 == 1u;
     if (v348) { goto L45; }
-    else { goto L59; }
+    else { goto L58; }
 L45:;
     v349 = load_address(v58);
     v350 = v349 + 2u * 1u;
@@ -44031,7 +43509,7 @@ L45:;
     v356 = v324 + 1440u * 1u;
     v357 = (u8)(v351);
     if (v355) { goto L46; }
-    else { goto L53; }
+    else { goto L52; }
 L46:;
     v358 = v324 + 1456u * 1u;
     v359 = v324 + 1441u * 1u;
@@ -44039,414 +43517,396 @@ L46:;
     v360 = v324 + 1448u * 1u;
     store8(v356, v357);
     store64(v360, 1u);
-    v361 = v324 + 2096u * 1u;
-    v362 = load64(v361);
-    v363 = v362 == v352;
-    if (v363) { goto L47; }
-    else { goto L52; }
+    switch (v351) {
+    case 54u: goto L47;
+    case 56u: goto L48;
+    case 80u: goto L49;
+    default: goto L50;
+    }
 L47:;
-    switch (v351) {
-    case 54u: goto L48;
-    case 56u: goto L49;
-    case 80u: goto L50;
-    default: goto L51;
-    }
-L48:;
     memory_move(v358, v353, 54u);
-    goto L68;
-L49:;
+    goto L51;
+L48:;
     memory_move(v358, v353, 56u);
-    goto L68;
-L50:;
+    goto L51;
+L49:;
     memory_move(v358, v353, 80u);
-    goto L68;
-L51:;
+    goto L51;
+L50:;
     f44(v358, v353, v352);
-    goto L68;
+    goto L51;
+L51:;
+    v361 = v324 + 2096u * 1u;
+    store64(v361, v352);
+    goto L64;
 L52:;
-    f45(v358, v353, v352);
-    goto L68;
-L53:;
-    v364 = v324 + 1464u * 1u;
-    v365 = v324 + 1488u * 1u;
-    v366 = v324 + 1448u * 1u;
-    v367 = load_address(v356);
-    store8(v367, v357);
-    store64(v366, 1u);
-    v368 = load_address(v364);
+    v362 = v324 + 1464u * 1u;
+    v363 = v324 + 1488u * 1u;
+    v364 = v324 + 1448u * 1u;
+    v365 = load_address(v356);
+    store8(v365, v357);
+    store64(v364, 1u);
+    v366 = load_address(v362);
     switch (v351) {
-    case 54u: goto L54;
-    case 56u: goto L55;
-    case 80u: goto L56;
-    default: goto L57;
+    case 54u: goto L53;
+    case 56u: goto L54;
+    case 80u: goto L55;
+    default: goto L56;
     }
+L53:;
+    memory_move(v366, v353, 54u);
+    goto L57;
 L54:;
-    memory_move(v368, v353, 54u);
-    goto L58;
+    memory_move(v366, v353, 56u);
+    goto L57;
 L55:;
-    memory_move(v368, v353, 56u);
-    goto L58;
+    memory_move(v366, v353, 80u);
+    goto L57;
 L56:;
-    memory_move(v368, v353, 80u);
-    goto L58;
+    f44(v366, v353, v352);
+    goto L57;
 L57:;
-    f44(v368, v353, v352);
-    goto L58;
+    store64(v363, v352);
+    goto L64;
 L58:;
-    store64(v365, v352);
-    goto L68;
+    v367 = load8(v346);
+    v368 = v367 == 0u;
+    if (v368) { goto L59; }
+    else { goto L60; }
 L59:;
-    v369 = load8(v346);
-    v370 = v369 == 0u;
-    v371 = v324 + 1448u * 1u;
-    v372 = load64(v371);
-    v373 = v372 == 0u;
-    if (v370) { goto L60; }
-    else { goto L64; }
+    v369 = v324 + 1440u * 1u;
+    memory_set(v369, 0u, 16u);
+    v370 = v324 + 2096u * 1u;
+    store64(v370, 0u);
+    goto L63;
 L60:;
-    v374 = v324 + 1456u * 1u;
-    if (v373) { goto L62; }
+    v371 = v324 + 1488u * 1u;
+    v372 = v324 + 1448u * 1u;
+    v373 = load64(v372);
+    v374 = v373 == 0u;
+    if (v374) { goto L62; }
     else { goto L61; }
 L61:;
-    v375 = v324 + 1440u * 1u;
-    memory_set(v375, 0u, v372);
-    store64(v371, 0u);
+    store64(v372, 0u);
     goto L62;
 L62:;
-    v376 = v324 + 2096u * 1u;
-    v377 = load64(v376);
-    v378 = v377 == 0u;
-    if (v378) { goto L67; }
-    else { goto L63; }
-L63:;
-    memory_set(v374, 0u, v377);
-    store64(v376, 0u);
-    goto L67;
-L64:;
-    v379 = v324 + 1488u * 1u;
-    if (v373) { goto L66; }
-    else { goto L65; }
-L65:;
     store64(v371, 0u);
-    goto L66;
+    goto L63;
+L63:;
+    f69(v58, v346);
+    goto L64;
+L64:;
+    v33 = 5u; v34 = 0u; goto L83;
+L65:;
+    v375 = v61 + 44u * 1u;
+    v376 = load8(v375);
+    v377 = v61 + 45u * 1u;
+    v378 = load8(v377);
+    v379 = v73 + 400u * 1u;
+    v380 = load64(v379);
+    v381 = v380 == 0u;
+    if (v381) { goto L70; }
+    else { goto L66; }
 L66:;
-    store64(v379, 0u);
-    goto L67;
+    v382 = v73 + 392u * 1u;
+    v383 = load_address(v382);
+    v21 = v383; v22 = v380; goto L67;
 L67:;
-    f70(v58, v346);
-    goto L68;
+    v384 = v21 + 2144u * 1u;
+    v385 = (u64)((u64)v22 + (u64)UINT64_C(18446744073709551615));
+    v386 = v21 + 2120u * 1u;
+    v387 = load16(v386);
+    v388 = v19 == v387;
+    if (v388) { goto L68; }
+    else { goto L69; }
 L68:;
-    v33 = 5u; v34 = 0u; goto L87;
+    v389 = v21 + 2112u * 1u;
+    v390 = load64(v389);
+    v391 = v20 == v390;
+    if (v391) { goto L71; }
+    else { goto L69; }
 L69:;
-    v380 = v61 + 44u * 1u;
-    v381 = load8(v380);
-    v382 = v61 + 45u * 1u;
-    v383 = load8(v382);
-    v384 = v73 + 400u * 1u;
-    v385 = load64(v384);
-    v386 = v385 == 0u;
-    if (v386) { goto L74; }
-    else { goto L70; }
+    v392 = v385 == 0u;
+    if (v392) { goto L70; }
+    else { v21 = v384; v22 = v385; goto L67; }
 L70:;
-    v387 = v73 + 392u * 1u;
-    v388 = load_address(v387);
-    v21 = v388; v22 = v385; goto L71;
-L71:;
-    v389 = v21 + 2144u * 1u;
-    v390 = (u64)((u64)v22 + (u64)UINT64_C(18446744073709551615));
-    v391 = v21 + 2120u * 1u;
-    v392 = load16(v391);
-    v393 = v19 == v392;
-    if (v393) { goto L72; }
-    else { goto L73; }
-L72:;
-    v394 = v21 + 2112u * 1u;
-    v395 = load64(v394);
-    v396 = v20 == v395;
-    if (v396) { goto L75; }
-    else { goto L73; }
-L73:;
-    v397 = v390 == 0u;
-    if (v397) { goto L74; }
-    else { v21 = v389; v22 = v390; goto L71; }
-L74:;
     TRAP;
     UNREACHABLE;
-L75:;
+L71:;
     store64(v52, 0u);
-    v398 = v21 + 2129u * 1u;
-    v399 = load8(v398);
-    v400 = (u8)((v399) & UINT64_C(1));
-    v401 = (u8)(((u32)v400 ^ (u32)1u) & UINT64_C(1));
-    v402 = v400 ? 0u : a1;
-    v403 = (u16)v401;
-    v404 = v381 > v383 ? (u8)((u32)v381 - (u32)v383) : 0u;
+    v393 = v21 + 2129u * 1u;
+    v394 = load8(v393);
+    v395 = (u8)((v394) & UINT64_C(1));
+    v396 = (u8)(((u32)v395 ^ (u32)1u) & UINT64_C(1));
+    v397 = v395 ? 0u : a1;
+    v398 = (u16)v396;
+    v399 = v376 > v378 ? (u8)((u32)v376 - (u32)v378) : 0u;
     store8(v52, v182);
-    v405 = v52 + 2u * 1u;
-    store16(v405, v403);
-    v406 = v52 + 4u * 1u;
-    store16(v406, v402);
-    v407 = v52 + 6u * 1u;
-    store8(v407, v404);
-    v408 = v21 + 1432u * 1u;
-    v409 = load8(v408);
-    v410 = v409 == 0u;
-    v411 = v21 + 1440u * 1u;
-    if (v410) { goto L76; }
-    else { goto L77; }
-L76:;
-    v412 = v21 + 1456u * 1u;
-    v23 = v411; v24 = v412; goto L78;
-L77:;
-    v413 = load_address(v411);
-    v414 = v21 + 1464u * 1u;
-    v415 = load_address(v414);
-    v23 = v413; v24 = v415; goto L78;
-L78:;
-    v416 = v21 + 1448u * 1u;
-    v417 = load64(v416);
-    f71(v23, v417, v24, v52, a1, v58);
-    v33 = 6u; v34 = 0u; goto L87;
-L79:;
-    v418 = v14 == 0u;
-    v419 = v418 ? 52u : 54u;
-    v420 = v418 ? 53u : 55u;
-    v421 = v61 + v419 * 1u;
-    v422 = load8(v421);
-    v423 = v61 + v420 * 1u;
-    v424 = load8(v423);
-    v425 = v61 + 54u * 1u;
-    v426 = v418 ? v425 : ADDRESS(c155);
-    v427 = v418 ? v27 : 0u;
-    v428 = (u16)v422;
-    v429 = (u16)((u32)v428 << (8u & 15u));
-    v430 = (u16)v424;
-    v431 = (u16)((u32)v429 | (u32)v430);
+    v400 = v52 + 2u * 1u;
+    store16(v400, v398);
+    v401 = v52 + 4u * 1u;
+    store16(v401, v397);
+    v402 = v52 + 6u * 1u;
+    store8(v402, v399);
+    v403 = v21 + 1432u * 1u;
+    v404 = load8(v403);
+    v405 = v404 == 0u;
+    v406 = v21 + 1440u * 1u;
+    if (v405) { goto L72; }
+    else { goto L73; }
+L72:;
+    v407 = v21 + 1456u * 1u;
+    v23 = v406; v24 = v407; goto L74;
+L73:;
+    v408 = load_address(v406);
+    v409 = v21 + 1464u * 1u;
+    v410 = load_address(v409);
+    v23 = v408; v24 = v410; goto L74;
+L74:;
+    v411 = v21 + 1448u * 1u;
+    v412 = load64(v411);
+    f70(v23, v412, v24, v52, a1, v58);
+    v33 = 6u; v34 = 0u; goto L83;
+L75:;
+    v413 = v14 == 0u;
+    v414 = v413 ? 52u : 54u;
+    v415 = v413 ? 53u : 55u;
+    v416 = v61 + v414 * 1u;
+    v417 = load8(v416);
+    v418 = v61 + v415 * 1u;
+    v419 = load8(v418);
+    v420 = v61 + 54u * 1u;
+    v421 = v413 ? v420 : ADDRESS(c155);
+    v422 = v413 ? v27 : 0u;
+    v423 = (u16)v417;
+    v424 = (u16)((u32)v423 << (8u & 15u));
+    v425 = (u16)v419;
+    v426 = (u16)((u32)v424 | (u32)v425);
     store8(v48, v13);
-    v432 = v48 + 1u * 1u;
-    store8(v432, 0u);
-    v433 = v48 + 2u * 1u;
-    store16(v433, v431);
-    v434 = v48 + 4u * 1u;
-    store16(v434, v218);
-    v435 = v48 + 6u * 1u;
-    store16(v435, 0u);
-    v436 = v48 + 8u * 1u;
-    store_address(v436, v426);
-    v437 = v48 + 16u * 1u;
-    store64(v437, v427);
-    v438 = v61 + 44u * 1u;
-    v439 = load8(v438);
-    v440 = v61 + 45u * 1u;
-    v441 = load8(v440);
-    v442 = v49 + 54u * 1u;
-    v443 = v49 + 56u * 1u;
-    v444 = v49 + 64u * 1u;
+    v427 = v48 + 1u * 1u;
+    store8(v427, 0u);
+    v428 = v48 + 2u * 1u;
+    store16(v428, v426);
+    v429 = v48 + 4u * 1u;
+    store16(v429, v218);
+    v430 = v48 + 6u * 1u;
+    store16(v430, 0u);
+    v431 = v48 + 8u * 1u;
+    store_address(v431, v421);
+    v432 = v48 + 16u * 1u;
+    store64(v432, v422);
+    v433 = v61 + 44u * 1u;
+    v434 = load8(v433);
+    v435 = v61 + 45u * 1u;
+    v436 = load8(v435);
+    v437 = v49 + 54u * 1u;
+    v438 = v49 + 56u * 1u;
+    v439 = v49 + 64u * 1u;
     memory_set(v49, 0u, 64u);
-    store_address(v444, v58);
-    v445 = v13 > 2u;
-    v446 = v445 ? UINT32_C(262144) : UINT32_C(131072);
-    v447 = v439 > v441 ? (u8)((u32)v439 - (u32)v441) : 0u;
-    store16(v442, v431);
-    store16(v443, a1);
-    v448 = v49 + 48u * 1u;
+    store_address(v439, v58);
+    v440 = v13 > 2u;
+    v441 = v440 ? UINT32_C(262144) : UINT32_C(131072);
+    v442 = v434 > v436 ? (u8)((u32)v434 - (u32)v436) : 0u;
+    store16(v437, v426);
+    store16(v438, a1);
+    v443 = v49 + 48u * 1u;
     store16(v49, 4621u);
-    v449 = v49 + 2u * 1u;
-    store16(v449, 13824u);
-    v450 = v49 + 4u * 1u;
-    v451 = (u16)v182;
-    store16(v450, v451);
-    v452 = v49 + 20u * 1u;
-    store64(v452, v207);
-    v453 = swap16(a1);
-    v454 = v49 + 28u * 1u;
-    store16(v454, v453);
-    v455 = swap16(v25);
-    v456 = v49 + 30u * 1u;
-    store16(v456, v455);
-    v457 = v49 + 32u * 1u;
-    store16(v457, 32516u);
-    v458 = v49 + 34u * 1u;
-    store64(v458, v198);
-    v459 = swap16(v26);
-    v460 = v49 + 42u * 1u;
-    store16(v460, v459);
-    v461 = v49 + 44u * 1u;
-    v462 = (u32)v447;
-    v463 = (u32)((u32)v462 << (8u & 31u));
-    v464 = (u32)((u32)v463 | (u32)v446);
-    v465 = (u32)((u32)v464 | (u32)v462);
-    store32(v461, v465);
-    store16(v448, 256u);
-    v466 = v49 + 50u * 1u;
-    store16(v466, 512u);
-    v467 = swap16(v431);
-    v468 = v49 + 52u * 1u;
-    store16(v468, v467);
-    f72(v73, v48, v49);
-    v469 = load64(v206);
-    v470 = load64(v209);
-    v28 = v470; v29 = v469; v30 = 9u; goto L80;
+    v444 = v49 + 2u * 1u;
+    store16(v444, 13824u);
+    v445 = v49 + 4u * 1u;
+    v446 = (u16)v182;
+    store16(v445, v446);
+    v447 = v49 + 20u * 1u;
+    store64(v447, v207);
+    v448 = swap16(a1);
+    v449 = v49 + 28u * 1u;
+    store16(v449, v448);
+    v450 = swap16(v25);
+    v451 = v49 + 30u * 1u;
+    store16(v451, v450);
+    v452 = v49 + 32u * 1u;
+    store16(v452, 32516u);
+    v453 = v49 + 34u * 1u;
+    store64(v453, v198);
+    v454 = swap16(v26);
+    v455 = v49 + 42u * 1u;
+    store16(v455, v454);
+    v456 = v49 + 44u * 1u;
+    v457 = (u32)v442;
+    v458 = (u32)((u32)v457 << (8u & 31u));
+    v459 = (u32)((u32)v458 | (u32)v441);
+    v460 = (u32)((u32)v459 | (u32)v457);
+    store32(v456, v460);
+    store16(v443, 256u);
+    v461 = v49 + 50u * 1u;
+    store16(v461, 512u);
+    v462 = swap16(v426);
+    v463 = v49 + 52u * 1u;
+    store16(v463, v462);
+    f71(v73, v48, v49);
+    v464 = load64(v206);
+    v465 = load64(v209);
+    v28 = v465; v29 = v464; v30 = 9u; goto L76;
+L76:;
+    v466 = v28 == v29;
+    if (v466) { v35 = v30; goto L84; }
+    else { goto L77; }
+L77:;
+    v467 = v61 + 45u * 1u;
+    v468 = load8(v467);
+    v469 = v468 == 0u;
+    if (v469) { v35 = v30; goto L84; }
+    else { goto L78; }
+L78:;
+    v470 = load8(v75);
+    v471 = v470 == 0u;
+    v472 = v73 + 248u * 1u;
+    if (v471) { v31 = 376u; v32 = v472; goto L80; }
+    else { goto L79; }
+L79:;
+    v473 = load_address(v472);
+    v31 = 256u; v32 = v473; goto L80;
 L80:;
-    v471 = v28 == v29;
-    if (v471) { v35 = v30; goto L88; }
-    else { goto L81; }
+    v474 = v73 + v31 * 1u;
+    v475 = load64(v474);
+    v476 = (u16)((u32)a1 + (u32)65535u);
+    v477 = (u64)v476;
+    v478 = v475 > v477;
+    if (v478) { goto L81; }
+    else { v35 = v30; goto L84; }
 L81:;
-    v472 = v61 + 45u * 1u;
-    v473 = load8(v472);
-    v474 = v473 == 0u;
-    if (v474) { v35 = v30; goto L88; }
-    else { goto L82; }
+    v479 = (u64)((u64)v477 << (4u & 63u));
+    v480 = v32 + v479 * 1u;
+    v481 = v480 + 8u * 1u;
+    v482 = load8(v481);
+    switch (v482) {
+    case 4u: goto L85;
+    case 5u: goto L85;
+    case 7u: goto L85;
+    case 8u: goto L85;
+    case 0u: v35 = v30; goto L84;
+    case 1u: v35 = v30; goto L84;
+    case 2u: v35 = v30; goto L84;
+    case 3u: v35 = v30; goto L84;
+    case 6u: v35 = v30; goto L84;
+    default: goto L82;
+    }
 L82:;
-    v475 = load8(v75);
-    v476 = v475 == 0u;
-    v477 = v73 + 248u * 1u;
-    if (v476) { v31 = 376u; v32 = v477; goto L84; }
-    else { goto L83; }
+    UNREACHABLE;
 L83:;
-    v478 = load_address(v477);
-    v31 = 256u; v32 = v478; goto L84;
+    v483 = load64(v108);
+    v42 = v483; v43 = v34; v44 = v33; v45 = 0u; v46 = 0u; goto L94;
 L84:;
-    v479 = v73 + v31 * 1u;
-    v480 = load64(v479);
-    v481 = (u16)((u32)a1 + (u32)65535u);
-    v482 = (u64)v481;
-    v483 = v480 > v482;
-    if (v483) { goto L85; }
-    else { v35 = v30; goto L88; }
+    v484 = load64(v108);
+    v42 = v484; v43 = 0u; v44 = v35; v45 = 0u; v46 = 0u; goto L94;
 L85:;
-    v484 = (u64)((u64)v482 << (4u & 63u));
-    v485 = v32 + v484 * 1u;
-    v486 = v485 + 8u * 1u;
-    v487 = load8(v486);
-    switch (v487) {
-    case 4u: goto L89;
-    case 5u: goto L89;
-    case 7u: goto L89;
-    case 8u: goto L89;
-    case 0u: v35 = v30; goto L88;
-    case 1u: v35 = v30; goto L88;
-    case 2u: v35 = v30; goto L88;
-    case 3u: v35 = v30; goto L88;
-    case 6u: v35 = v30; goto L88;
-    default: goto L86;
-    }
+    v485 = load64(v108);
+    v486 = v471 ? 376u : 256u;
+    v487 = v73 + v486 * 1u;
+    v488 = load64(v487);
+    v489 = (u64)((u64)v488 & (u64)65535u);
+    v490 = v489 == 0u;
+    if (v490) { v41 = 0u; goto L93; }
+    else { goto L86; }
 L86:;
-    UNREACHABLE;
+    v491 = (u64)a1;
+    v36 = 0u; v37 = 0u; goto L87;
 L87:;
-    v488 = load64(v108);
-    v42 = v488; v43 = v34; v44 = v33; v45 = 0u; v46 = 0u; goto L98;
+    v492 = (u64)((u64)v489 - (u64)v36);
+    v493 = v492 == v491;
+    if (v493) { v40 = 0u; goto L92; }
+    else { goto L88; }
 L88:;
-    v489 = load64(v108);
-    v42 = v489; v43 = 0u; v44 = v35; v45 = 0u; v46 = 0u; goto L98;
+    if (v471) { v38 = 376u; v39 = v472; goto L90; }
+    else { goto L89; }
 L89:;
-    v490 = load64(v108);
-    v491 = v476 ? 376u : 256u;
-    v492 = v73 + v491 * 1u;
-    v493 = load64(v492);
-    v494 = (u64)((u64)v493 & (u64)65535u);
-    v495 = v494 == 0u;
-    if (v495) { v41 = 0u; goto L97; }
-    else { goto L90; }
+    v494 = load_address(v472);
+    v38 = 256u; v39 = v494; goto L90;
 L90:;
-    v496 = (u64)a1;
-    v36 = 0u; v37 = 0u; goto L91;
+    v495 = v73 + v38 * 1u;
+    v496 = load64(v495);
+    v497 = (u64)((u64)v492 + (u64)65535u);
+    v498 = (u64)((u64)v497 & (u64)65535u);
+    v499 = v496 > v498;
+    if (v499) { goto L91; }
+    else { v40 = 0u; goto L92; }
 L91:;
-    v497 = (u64)((u64)v494 - (u64)v36);
-    v498 = v497 == v496;
-    if (v498) { v40 = 0u; goto L96; }
-    else { goto L92; }
+    v500 = (u64)((u64)v498 << (4u & 63u));
+    v501 = v39 + v500 * 1u;
+    v502 = v501 + 8u * 1u;
+    v503 = load8(v502);
+    v504 = (u64)v503;
+    v505 = ADDRESS(c364) + v504 * 8u;
+    v506 = load64(v505);
+    v40 = v506; goto L92;
 L92:;
-    if (v476) { v38 = 376u; v39 = v477; goto L94; }
-    else { goto L93; }
+    v507 = (u64)((u64)v37 << (1u & 63u));
+    v508 = (u64)((u64)v40 | (u64)v507);
+    v509 = (u64)((u64)v36 + (u64)1u);
+    v510 = v509 == v489;
+    if (v510) { v41 = v508; goto L93; }
+    else { v36 = v509; v37 = v508; goto L87; }
 L93:;
-    v499 = load_address(v477);
-    v38 = 256u; v39 = v499; goto L94;
+    v511 = v61 + 2u * 1u;
+    v512 = load8(v511);
+    v513 = v61 + 3u * 1u;
+    v514 = load8(v513);
+    v515 = (u64)v512;
+    v516 = (u64)((u64)v515 << (8u & 63u));
+    v517 = (u64)v514;
+    v518 = (u64)((u64)v516 | (u64)v517);
+    v519 = v468 > 1u ? (u8)((u32)v468 - (u32)1u) : 0u;
+    store8(v467, v519);
+    v42 = v485; v43 = 0u; v44 = v30; v45 = v518; v46 = v41; goto L94;
 L94:;
-    v500 = v73 + v38 * 1u;
-    v501 = load64(v500);
-    v502 = (u64)((u64)v497 + (u64)65535u);
-    v503 = (u64)((u64)v502 & (u64)65535u);
-    v504 = v501 > v503;
-    if (v504) { goto L95; }
-    else { v40 = 0u; goto L96; }
-L95:;
-    v505 = (u64)((u64)v503 << (4u & 63u));
-    v506 = v39 + v505 * 1u;
-    v507 = v506 + 8u * 1u;
-    v508 = load8(v507);
-    v509 = (u64)v508;
-    v510 = ADDRESS(c364) + v509 * 8u;
-    v511 = load64(v510);
-    v40 = v511; goto L96;
-L96:;
-    v512 = (u64)((u64)v37 << (1u & 63u));
-    v513 = (u64)((u64)v40 | (u64)v512);
-    v514 = (u64)((u64)v36 + (u64)1u);
-    v515 = v514 == v494;
-    if (v515) { v41 = v513; goto L97; }
-    else { v36 = v514; v37 = v513; goto L91; }
-L97:;
-    v516 = v61 + 2u * 1u;
-    v517 = load8(v516);
-    v518 = v61 + 3u * 1u;
-    v519 = load8(v518);
-    v520 = (u64)v517;
-    v521 = (u64)((u64)v520 << (8u & 63u));
-    v522 = (u64)v519;
-    v523 = (u64)((u64)v521 | (u64)v522);
-    v524 = v473 > 1u ? (u8)((u32)v473 - (u32)1u) : 0u;
-    store8(v472, v524);
-    v42 = v490; v43 = 0u; v44 = v30; v45 = v523; v46 = v41; goto L98;
-L98:;
-    v525 = (u8)(v43);
-    v526 = (u8)((u32)v44 | (u32)v525);
+    v520 = (u8)(v43);
+    v521 = (u8)((u32)v44 | (u32)v520);
     store64(a6, v46);
-    v527 = a6 + 8u * 1u;
-    store64(v527, v45);
-    v528 = a6 + 16u * 1u;
-    store64(v528, v42);
-    switch (v526) {
-    case 0u: goto L99;
-    case 9u: goto L107;
-    case 1u: v47 = 1u; goto L111;
-    case 2u: goto L100;
-    case 3u: goto L101;
-    case 4u: goto L102;
-    case 5u: goto L103;
-    case 6u: goto L104;
-    case 7u: goto L105;
-    case 8u: goto L106;
-    default: goto L108;
+    v522 = a6 + 8u * 1u;
+    store64(v522, v45);
+    v523 = a6 + 16u * 1u;
+    store64(v523, v42);
+    switch (v521) {
+    case 0u: goto L95;
+    case 9u: goto L103;
+    case 1u: v47 = 1u; goto L107;
+    case 2u: goto L96;
+    case 3u: goto L97;
+    case 4u: goto L98;
+    case 5u: goto L99;
+    case 6u: goto L100;
+    case 7u: goto L101;
+    case 8u: goto L102;
+    default: goto L104;
     }
+L95:;
+    v524 = (u32)(v43);
+    v525 = (u32)((u32)v524 >> (8u & 31u));
+    v526 = (u32)((u32)v525 + (u32)16u);
+    v47 = v526; goto L107;
+L96:;
+    v47 = 2u; goto L107;
+L97:;
+    v47 = 3u; goto L107;
+L98:;
+    v47 = 4u; goto L107;
 L99:;
-    v529 = (u32)(v43);
-    v530 = (u32)((u32)v529 >> (8u & 31u));
-    v531 = (u32)((u32)v530 + (u32)16u);
-    v47 = v531; goto L111;
+    v47 = 5u; goto L107;
 L100:;
-    v47 = 2u; goto L111;
+    v47 = 6u; goto L107;
 L101:;
-    v47 = 3u; goto L111;
+    v47 = 7u; goto L107;
 L102:;
-    v47 = 4u; goto L111;
+    v47 = 8u; goto L107;
 L103:;
-    v47 = 5u; goto L111;
+    v47 = 9u; goto L107;
 L104:;
-    v47 = 6u; goto L111;
-L105:;
-    v47 = 7u; goto L111;
-L106:;
-    v47 = 8u; goto L111;
-L107:;
-    v47 = 9u; goto L111;
-L108:;
     UNREACHABLE;
-L109:;
-    v47 = 34u; goto L111;
-L110:;
-    v47 = 33u; goto L111;
-L111:;
+L105:;
+    v47 = 34u; goto L107;
+L106:;
+    v47 = 33u; goto L107;
+L107:;
     return v47;
 }
 
@@ -44490,7 +43950,7 @@ L4:;
     UNREACHABLE;
 L5:;
     v17 = load_address(v4);
-    v18 = f73(v17, v8, a2);
+    v18 = f72(v17, v8, a2);
     v19 = v18.m0;
     v20 = v19 == 1u;
     if (v20) { goto L6; }
@@ -44558,12 +44018,12 @@ L2:;
     if (v31) { goto L3; }
     else { goto L4; }
 L3:;
-    f76(v8, v23);
+    f75(v8, v23);
     v32 = v7 + 8u * 1u;
     memory_cpy(v32, v8, 384u);
     v5 = 1u; goto L5;
 L4:;
-    f77(v7, v23);
+    f76(v7, v23);
     v33 = load8(v7);
     v34 = v33 == 0u;
     v5 = v34; goto L5;
@@ -44587,7 +44047,7 @@ L5:;
     else { goto L12; }
 L6:;
     v47 = load_address(v22);
-    v48 = f73(v47, v14, a2);
+    v48 = f72(v47, v14, a2);
     v49 = v48.m0;
     v50 = v48.m1;
     v51 = v49 == 1u;
@@ -45079,12 +44539,12 @@ L14:;
     if (v93) { goto L15; }
     else { goto L16; }
 L15:;
-    f76(v17, v39);
+    f75(v17, v39);
     v94 = v16 + 8u * 1u;
     memory_cpy(v94, v17, 384u);
     v9 = 1u; goto L17;
 L16:;
-    f77(v16, v39);
+    f76(v16, v39);
     v95 = load8(v16);
     v96 = v95 == 0u;
     v9 = v96; goto L17;
@@ -45120,12 +44580,12 @@ L18:;
     if (v116) { goto L19; }
     else { goto L20; }
 L19:;
-    f76(v19, v39);
+    f75(v19, v39);
     v117 = v23 + 7u * 1u;
     memory_cpy(v117, v19, 384u);
     v10 = v117; goto L25;
 L20:;
-    f77(v18, v39);
+    f76(v18, v39);
     v118 = load8(v18);
     v119 = v18 + 8u * 1u;
     v120 = v23 + 7u * 1u;
@@ -45593,7 +45053,7 @@ L5:;
     store_address(v53, v44);
     v54 = v18 + 16u * 1u;
     store64(v54, v46);
-    v55 = f51(v35, v23, a3, v18);
+    v55 = f50(v35, v23, a3, v18);
     if (v55) { goto L6; }
     else { goto L7; }
 L6:;
@@ -45614,10 +45074,10 @@ L8:;
     f38(v17, v35, a1, v23, a3, v26, a7, v36);
     goto L12;
 L9:;
-    f57(v17, v35, a1, v23, a3, v41, v26, a7, v36);
+    f56(v17, v35, a1, v23, a3, v41, v26, a7, v36);
     goto L12;
 L10:;
-    f62(v17, v35, a1, v23, a3, v44, v46, v26, a7, v36);
+    f61(v17, v35, a1, v23, a3, v44, v46, v26, a7, v36);
     goto L12;
 L11:;
     UNREACHABLE;
@@ -45680,7 +45140,7 @@ L25:;
 L26:;
     v73 = v31 + 8u * 1u;
     v74 = load_address(v73);
-    v75 = f78(v74, a1, v23, a3, a4, v32, v26, a7, a8);
+    v75 = f77(v74, a1, v23, a3, a4, v32, v26, a7, a8);
     v15 = v75; goto L28;
 L27:;
     UNREACHABLE;
@@ -46145,7 +45605,7 @@ L30:;
     v52 = 11u; v53 = 4u; goto L31;
 L31:;
     memory_set(v78, 0u, 144u);
-    v232 = f81(v52, v53);
+    v232 = f80(v52, v53);
     v233 = v232 > 130u;
     if (v233) { goto L33; }
     else { goto L32; }
@@ -46255,7 +45715,7 @@ L52:;
     store8(v241, v263);
     v264 = load8(v244);
     store8(v243, v264);
-    v265 = f87(v75);
+    v265 = f86(v75);
     v266 = v265.m0;
     v267 = v265.m1;
     v268 = v257 == v267;
@@ -46289,7 +45749,7 @@ L55:;
 L56:;
     v61 = v264; v62 = v263; v63 = v262; v64 = 2u; goto L58;
 L57:;
-    f82(v76, v74, v259, v261, v78);
+    f81(v76, v74, v259, v261, v78);
     v285 = load8(v76);
     v286 = load8(v245);
     v287 = load8(v246);
@@ -46303,7 +45763,7 @@ L58:;
 L59:;
     goto L62;
 L60:;
-    f82(v77, v54, v51, v50, v78);
+    f81(v77, v54, v51, v50, v78);
     v291 = load8(v77);
     v292 = v77 + 1u * 1u;
     v293 = load8(v292);
@@ -46350,7 +45810,7 @@ L69:;
     store8(v304, v67);
     v305 = v72 + 2u * 1u;
     store8(v305, v68);
-    v306 = f89(a0, v72);
+    v306 = f88(a0, v72);
     v69 = 0u; v70 = v306; v71 = 116u; goto L71;
 L70:;
     store8(v73, v66);
@@ -46358,7 +45818,7 @@ L70:;
     store8(v307, v67);
     v308 = v73 + 2u * 1u;
     store8(v308, v68);
-    v309 = f89(a0, v73);
+    v309 = f88(a0, v73);
     v69 = 0u; v70 = v309; v71 = 117u; goto L71;
 L71:;
     store64(a5, v69);
@@ -46462,7 +45922,7 @@ L19:;
     if (v35) { goto L20; }
     else { goto L49; }
 L20:;
-    f90(1u, 1u, v19);
+    f89(1u, 1u, v19);
     v36 = load8(v31);
     v37 = v36 == 1u;
     if (v37) { goto L21; }
@@ -46498,7 +45958,7 @@ L25:;
     store64(v32, v6);
     goto L26;
 L26:;
-    f90(1u, 2u, v19);
+    f89(1u, 2u, v19);
     v51 = load8(v31);
     v52 = v51 == 1u;
     if (v52) { goto L27; }
@@ -46534,7 +45994,7 @@ L31:;
     store64(v32, v8);
     goto L32;
 L32:;
-    f90(1u, 3u, v19);
+    f89(1u, 3u, v19);
     v66 = load8(v31);
     v67 = v66 == 1u;
     if (v67) { goto L33; }
@@ -46570,7 +46030,7 @@ L37:;
     store64(v32, v10);
     goto L38;
 L38:;
-    f90(1u, 4u, v19);
+    f89(1u, 4u, v19);
     v81 = load8(v31);
     v82 = v81 == 1u;
     if (v82) { goto L39; }
@@ -46606,7 +46066,7 @@ L43:;
     store64(v32, v12);
     goto L44;
 L44:;
-    f90(1u, 254u, v19);
+    f89(1u, 254u, v19);
     v96 = load8(v31);
     v97 = v96 == 1u;
     if (v97) { goto L45; }
@@ -46834,7 +46294,7 @@ u64 portable_ptpm_field_text(u16 a0, address a1, u64 a2, address a3, u64 a4) {
     store64(v209, 1u);
     v210 = v201 + 24u * 1u;
     store64(v210, 0u);
-    v211 = f91(a0, v204, a2);
+    v211 = f90(a0, v204, a2);
     v212 = v211.m0;
     v213 = v211.m1;
     v214 = v213 == 0u;
@@ -47015,7 +46475,7 @@ L26:;
     store8(v200, v286);
     store8(v215, v288);
     store8(v216, v290);
-    v307 = f87(v200);
+    v307 = f86(v200);
     v308 = v307.m0;
     v309 = v307.m1;
     v310 = v41 == 1u;
@@ -47170,7 +46630,7 @@ L49:;
     if (v380) { v168 = v85; v169 = v86; v170 = v87; v171 = v88; v172 = v89; v173 = v90; v174 = v91; v175 = v92; v176 = v93; v177 = v94; v178 = v95; v179 = v96; goto L176; }
     else { v69 = v85; v70 = v86; v71 = v87; v72 = v88; v73 = v89; v74 = v90; v75 = v91; v76 = v92; v77 = v93; v78 = v94; v79 = v95; v80 = v96; v81 = v97; v82 = v379; goto L43; }
 L50:;
-    f93(v199, v294, v296, v298, v299);
+    f92(v199, v294, v296, v298, v299);
     v381 = load8(v199);
     v382 = load8(v217);
     v383 = load8(v218);
@@ -47196,11 +46656,11 @@ L50:;
     default: goto L174;
     }
 L51:;
-    f94(v387, v201);
+    f93(v387, v201);
     goto L175;
 L52:;
     memory_set(v196, 0u, 40u);
-    v389 = f95(v196, v387);
+    v389 = f94(v196, v387);
     v390 = v389.m0;
     v391 = v389.m1;
     v392 = v98 == 1u;
@@ -47310,7 +46770,7 @@ L68:;
     goto L69;
 L69:;
     v443 = (u64)((u64)v433 >> (16u & 63u));
-    f94(v443, v201);
+    f93(v443, v201);
     v444 = load8(v209);
     v445 = v444 == 1u;
     if (v445) { goto L70; }
@@ -47339,7 +46799,7 @@ L74:;
     v454 = (u32)((u32)v117 * (u32)10u);
     v455 = (u32)((u32)v454 >> (16u & 31u));
     v456 = (u64)v455;
-    f94(v456, v201);
+    f93(v456, v201);
     v457 = (u32)((u32)v454 & (u32)65534u);
     v458 = v457 == 0u;
     v459 = (u8)((u32)v118 + (u32)255u);
@@ -47491,10 +46951,10 @@ L95:;
     goto L96;
 L96:;
     v528 = (u64)((u64)v491 & (u64)65535u);
-    f94(v528, v201);
+    f93(v528, v201);
     goto L175;
 L97:;
-    f90(v382, v383, v201);
+    f89(v382, v383, v201);
     goto L175;
 L98:;
     v529 = v103 == 1u;
@@ -47540,7 +47000,7 @@ L103:;
     goto L104;
 L104:;
     v547 = (u64)v383;
-    f94(v547, v201);
+    f93(v547, v201);
     v548 = load8(v209);
     v549 = v548 == 1u;
     if (v549) { goto L105; }
@@ -48195,7 +47655,7 @@ u32 portable_ptpm_id_named(address a0, u64 a1) {
     v2 = a0 == 0u;
     v3 = v2 ? 4096u : 0u;
     v4 = a0 + v3 * 1u;
-    v5 = f96(v4, a1);
+    v5 = f95(v4, a1);
     v6 = v5.m0;
     v7 = v6 == 1u;
     v8 = v5.m1;
@@ -48233,13 +47693,13 @@ L2:;
 L3:;
     v11 = v5 + 2u * 1u;
     v12 = (u64)((u64)a1 + (u64)UINT64_C(18446744073709551614));
-    v13 = f97(v11, v12);
+    v13 = f96(v11, v12);
     v2 = v13; goto L5;
 L4:;
-    v14 = f96(v5, a1);
+    v14 = f95(v5, a1);
     v15 = v14.m0;
     v16 = v14.m1;
-    v17 = f97(v5, a1);
+    v17 = f96(v5, a1);
     v18 = v17.m0;
     v19 = v17.m1;
     v20 = (u8)((v15) & UINT64_C(1));
@@ -48284,7 +47744,7 @@ L2:;
     v12 = load_address(v11);
     v13 = v4 + 16u * 1u;
     v14 = load64(v13);
-    f98(v5, v12, v14);
+    f97(v5, v12, v14);
     v15 = load8(v5);
     v16 = v15 == 1u;
     if (v16) { goto L3; }
@@ -48323,7 +47783,7 @@ L1:;
     v18 = v7 + 4u * 1u;
     store64(v18, v17);
     store64(v16, 12u);
-    v19 = f99(v14, a2, v7, 12u);
+    v19 = f98(v14, a2, v7, 12u);
     v20 = swap32(v19);
     v21 = v7 + 12u * 1u;
     store32(v21, v20);
@@ -48349,7 +47809,7 @@ u32 portable_ptpm_image_unseal(address a0, u64 a1, address a2, address a3) {
     memory_set(v5, 0u, 24u);
     store64(a2, 0u);
     store64(a3, 0u);
-    f100(v5, v8, a1);
+    f99(v5, v8, a1);
     v9 = load8(v5);
     v10 = v9 == 0u;
     if (v10) { goto L1; }
@@ -48609,7 +48069,7 @@ L12:;
     v186 = v19 + 24u * 1u;
     store64(v186, v13);
     v187 = load_address(v179);
-    f101(v20, v187, v19, v23, a3, v26, a5, v29, a7);
+    f100(v20, v187, v19, v23, a3, v26, a5, v29, a7);
     v188 = load8(v20);
     v189 = v188 == 0u;
     if (v189) { goto L13; }
@@ -48699,7 +48159,7 @@ L1:;
 L2:;
     v29 = v26 + 8u * 1u;
     v30 = load_address(v29);
-    f106(v19, v30, v22, a2);
+    f105(v19, v30, v22, a2);
     v31 = load8(v19);
     v32 = v31 == 0u;
     if (v32) { goto L3; }
@@ -48938,11 +48398,11 @@ u16 portable_ptpm_limits_say(address a0, u64 a1, address a2) {
     default: goto L11;
     }
 L1:;
-    v11 = f108(v8, a1, a2);
+    v11 = f107(v8, a1, a2);
     if (v11) { v5 = 6u; goto L12; }
     else { goto L11; }
 L2:;
-    v12 = f108(v8, a1, a2);
+    v12 = f107(v8, a1, a2);
     if (v12) { v5 = 5u; goto L12; }
     else { goto L3; }
 L3:;
@@ -49017,7 +48477,7 @@ u32 portable_ptpm_member_kind(u16 a0, address a1, u64 a2, u64 a3) {
     v7 = v6 ? 4096u : 0u;
     v8 = a1 + v7 * 1u;
     memory_set(v5, 0u, 24u);
-    v9 = f91(a0, v8, a2);
+    v9 = f90(a0, v8, a2);
     v10 = v9.m1;
     v11 = a3 < v10;
     if (v11) { goto L1; }
@@ -49035,7 +48495,7 @@ L1:;
     v21 = (u64)v20;
     v22 = v8 + v21 * 1u;
     v23 = (u64)((u64)a2 - (u64)v21);
-    f93(v5, v16, v18, v22, v23);
+    f92(v5, v16, v18, v22, v23);
     v24 = load8(v5);
     switch (v24) {
     case 0u: v4 = 1u; goto L12;
@@ -49104,7 +48564,7 @@ L3:;
     memory_set(v17, 0u, 24u);
     v26 = (u64)((u64)v5 * (u64)a2);
     v27 = v20 + v26 * 1u;
-    f100(v17, v27, a2);
+    f99(v17, v27, a2);
     v28 = load8(v17);
     v29 = v28 == 0u;
     if (v29) { goto L5; }
@@ -49182,7 +48642,7 @@ L2:;
 L3:;
     v29 = v25 + v3 * 1u;
     v30 = load8(v29);
-    f85(v6, v13, v30);
+    f84(v6, v13, v30);
     v31 = load8(v6);
     v32 = v31 == 1u;
     if (v32) { goto L4; }
@@ -49397,7 +48857,7 @@ u8 portable_ptpm_passed_on_is_first(address a0, address a1, u64 a2, u64 a3, u64 
     v8 = v7 ? 4096u : 0u;
     v9 = a1 + v8 * 1u;
     v10 = load64(a0);
-    f109(v6, v9, a2);
+    f108(v6, v9, a2);
     v11 = load8(v6);
     v12 = v11 == 1u;
     if (v12) { goto L1; }
@@ -49405,7 +48865,7 @@ u8 portable_ptpm_passed_on_is_first(address a0, address a1, u64 a2, u64 a3, u64 
 L1:;
     v13 = a0 + 8u * 1u;
     v14 = v6 + 8u * 1u;
-    v15 = f111(v10, v13, 4096u, v14, a3, a4);
+    v15 = f110(v10, v13, 4096u, v14, a3, a4);
     v5 = v15; goto L2;
 L2:;
     return v5;
@@ -49428,14 +48888,14 @@ L1:;
     v14 = a3 == 0u;
     v15 = v14 ? 4096u : 0u;
     v16 = a3 + v15 * 1u;
-    f109(v8, v16, a4);
+    f108(v8, v16, a4);
     v17 = load8(v8);
     v18 = v17 == 1u;
     if (v18) { goto L2; }
     else { v7 = 0u; goto L3; }
 L2:;
     v19 = v8 + 8u * 1u;
-    v20 = f111(a0, v11, a2, v19, a5, a6);
+    v20 = f110(a0, v11, a2, v19, a5, a6);
     v7 = v20; goto L3;
 L3:;
     return v7;
@@ -49492,7 +48952,7 @@ L2:;
     v18 = load64(v17);
     memory_set(v7, 0u, 12u);
     memory_set(v8, 0u, 12u);
-    f112(v7, 47u, v16, v18);
+    f111(v7, 47u, v16, v18);
     v19 = load8(v7);
     v20 = v19 == 1u;
     v21 = v8 + 10u * 1u;
@@ -49506,7 +48966,7 @@ L3:;
     v25 = load16(v21);
     v4 = v25; v5 = v24; goto L5;
 L4:;
-    f112(v8, 45u, v16, v18);
+    f111(v8, 45u, v16, v18);
     v26 = load8(v8);
     v27 = v8 + 2u * 1u;
     v28 = load64(v27);
@@ -50066,7 +49526,7 @@ L28:;
     v241 = load64(v240);
     memory_set(v112, 0u, 32u);
     memory_set(v113, 0u, 32u);
-    f114(v112, v237, v239, v241);
+    f113(v112, v237, v239, v241);
     v242 = load8(v112);
     v243 = v242 == 0u;
     if (v243) { goto L29; }
@@ -50078,7 +49538,7 @@ L29:;
     v247 = load64(v246);
     v248 = v112 + 24u * 1u;
     v249 = load64(v248);
-    f114(v113, v237, v10, v9);
+    f113(v113, v237, v10, v9);
     v250 = load8(v113);
     v251 = v250 == 0u;
     if (v251) { goto L30; }
@@ -51618,7 +51078,7 @@ L54:;
     v746 = v146 + 176u * 1u;
     v747 = v146 + 174u * 1u;
     v748 = load64(a1);
-    f121(v146, v748);
+    f120(v146, v748);
     v85 = v745; v86 = v746; v87 = v747; v88 = v147; v89 = v146; goto L190;
 L55:;
     v749 = load16(v218);
@@ -51667,7 +51127,7 @@ L61:;
     store16(v760, 1u);
     v773 = (u16)(v30);
     store16(v761, v773);
-    v774 = f102(v759, v131);
+    v774 = f101(v759, v131);
     if (v774) { v31 = 1u; v32 = v773; goto L63; }
     else { goto L62; }
 L62:;
@@ -51826,7 +51286,7 @@ L88:;
 L89:;
     v853 = v130 + 8u * 1u;
     memory_set(v853, 0u, 40u);
-    f123(v130, v134, a3);
+    f122(v130, v134, a3);
     v854 = load8(v130);
     v855 = load16(v853);
     v856 = v130 + 10u * 1u;
@@ -51942,7 +51402,7 @@ L105:;
 L106:;
     v919 = v129 + 8u * 1u;
     memory_set(v919, 0u, 40u);
-    f123(v129, v134, a3);
+    f122(v129, v134, a3);
     v920 = load8(v129);
     v921 = v920 == 1u;
     v922 = v129 + 16u * 1u;
@@ -52003,7 +51463,7 @@ L112:;
     store16(v220, 0u);
     v107 = 3u; v108 = v749; v109 = 65535u; v110 = 0u; goto L227;
 L113:;
-    f121(v214, v215);
+    f120(v214, v215);
     v85 = v220; v86 = v219; v87 = v218; v88 = v216; v89 = v214; goto L190;
 L114:;
     store64(v127, 2u);
@@ -52022,7 +51482,7 @@ L114:;
     memory_set(v128, 0u, 16u);
     v946 = load_address(v938);
     v947 = load64(v939);
-    f101(v128, v937, v127, ADDRESS(c155), 0u, ADDRESS(c155), 0u, v946, v947);
+    f100(v128, v937, v127, ADDRESS(c155), 0u, ADDRESS(c155), 0u, v946, v947);
     v948 = load8(v128);
     v949 = v948 == 0u;
     if (v949) { goto L115; }
@@ -52056,7 +51516,7 @@ L117:;
     memory_set(v126, 0u, 16u);
     v959 = load_address(v938);
     v960 = load64(v939);
-    f101(v126, v937, v125, ADDRESS(c155), 0u, ADDRESS(c155), 0u, v959, v960);
+    f100(v126, v937, v125, ADDRESS(c155), 0u, ADDRESS(c155), 0u, v959, v960);
     v961 = load8(v126);
     v962 = v961 == 0u;
     if (v962) { goto L118; }
@@ -52090,7 +51550,7 @@ L120:;
     memory_set(v124, 0u, 16u);
     v972 = load_address(v938);
     v973 = load64(v939);
-    f101(v124, v937, v123, ADDRESS(c155), 0u, ADDRESS(c155), 0u, v972, v973);
+    f100(v124, v937, v123, ADDRESS(c155), 0u, ADDRESS(c155), 0u, v972, v973);
     v974 = load8(v124);
     v975 = v974 == 0u;
     if (v975) { goto L121; }
@@ -52127,7 +51587,7 @@ L125:;
     store16(v220, 0u);
     v107 = 3u; v108 = v749; v109 = 65535u; v110 = 0u; goto L227;
 L126:;
-    f124(v214, v749, v61);
+    f123(v214, v749, v61);
     v85 = v220; v86 = v219; v87 = v218; v88 = v216; v89 = v214; goto L190;
 L127:;
     v979 = v935 == 1u;
@@ -52149,7 +51609,7 @@ L129:;
     store8(v988, 1u);
     goto L130;
 L130:;
-    f121(v214, v215);
+    f120(v214, v215);
     v85 = v220; v86 = v219; v87 = v218; v88 = v216; v89 = v214; goto L190;
 L131:;
     v989 = (u16)v56;
@@ -52161,7 +51621,7 @@ L131:;
     store16(v220, v55);
     v85 = v220; v86 = v219; v87 = v218; v88 = v216; v89 = v214; goto L190;
 L132:;
-    f121(v214, v215);
+    f120(v214, v215);
     v85 = v220; v86 = v219; v87 = v218; v88 = v216; v89 = v214; goto L190;
 L133:;
     if (v54) { goto L134; }
@@ -52215,7 +51675,7 @@ L138:;
     v1009 = load_address(v1008);
     v1010 = v214 + 192u * 1u;
     v1011 = load64(v1010);
-    f101(v122, v1007, v121, ADDRESS(c155), 0u, ADDRESS(c155), 0u, v1009, v1011);
+    f100(v122, v1007, v121, ADDRESS(c155), 0u, ADDRESS(c155), 0u, v1009, v1011);
     v1012 = load8(v122);
     v1013 = v1012 == 0u;
     if (v1013) { goto L139; }
@@ -52253,7 +51713,7 @@ L141:;
     v1026 = load_address(v1025);
     v1027 = v214 + 192u * 1u;
     v1028 = load64(v1027);
-    f101(v120, v1024, v119, ADDRESS(c155), 0u, ADDRESS(c155), 0u, v1026, v1028);
+    f100(v120, v1024, v119, ADDRESS(c155), 0u, ADDRESS(c155), 0u, v1026, v1028);
     v1029 = load8(v120);
     v1030 = v1029 == 0u;
     if (v1030) { goto L142; }
@@ -52273,7 +51733,7 @@ L143:;
 L144:;
     UNREACHABLE;
 L145:;
-    f121(v214, v215);
+    f120(v214, v215);
     v85 = v220; v86 = v219; v87 = v218; v88 = v216; v89 = v214; goto L190;
 L146:;
     v1034 = load16(v157);
@@ -52310,7 +51770,7 @@ L148:;
     v1051 = load_address(v1050);
     v1052 = v153 + 192u * 1u;
     v1053 = load64(v1052);
-    f101(v118, v1049, v117, ADDRESS(c155), 0u, ADDRESS(c155), 0u, v1051, v1053);
+    f100(v118, v1049, v117, ADDRESS(c155), 0u, ADDRESS(c155), 0u, v1051, v1053);
     v1054 = load8(v118);
     v1055 = v1054 == 0u;
     if (v1055) { goto L149; }
@@ -52332,22 +51792,22 @@ L151:;
     v1060 = v175 + 176u * 1u;
     v1061 = v175 + 174u * 1u;
     v1062 = load64(a1);
-    f125(v175, v1062, 4u, 0u, ADDRESS(c155), 0u);
+    f124(v175, v1062, 4u, 0u, ADDRESS(c155), 0u);
     v85 = v1059; v86 = v1060; v87 = v1061; v88 = v176; v89 = v175; goto L190;
 L152:;
     if (v29) { goto L153; }
     else { v63 = v19; v64 = v20; v65 = v21; v66 = v22; v67 = v23; v68 = v24; v69 = v25; v70 = v26; goto L154; }
 L153:;
-    f125(v24, v23, 0u, 0u, v25, v26);
+    f124(v24, v23, 0u, 0u, v25, v26);
     v85 = v19; v86 = v20; v87 = v21; v88 = v22; v89 = v24; goto L190;
 L154:;
-    f125(v68, v67, 1u, 0u, v69, v70);
+    f124(v68, v67, 1u, 0u, v69, v70);
     v85 = v63; v86 = v64; v87 = v65; v88 = v66; v89 = v68; goto L190;
 L155:;
-    f125(v76, v75, 2u, v77, ADDRESS(c155), 0u);
+    f124(v76, v75, 2u, v77, ADDRESS(c155), 0u);
     v85 = v71; v86 = v72; v87 = v73; v88 = v74; v89 = v76; goto L190;
 L156:;
-    f125(v179, v180, 3u, 0u, ADDRESS(c155), 0u);
+    f124(v179, v180, 3u, 0u, ADDRESS(c155), 0u);
     v85 = v185; v86 = v184; v87 = v183; v88 = v181; v89 = v179; goto L190;
 L157:;
     v1063 = load8(v192);
@@ -52465,7 +51925,7 @@ L171:;
     store8(v1119, 1u);
     goto L172;
 L172:;
-    f121(v188, v189);
+    f120(v188, v189);
     v85 = v194; v86 = v193; v87 = v192; v88 = v190; v89 = v188; goto L190;
 L173:;
     store16(v190, 13u);
@@ -52475,11 +51935,11 @@ L173:;
     store16(v194, v1065);
     v105 = 1u; v106 = v1065; goto L225;
 L174:;
-    f121(v188, v189);
+    f120(v188, v189);
     v85 = v194; v86 = v193; v87 = v192; v88 = v190; v89 = v188; goto L190;
 L175:;
     v1120 = (u8)((v1066) & UINT64_C(1));
-    f124(v188, v1065, v1120);
+    f123(v188, v1065, v1120);
     v85 = v194; v86 = v193; v87 = v192; v88 = v190; v89 = v188; goto L190;
 L176:;
     store16(v190, 4u);
@@ -52502,7 +51962,7 @@ L177:;
 L178:;
     UNREACHABLE;
 L179:;
-    f121(v188, v189);
+    f120(v188, v189);
     v85 = v194; v86 = v193; v87 = v192; v88 = v190; v89 = v188; goto L190;
 L180:;
     v1126 = v162 + 178u * 1u;
@@ -52525,7 +51985,7 @@ L181:;
     v1134 = v116 + 18u * 1u;
     store16(v1134, v1131);
     v1135 = v167 + 8u * 1u;
-    v1136 = f102(v1135, v116);
+    v1136 = f101(v1135, v116);
     if (v1136) { goto L182; }
     else { goto L185; }
 L182:;
@@ -52537,7 +51997,7 @@ L182:;
     v1139 = load_address(v1138);
     v1140 = v167 + 192u * 1u;
     v1141 = load64(v1140);
-    f101(v115, v1135, v114, ADDRESS(c155), 0u, ADDRESS(c155), 0u, v1139, v1141);
+    f100(v115, v1135, v114, ADDRESS(c155), 0u, ADDRESS(c155), 0u, v1139, v1141);
     v1142 = load8(v115);
     v1143 = v1142 == 0u;
     if (v1143) { goto L183; }
@@ -54612,7 +54072,7 @@ L47:;
     if (v626) { goto L48; }
     else { v21 = v503; v22 = v502; goto L50; }
 L48:;
-    v627 = f127(v159);
+    v627 = f126(v159);
     v628 = v627 == 0u;
     if (v628) { goto L49; }
     else { goto L56; }
@@ -55139,7 +54599,7 @@ L10:;
     v100 = v38 + 8u * 1u;
     store16(v100, v79);
     store64(v39, v68);
-    f130(v37, v64, a4, v38, v39, v73, v5);
+    f129(v37, v64, a4, v38, v39, v73, v5);
     v101 = load8(v37);
     v102 = v101 == 0u;
     if (v102) { goto L11; }
@@ -55863,13 +55323,13 @@ L18:;
     if (v169) { goto L19; }
     else { goto L20; }
 L19:;
-    f132(v23, a1, a2, v27, a4, v99, v100);
+    f131(v23, a1, a2, v27, a4, v99, v100);
     v170 = load8(v23);
     v171 = v170 == 0u;
     if (v171) { goto L23; }
     else { goto L24; }
 L20:;
-    v172 = f131(v27, a4);
+    v172 = f130(v27, a4);
     v173 = v172.m0;
     v174 = v173 == 1u;
     if (v174) { goto L21; }
@@ -55915,7 +55375,7 @@ L24:;
 L25:;
     v14 = v9; v15 = v10; v16 = v11; v17 = v12; v18 = v13; goto L27;
 L26:;
-    f132(v24, a1, a2, v27, a4, v30, a6);
+    f131(v24, a1, a2, v27, a4, v30, a6);
     v199 = load8(v24);
     v200 = v24 + 1u * 1u;
     v201 = load8(v200);
@@ -56049,7 +55509,7 @@ L1:;
     goto L2;
 L2:;
     memory_set(v12, 0u, 424u);
-    f154(v12, a1, v18, a3, v21, a5);
+    f153(v12, a1, v18, a3, v21, a5);
     v30 = load8(v12);
     v31 = v30 == 0u;
     if (v31) { goto L3; }
@@ -56087,7 +55547,7 @@ L3:;
     v56 = v39 == 0u;
     v57 = v56 ? v49 : v44;
     v58 = (u16)(v57);
-    f150(v7, v8, v58, v21, a5);
+    f149(v7, v8, v58, v21, a5);
     v59 = load8(v7);
     v60 = v7 + 8u * 1u;
     v61 = v13 + 7u * 1u;
@@ -56114,7 +55574,7 @@ L4:;
     v70 = v14 + 376u * 1u;
     store64(v70, v49);
     memory_cpy(v15, v61, 40u);
-    v71 = f151(v14, v15);
+    v71 = f150(v14, v15);
     v72 = v71.m0;
     v73 = v72 == 0u;
     if (v73) { goto L8; }
@@ -56526,7 +55986,7 @@ L1:;
     store_address(v68, v61);
     v85 = v68 + 8u * 1u;
     memory_set(v85, 0u, 16u);
-    f106(v69, v66, v76, a2);
+    f105(v69, v66, v76, a2);
     v86 = load8(v69);
     v87 = v86 == 0u;
     if (v87) { goto L2; }
@@ -56667,7 +56127,7 @@ L20:;
     if (v159) { goto L21; }
     else { v13 = v158; goto L23; }
 L21:;
-    v160 = f155(v67);
+    v160 = f154(v67);
     if (v160) { goto L22; }
     else { goto L27; }
 L22:;
@@ -56708,7 +56168,7 @@ L23:;
     if (v179) { goto L24; }
     else { v14 = v5; v15 = v178; goto L26; }
 L24:;
-    v180 = f156(v68);
+    v180 = f155(v68);
     if (v180) { goto L25; }
     else { goto L49; }
 L25:;
@@ -56830,7 +56290,7 @@ L47:;
     v231 = (u64)((u64)v230 + (u64)v117);
     v232 = v76 + v231 * 1u;
     v233 = (u64)((u64)a2 - (u64)v231);
-    f106(v69, v66, v232, v233);
+    f105(v69, v66, v232, v233);
     v234 = load8(v69);
     v235 = v234 == 0u;
     if (v235) { v5 = v17; v6 = v18; v7 = v232; v8 = v231; goto L3; }
@@ -56921,7 +56381,7 @@ L63:;
     store8(v72, 5u);
     v272 = v72 + 1u * 1u;
     store8(v272, 0u);
-    v273 = f102(v70, v72);
+    v273 = f101(v70, v72);
     if (v273) { goto L80; }
     else { goto L65; }
 L64:;
@@ -57066,7 +56526,7 @@ L89:;
     if (v328) { goto L90; }
     else { v32 = v23; v33 = v24; v34 = v25; v35 = v63; goto L92; }
 L90:;
-    v329 = f157(v65);
+    v329 = f156(v65);
     if (v329) { goto L91; }
     else { goto L108; }
 L91:;
@@ -57601,7 +57061,7 @@ u32 portable_ptpm_session_restore(address a0, address a1, address a2, u64 a3) {
     v20 = load16(v19);
     v21 = a1 + 4u * 1u;
     v22 = load16(v21);
-    f130(v5, v12, a3, v6, v7, v20, v22);
+    f129(v5, v12, a3, v6, v7, v20, v22);
     v23 = load8(v5);
     v24 = v23 == 0u;
     if (v24) { goto L1; }
@@ -57982,7 +57442,7 @@ L3:;
     memory_set(v43, 0u, 24u);
     v44 = v4 + 136u * 1u;
     store64(v44, UINT64_C(2611923443488327891));
-    v45 = f158(a0, v4);
+    v45 = f157(a0, v4);
     v2 = v45; goto L4;
 L4:;
     return v2;
@@ -58082,7 +57542,7 @@ L6:;
     memory_set(v48, 0u, 24u);
     v49 = v5 + 136u * 1u;
     store64(v49, UINT64_C(2611923443488327891));
-    v50 = f158(a0, v5);
+    v50 = f157(a0, v5);
     v3 = v50; goto L7;
 L7:;
     return v3;
@@ -58473,12 +57933,12 @@ L46:;
 L47:;
     v54 = v33 + 8u * 1u;
     v55 = load_address(v54);
-    f159(v16, v55, a1, v20, a3);
+    f158(v16, v55, a1, v20, a3);
     v5 = v25; v6 = v27; v7 = v29; v8 = v31; v9 = v16; goto L2;
 L48:;
     v56 = v33 + 8u * 1u;
     v57 = load_address(v56);
-    f163(v17, v57, a1, v20, a3);
+    f162(v17, v57, a1, v20, a3);
     v5 = v26; v6 = v28; v7 = v30; v8 = v32; v9 = v17; goto L2;
 L49:;
     UNREACHABLE;
@@ -58885,7 +58345,7 @@ L6:;
     if (v44) { v14 = 0u; goto L34; }
     else { goto L7; }
 L7:;
-    f110(v16, v19, a3);
+    f109(v16, v19, a3);
     v45 = load8(v16);
     v46 = v45 == 1u;
     if (v46) { goto L8; }
@@ -59108,7 +58568,7 @@ L1:;
 L2:;
     v21 = v19 + 8u * 1u;
     v22 = load_address(v21);
-    f164(v10, v22, a1, a2, a3, v14, a5);
+    f163(v10, v22, a1, a2, a3, v14, a5);
     v23 = load8(v10);
     v24 = v10 + 1u * 1u;
     v25 = load8(v24);
@@ -59151,7 +58611,7 @@ L10:;
     v34 = load_address(v33);
     memory_set(v9, 0u, 72u);
     v35 = load_address(v34);
-    f164(v9, v35, a1, a2, a3, v14, a5);
+    f163(v9, v35, a1, a2, a3, v14, a5);
     v36 = load8(v9);
     v37 = v36 == 0u;
     if (v37) { goto L11; }
@@ -59237,7 +58697,7 @@ L1:;
 L2:;
     v18 = v16 + 8u * 1u;
     v19 = load_address(v18);
-    f165(v8, v19, a1, v12, a3);
+    f164(v8, v19, a1, v12, a3);
     v20 = load8(v8);
     v21 = v20 == 0u;
     if (v21) { goto L3; }
@@ -59270,7 +58730,7 @@ L7:;
 L8:;
     v29 = v16 + 8u * 1u;
     v30 = load_address(v29);
-    f166(v9, v30, a1, v12, a3);
+    f165(v9, v30, a1, v12, a3);
     v31 = load8(v9);
     v32 = v31 == 0u;
     if (v32) { goto L9; }
@@ -59616,7 +59076,7 @@ L6:;
     if (v38) { goto L7; }
     else { goto L16; }
 L7:;
-    f166(v10, v22, a1, v14, a3);
+    f165(v10, v22, a1, v14, a3);
     v39 = load8(v10);
     v40 = v39 == 0u;
     if (v40) { goto L8; }
@@ -59630,7 +59090,7 @@ L8:;
     v46 = load_address(v45);
     v47 = v44 + 432u * 1u;
     v48 = load64(v47);
-    f80(v9, v44, v46, v48, v14, a3);
+    f79(v9, v44, v46, v48, v14, a3);
     v49 = load8(v9);
     v50 = v49 == 1u;
     if (v50) { goto L10; }
