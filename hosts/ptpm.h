@@ -16,14 +16,13 @@
      handle points to. There is one live copy of a handle. The host may move it, and neither reads nor writes anything inside it.
    - malloc, realloc and free come from one allocator. malloc aligns each block to the greatest power of two up to 16 that divides
      its size. No call is made from a signal handler, or in a forked child of a process with threads.
-   - The stack has room for the call. As the library is built for x86-64 and aarch64, most calls take 600 octets. The call
-     ptpm_clock_take takes 10,200, ptpm_clock_decide 8,800, and the restore of a clock 8,300. The calls ptpm_clock_set and
-     ptpm_clock_saving take 7,700, ptpm_clock_image_of 6,600, and a start of a clock 5,200. The call ptpm_rollout_turn takes
-     5,200, ptpm_journal_add 4,800, and the restore of an asker 4,600. The call ptpm_clock_image takes 2,800,
-     ptpm_clock_observe 2,600, and ptpm_field_parse 2,200. The calls ptpm_clock_ask and ptpm_clock_undertake take 1,700 each,
-     and so does the message of a survey. The call ptpm_rollout_open takes 1,500. The images and the restore of a session
-     take 1,000, and so do ptpm_asker_ask and ptpm_asker_wake. The calls ptpm_clock_handle and ptpm_clock_handle_shared take
-     800.
+   - The stack has room for the call. As the library is built for x86-64 and aarch64, most calls take 600 octets. The restore of a
+     clock takes 5,600, a start of one and ptpm_rollout_turn 5,200, ptpm_journal_add 4,800, and the restore of an asker 4,600. The
+     call ptpm_clock_image_of takes 4,100, ptpm_clock_saving 3,100, ptpm_clock_image 2,800, ptpm_clock_observe 2,600, and
+     ptpm_clock_take 2,500. The calls ptpm_clock_decide and ptpm_field_parse take 2,200, ptpm_clock_ask and ptpm_clock_undertake
+     1,800, the message of a survey 1,700, and ptpm_rollout_open 1,200. The calls ptpm_clock_set, ptpm_asker_ask and
+     ptpm_asker_wake, and the images and the restore of a session, take 1,000. The calls ptpm_clock_handle,
+     ptpm_clock_handle_shared and ptpm_journal_next take 800.
      The library as C takes more (docs/embedding.md, "On any other processor"). Besides, a call takes the stack of the host's malloc,
      realloc, free, memcpy, memmove and memset. No call calls itself.
 
